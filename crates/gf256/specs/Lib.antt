@@ -1,0 +1,4 @@
+pub mod Bytes
+pub mod Tables
+pub mod Locators
+pub mod HandSums

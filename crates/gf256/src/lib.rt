@@ -1,0 +1,121 @@
+// The field of bytes: doubling, the product by shifts and through tables, inverses, powers and the locators.
+pub mod tables;
+
+ghost use mathlib.Core.Path.{_≡_};
+ghost use Prim.Native.Nat.{_<_, min};
+ghost use lib.ListN.{length};
+ghost use Rattle.binary_field.specs.Product.{double, product};
+ghost use Rattle.binary_field.specs.Sum.{innerProduct};
+ghost use Rattle.binary_field.specs.Power.{power};
+ghost use Rattle.binary_field.specs.Inverse.{inverse};
+ghost use Rattle.gf256.specs.Tables.{throughTables, inverseThrough};
+
+// Twice a: a shift left by one, and where a bit is shifted out the exclusive or with what is left of 285.
+pub fn double(a: u8) -> u8
+    ensures { λ r. ⌜ r ≡ double 8 285 a ⌝ }
+{
+    if a < 128 { a << 1 } else { (a << 1) ^ 29 }
+}
+
+// The product by shifts: the sum over the set bits of b of a times that power of two.
+pub fn shifted_product(a: u8, b: u8) -> u8
+    ensures { λ r. ⌜ r ≡ product 8 285 a b ⌝ }
+{
+    let mut r: u8 = 0;
+    let mut x = a;
+    let mut y = b;
+    let mut i: usize = 0;
+    while i < 8 {
+        if y % 2 == 1 {
+            r = r ^ x;
+        }
+        x = double(x);
+        y = y / 2;
+        i += 1;
+    }
+    r
+}
+
+fn wide(x: u8) -> usize
+    ensures { λ r. ⌜ (r ≡ x) × (r < 256) ⌝ }
+{
+    x as usize
+}
+
+// The product through tables that the caller holds and lends, so that none is laid out anew in a loop.
+pub fn product_in(p: &[u8; 256], l: &[u8; 256], a: u8, b: u8) -> u8
+    ensures { λ r. ⌜ r ≡ throughTables (now (p .entry)) (now (l .entry)) a b ⌝ }
+{
+    if a == 0 {
+        return 0;
+    }
+    if b == 0 {
+        return 0;
+    }
+    let i = wide(a);
+    let j = wide(b);
+    let s = wide(l[i]) + wide(l[j]);
+    if s < 255 { p[s] } else { p[s - 255] }
+}
+
+// The product through the two tables.
+pub fn product(a: u8, b: u8) -> u8
+    ensures { λ r. ⌜ r ≡ product 8 285 a b ⌝ }
+{
+    let p = tables::powers();
+    let l = tables::logs();
+    product_in(&p, &l, a, b)
+}
+
+// The inverse through tables that the caller lends; 0 for 0.
+pub fn inverse_in(p: &[u8; 256], l: &[u8; 256], a: u8) -> u8
+    ensures { λ r. ⌜ r ≡ inverseThrough (now (p .entry)) (now (l .entry)) a ⌝ }
+{
+    if a == 0 {
+        return 0;
+    }
+    let i = wide(a);
+    p[255 - wide(l[i])]
+}
+
+// The inverse of a, and 0 for 0.
+pub fn inverse(a: u8) -> u8
+    ensures { λ r. ⌜ r ≡ inverse 8 285 a ⌝ }
+{
+    let p = tables::powers();
+    let l = tables::logs();
+    inverse_in(&p, &l, a)
+}
+
+// a to the power n; 0 to the power 0 is 1.
+pub fn power(a: u8, n: usize) -> u8
+    ensures { λ r. ⌜ r ≡ power 8 285 a n ⌝ }
+{
+    let mut r: u8 = 1;
+    let mut i: usize = 0;
+    while i < n {
+        r = shifted_product(a, r);
+        i += 1;
+    }
+    r
+}
+
+fn shorter(a: usize, b: usize) -> usize
+    ensures { λ r. ⌜ r ≡ min a b ⌝ }
+{
+    if a < b { a } else { b }
+}
+
+// The inner product of u and v; a v that is too short counts as followed by zeros.
+pub fn dot(u: &[u8], v: &[u8]) -> u8
+    ensures { λ r. ⌜ r ≡ innerProduct 8 285 (length (now (u .entry))) (now (u .entry)) (now (v .entry)) ⌝ }
+{
+    let n = shorter(u.len(), v.len());
+    let mut r: u8 = 0;
+    let mut i: usize = 0;
+    while i < n {
+        r = r ^ shifted_product(u[i], v[i]);
+        i += 1;
+    }
+    r
+}
