@@ -11,7 +11,7 @@ use lib.Dec.{T, eqb, eqb→eq}
 use lib.Arith.{lt-one}
 use lib.Pow.{pow-lt, pow-pos}
 use Rattle.binary_field.specs.Xor.{_⊕_, ⊕-zero-l, ⊕-self, ⊕-half, ⊕-twice, ⊕-shifted, ⊕-swap, digit-cases, masked, masked-low}
-use Rattle.binary_field.specs.Test.{both, both-l, both-r, allBelow, all-at}
+use Rattle.counting.specs.Test.{both, both-l, both-r, allBelow, all-at}
 use Rattle.binary_field.specs.Product.{double, product, double-lt, product-lt, product-comm, product-assoc, product-left-comm, product-zero, zero-product, one-product, product-one, linear-product, ring}
 use Rattle.binary_field.specs.Power.{power, squares, power-lt, power-zero, power-suc, power-add, power-squares, one-power, product-power, frobenius, double-is}
 

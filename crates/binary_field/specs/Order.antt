@@ -6,7 +6,7 @@ use native.Mathlib.Nat.{zero-lt-suc, div-add-mod', mod-lt, add-zero, not-suc-le-
 use native.Mathlib.Omega.{arith}
 use native.Mathlib.Decide.{decLe}
 use lib.Dec.{T, eqb, eqb→eq, eqb-refl, T-not}
-use Rattle.binary_field.specs.Test.{both, both-l, both-r}
+use Rattle.counting.specs.Test.{both, both-l, both-r}
 use Rattle.binary_field.specs.Product.{product, product-assoc, product-one, product-comm, product-lt, one-product}
 use Rattle.binary_field.specs.Power.{power, power-zero, power-suc, power-lt, power-add, power-mul, power-swap, power-mod, one-power}
 

@@ -4,11 +4,11 @@ use mathlib.Core.List.{List}
 use Prim.Native.Nat.{ℕ, zero, suc, _+_, _-_, _≤_, _<_, _^_, min}
 use native.Mathlib.Nat.{zero-add, add-suc, add-zero}
 use native.Mathlib.Omega.{arith}
-use native.Mathlib.Decide.{decLe}
+use native.Mathlib.Decide.{decLe, ℕ-discrete}
 use lib.ListN.{length, getD, List·getD-eq-default}
 use lib.Pow.{pow-pos}
-use Rattle.binary_field.specs.Xor.{_⊕_, ⊕-self, ⊕-swap, ⊕-assoc, ⊕-zero-r, ⊕-lt}
-use Rattle.binary_field.specs.Product.{product, product-add, product-zero}
+use Rattle.binary_field.specs.Xor.{_⊕_, ⊕-self, ⊕-swap, ⊕-assoc, ⊕-zero-l, ⊕-zero-r, ⊕-lt}
+use Rattle.binary_field.specs.Product.{product, product-comm, product-add, product-zero}
 
 -- f 0 + f 1 + .. + f (n - 1)
 unfoldable pub sumBelow : ℕ → (ℕ → ℕ) → ℕ
@@ -83,3 +83,25 @@ inner-whole k m i u v e = elim (decLe (length u) (length v)) [
   | yes h ↦ (let w : length u ≡ i = omega arith in ap (λ n. innerProduct k m n u v) w)
   | no h ↦ inner-short k m i (length u) u v (omega arith) (omega arith)
 ]
+
+-- a double sum, in either order
+pub sum-swap : (n i : ℕ) (f : ℕ → ℕ → ℕ) → sumBelow n (λ a. sumBelow i (f a)) ≡ sumBelow i (λ b. sumBelow n (λ a. f a b))
+sum-swap zero i f = sum-none _ ∙ sym (sum-zero i _ (λ b _. sum-none _))
+sum-swap (suc n) i f =
+    sum-suc n _ ∙ ap (λ s. s ⊕ sumBelow i (f n)) (sum-swap n i f) ∙ sym (sum-add i (λ b. sumBelow n (λ a. f a b)) (f n))
+    ∙ sum-ext i _ _ (λ b _. sym (sum-suc n (λ a. f a b)))
+
+-- a sum of which one term alone is not 0
+pub sum-single : (n j : ℕ) (f : ℕ → ℕ) → j < n → ((i : ℕ) → i < n → ¬ (i ≡ j) → f i ≡ 0) → sumBelow n f ≡ f j
+sum-single zero j f h z = absurd (omega arith)
+sum-single (suc n) j f h z = elim (ℕ-discrete j n) [
+  | yes e ↦
+      sum-suc n f ∙ ap (λ s. s ⊕ f n) (sum-zero n f (λ i l. z i (omega arith) (λ q. omega arith))) ∙ ⊕-zero-l (f n) ∙ ap f (sym e)
+  | no d ↦
+      sum-suc n f ∙ ap (λ s. sumBelow n f ⊕ s) (z n (omega arith) (λ q. d (sym q))) ∙ ⊕-zero-r (sumBelow n f)
+      ∙ sum-single n j f (omega arith) (λ i l. z i (omega arith))
+]
+
+-- a factor on the right
+pub scale-sum : (k m n c : ℕ) (f : ℕ → ℕ) → sumBelow n (λ i. product k m (f i) c) ≡ product k m (sumBelow n f) c
+scale-sum k m n c f = sum-ext n _ _ (λ i _. product-comm k m (f i) c) ∙ sum-scale k m n c f ∙ product-comm k m c (sumBelow n f)

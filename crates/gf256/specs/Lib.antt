@@ -1,4 +1,3 @@
 pub mod Bytes
 pub mod Tables
 pub mod Locators
-pub mod HandSums

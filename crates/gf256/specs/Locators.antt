@@ -8,7 +8,7 @@ use native.Mathlib.Decide.{decLt}
 use lib.Dec.{T, eqb, ltb, eqb→eq, eqb-refl, ltb→lt, T-not, lit<}
 use lib.ListN.{getD}
 use Rattle.binary_field.specs.Xor.{_⊕_, masked, ⊕-lt}
-use Rattle.binary_field.specs.Test.{allBelow, all-at, anyBelow, any-at, any-intro, same, same-from-l, same-from-r}
+use Rattle.counting.specs.Test.{allBelow, all-at, anyBelow, any-at, any-intro, same, same-from-l, same-from-r}
 use Rattle.binary_field.specs.Product.{double, bitSum, product, product-lt}
 use Rattle.binary_field.specs.Power.{power, squares, power-squares, frobenius, product-power}
 use Rattle.gf256.specs.Tables.{powers, powers-at}

@@ -10,7 +10,7 @@ use borrow.Author.Tests.{ltb-true, ltb-false, eq-eqb, ne-eqb, lt-ltb, le-ltb}
 use lib.Dec.{T, eqb, ltb, eqb→eq, ltb→lt, lit<}
 use lib.ListN.{length, getD}
 use Rattle.binary_field.specs.Xor.{_⊕_, masked}
-use Rattle.binary_field.specs.Test.{both, both-l, both-r, allBelow, all-at}
+use Rattle.counting.specs.Test.{both, both-l, both-r, allBelow, all-at}
 use Rattle.binary_field.specs.Product.{double, product, product-zero, zero-product}
 use Rattle.binary_field.specs.Power.{power, power-add, power-double, power-lt}
 use Rattle.binary_field.specs.Inverse.{inverse}

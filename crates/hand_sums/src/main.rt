@@ -1,4 +1,4 @@
-// The hand sums of the field, by the code: each line has the two operands, the result by shifts and the result through the tables.
+// The hand sums, by the code: products by shifts and through the tables, the figures of shapes, and words that are checked and judged.
 use libc::STDOUT_FILENO;
 
 fn number(n: u64, end: &[u8]) {
@@ -24,7 +24,68 @@ fn locator_line() {
     io::write_all(STDOUT_FILENO, b"\n");
 }
 
-fn main() {
+fn describe_line(m: usize, w: usize, c: usize) {
+    match shape::describe(m, w, c) {
+        shape::Described::Figures { n, k, sure } => {
+            number(n as u64, b" bytes, ");
+            number(k as u64, b" data, sure ");
+            number(sure as u64, b"\n");
+        }
+        shape::Described::Refused(r) => refused_line(r),
+    }
+}
+
+fn refused_line(r: u8) {
+    io::write_all(STDOUT_FILENO, b"refused ");
+    number(r as u64, b"\n");
+}
+
+fn check_line(word: &[u8]) {
+    match word_check::check(2, 3, 1, word) {
+        word_check::Checked::Codeword => {
+            io::write_all(STDOUT_FILENO, b"codeword\n");
+        }
+        word_check::Checked::Other => {
+            io::write_all(STDOUT_FILENO, b"no codeword\n");
+        }
+        word_check::Checked::Refused(r) => refused_line(r),
+    }
+}
+
+fn judge_line(marks: &[u8]) {
+    match judge::judge(2, 3, 1, marks) {
+        judge::Judged::Determined => {
+            io::write_all(STDOUT_FILENO, b"determined\n");
+        }
+        judge::Judged::Refused(r) => refused_line(r),
+    }
+}
+
+fn shapes() {
+    describe_line(2, 3, 1);
+    describe_line(1, 3, 1);
+    describe_line(15, 16, 4);
+    describe_line(16, 16, 4);
+    describe_line(15, 16, 5);
+    describe_line(15, 17, 4);
+    describe_line(300, 3, 1);
+    describe_line(
+        18446744073709551615,
+        18446744073709551615,
+        18446744073709551615,
+    );
+}
+
+fn words() {
+    check_line(&[1, 1, 0, 78, 206, 128]);
+    check_line(&[1, 1, 0, 78, 206, 129]);
+    check_line(&[1, 1, 0, 78, 206]);
+    judge_line(&[1, 1, 1, 0, 0, 0]);
+    judge_line(&[1, 1, 1, 1, 1, 0]);
+    judge_line(&[1, 1, 1, 1, 2, 0]);
+}
+
+fn field() {
     product_line(2, 128);
     product_line(152, 152);
     product_line(152, 11);
@@ -34,4 +95,10 @@ fn main() {
     io::write_all(STDOUT_FILENO, b"1 / 152 = ");
     number(gf256::inverse(152) as u64, b"\n");
     locator_line();
+}
+
+fn main() {
+    field();
+    shapes();
+    words();
 }

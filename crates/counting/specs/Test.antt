@@ -83,3 +83,7 @@ pub same-from-r : (a b : Bool) → T (same a b) → T b → T a
 same-from-r true b t s = tt
 same-from-r false true t s = t
 same-from-r false false t s = s
+
+pub all-intro : (n : ℕ) (f : ℕ → Bool) → ((i : ℕ) → i < n → T (f i)) → T (allBelow n f)
+all-intro zero f h = tt
+all-intro (suc n) f h = both-intro (f n) (allBelow n f) (h n (le-refl (suc n))) (all-intro n f (λ i l. h i (le-trans l (le-suc n))))

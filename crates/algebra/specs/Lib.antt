@@ -1,0 +1,10 @@
+pub mod Field
+pub mod Lists
+pub mod Sum
+pub mod Vandermonde
+pub mod Kernel
+pub mod Tower
+pub mod Excess
+pub mod Unique
+pub mod Beyond
+pub mod Flat

@@ -1,0 +1,29 @@
+// Whole buffers copied and cleared.
+ghost use mathlib.Core.Path.{_≡_};
+ghost use lib.ListN.{length, replicate};
+
+// Copies one buffer over another of the same length; one of another length is left as it is.
+pub fn copy(from: &[u8], to: &mut [u8])
+    ensures { λ _. ⌜ (length (now (from .entry)) ≡ length (now (to .entry)) → now (to .exit) ≡ now (from .entry)) ⌝ }
+    ensures { λ _. ⌜ length (now (to .exit)) ≡ length (now (to .entry)) ⌝ }
+{
+    if from.len() != to.len() {
+        return;
+    }
+    let mut i: usize = 0;
+    while i < to.len() {
+        to[i] = from[i];
+        i += 1;
+    }
+}
+
+// Sets every byte to 0.
+pub fn clear(buffer: &mut [u8])
+    ensures { λ _. ⌜ now (buffer .exit) ≡ replicate (length (now (buffer .entry))) 0 ⌝ }
+{
+    let mut i: usize = 0;
+    while i < buffer.len() {
+        buffer[i] = 0;
+        i += 1;
+    }
+}

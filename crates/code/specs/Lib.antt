@@ -1,0 +1,15 @@
+pub mod Edition
+pub mod Word
+pub mod Marks
+pub mod Blank
+pub mod Bridge
+pub mod Determined
+pub mod Combined
+pub mod Filling
+pub mod Answer
+pub mod Recovery
+pub mod Stretch
+pub mod Lone
+pub mod Repair
+pub mod Order
+pub mod Encoding

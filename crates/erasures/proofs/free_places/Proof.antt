@@ -1,0 +1,37 @@
+use borrow.Author.Needs.{needs}
+use Rattle.erasures.specs.Places.{free-none, free-one, free-two}
+use Rattle.erasures.proofs.free_places.Statement.{statement}
+use Rattle.erasures.proofs.free_places.Tie as tie
+
+next-free-requires : tie.Need-next-free-requires
+next-free-requires c κs = search needs
+
+returns : tie.Need-returns
+returns c =
+    let a = c .before .before .before .before .args in
+    free-none (a .marks .now) (a .kept .now) (c .before .next-free .result) (c .before .next-free .ensures) (c .if1 .taken)
+
+add-after : tie.Need-add-after
+add-after c = search needs
+
+next-free-requires-2 : tie.Need-next-free-requires-2
+next-free-requires-2 c κs = search needs
+
+returns-2 : tie.Need-returns-2
+returns-2 c =
+    let f = c .before .before .before in
+    let a = f .before .before .before .args in
+    free-one (a .marks .now) (a .kept .now) (f .next-free .result) (f .next-free .ensures) (c .before .before .if1 .left) (c .before .next-free2 .result)
+    (c .before .next-free2 .ensures) (c .if2 .taken)
+
+returns-3 : tie.Need-returns-3
+returns-3 c =
+    let f = c .before .before .before in
+    let a = f .before .before .before .args in
+    free-two (a .marks .now) (a .kept .now) (f .next-free .result) (f .next-free .ensures) (c .before .before .if1 .left) (c .before .next-free2 .result)
+    (c .before .next-free2 .ensures) (c .if2 .left)
+
+pub free-places-spec : {M : Type 1} → statement M
+free-places-spec =
+    tie.close
+    (tie.spec next-free-requires returns add-after next-free-requires-2 returns-2 returns-3)

@@ -1,0 +1,110 @@
+// The lost places of a word: in each group the first c are kept for the group's own equations, the others are free.
+ghost use mathlib.Core.Path.{_≡_};
+ghost use Prim.Native.Nat.{_*_};
+ghost use lib.ListN.{length, getD};
+ghost use Rattle.shape.specs.Shapes.{Good};
+ghost use Rattle.erasures.specs.Kept.{free, keptOf};
+ghost use Rattle.erasures.specs.Whole.{KeptAll};
+ghost use Rattle.erasures.specs.Places.{FreePlaces, NextFree};
+
+// The number of free places that were found, two at most, and where they are; a place that was not found is 0.
+pub struct Free {
+    pub count: usize,
+    pub first: usize,
+    pub second: usize,
+}
+
+// Clears the marks of the lost places after the first c.
+fn keep_part(part: &mut [u8], c: usize)
+    ensures { λ _. ⌜ now (part .exit) ≡ keptOf c (now (part .entry)) ⌝ }
+{
+    let mut kept: usize = 0;
+    let mut i: usize = 0;
+    while i < part.len() {
+        if part[i] == 1 {
+            if kept < c {
+                kept += 1;
+            } else {
+                part[i] = 0;
+            }
+        }
+        i += 1;
+    }
+}
+
+// Clears the marks of the free places of every group. A shape that is not good, or marks of another length, are left as they are.
+pub fn keep(m: usize, w: usize, c: usize, marks: &mut [u8])
+    ensures kept { λ _. ⌜ (Good m w c → length (now (marks .entry)) ≡ m * w → KeptAll m w c (now (marks .entry)) (now (marks .exit))) ⌝ }
+    ensures size { λ _. ⌜ length (now (marks .exit)) ≡ length (now (marks .entry)) ⌝ }
+{
+    if shape::word_refusal(m, w, c, marks.len()) != 0 {
+        return;
+    }
+    let last = m - 1;
+    let mut g: usize = 0;
+    while g <= last {
+        let a = g * w;
+        let e = a + w;
+        keep_part(&mut marks[a..e], c);
+        g += 1;
+    }
+}
+
+// The mark of a place, 0 past the end.
+fn mark_at(marks: &[u8], p: usize) -> u8
+    ensures { λ r. ⌜ r ≡ getD (now (marks .entry)) p 0 ⌝ }
+{
+    if p < marks.len() { marks[p] } else { 0 }
+}
+
+fn is_free(marks: &[u8], kept: &[u8], p: usize) -> bool
+    ensures { λ r. ⌜ r ≡ free (now (marks .entry)) (now (kept .entry)) p ⌝ }
+{
+    if mark_at(marks, p) == 1 {
+        mark_at(kept, p) != 1
+    } else {
+        false
+    }
+}
+
+// The first free place from start on; a number past the last place if there is none.
+fn next_free(marks: &[u8], kept: &[u8], start: usize) -> usize
+    ensures { λ r. ⌜ NextFree (now (marks .entry)) (now (kept .entry)) start r ⌝ }
+{
+    let mut i = start;
+    while i < marks.len() {
+        if is_free(marks, kept, i) {
+            return i;
+        }
+        i += 1;
+    }
+    i
+}
+
+// The first two free places. Past its end kept counts as not lost.
+pub fn free_places(marks: &[u8], kept: &[u8]) -> Free
+    ensures { λ r. ⌜ FreePlaces (now (marks .entry)) (now (kept .entry)) (r .count) (r .first) (r .second) ⌝ }
+{
+    let first = next_free(marks, kept, 0);
+    if marks.len() <= first {
+        return Free {
+            count: 0,
+            first: 0,
+            second: 0,
+        };
+    }
+    let after = first + 1;
+    let second = next_free(marks, kept, after);
+    if marks.len() <= second {
+        return Free {
+            count: 1,
+            first,
+            second: 0,
+        };
+    }
+    Free {
+        count: 2,
+        first,
+        second,
+    }
+}

@@ -1,0 +1,29 @@
+-- The sums done by hand that are shown of the definitions: one list of pairs, what the definition gives and what the paper has, under one claim.
+use mathlib.Core.Path.{_≡_, refl}
+use mathlib.Core.List.{List, [], _∷_}
+use Prim.Native.Nat.{ℕ}
+use Rattle.binary_field.specs.Xor.{_⊕_, masked}
+use Rattle.binary_field.specs.Product.{double, bitSum, product}
+use Rattle.binary_field.specs.Power.{power}
+use Rattle.shape.specs.Shapes.{shapeRefusal, describedOf, describedNumber, describedFigures}
+
+-- in each pair the two are the same
+abbrev pub AllSame : List (List ℕ × List ℕ) → Type 0
+AllSame [] = Unit {0}
+AllSame (p ∷ ps) = (p .0 ≡ p .1) × AllSame ps
+
+-- one number
+abbrev pub number : ℕ → List ℕ
+number n = n ∷ []
+
+abbrev pub handSums : List (List ℕ × List ℕ)
+handSums =
+    -- 2·128 = 29, 152·152 = 78, 152·11 = 1, 0·77 = 0, 3^16 = 77
+    (number (product 8 285 2 128), number 29) ∷ (number (product 8 285 152 152), number 78) ∷ (number (product 8 285 152 11), number 1) ∷
+    (number (product 8 285 0 77), number 0) ∷ (number (power 8 285 3 16), number 77) ∷
+    -- shape m 2, w 3, c 1: n 6, k 2 (and the sure count 3); m 1, w 3, c 1: refused 4
+    (describedFigures (describedOf 2 3 1), 6 ∷ 2 ∷ 3 ∷ []) ∷ (number (describedNumber (describedOf 1 3 1)), number 4) ∷ []
+
+pub hand-sums : AllSame handSums
+unfolding power product bitSum double masked _⊕_ shapeRefusal describedOf
+hand-sums = (refl, (refl, (refl, (refl, (refl, (refl, (refl, tt)))))))

@@ -1,0 +1,126 @@
+-- The steps of the loops, the syndromes as inner products, and what the solution of the equations does.
+use mathlib.Core.Path.{_≡_, refl, sym, ap, ap₂, _∙_}
+use mathlib.Core.Bool.{Bool, true, false, true≢false}
+use mathlib.Core.List.{List}
+use Prim.Native.Nat.{ℕ, zero, suc, _+_, _≤_, _<_}
+use native.Mathlib.Numerals.{add-one}
+use native.Mathlib.Decide.{ℕ-discrete, decLt}
+use native.Mathlib.Omega.{arith}
+use lib.ListN.{length, getD, set, replicate}
+use lib.Seq.{getD-set-same, getD-set-other}
+use Rattle.counting.specs.Count.{countBelow, one, total-suc, total-ext}
+use Rattle.binary_field.specs.Xor.{_⊕_, ⊕-self}
+use Rattle.binary_field.specs.Product.{product, product-comm}
+use Rattle.binary_field.specs.Sum.{sumBelow, innerProduct, sum-ext}
+use Rattle.code.specs.Edition.{bytes, bytes-sound, times, raised}
+use Rattle.code.specs.Word.{groupSum, localSum}
+use Rattle.code.specs.Marks.{lost, lostIn}
+use Rattle.coefficients.specs.Rows.{powerRows, noRow, power-at}
+use Rattle.solve.specs.Elimination.{entry, eliminated}
+use Rattle.solve.specs.Steps.{System}
+use Rattle.solve.specs.Bytes.{solution}
+use Rattle.fill.specs.Change.{first-place}
+use Rattle.fill.specs.Positions.{Positions}
+use Rattle.fill.specs.Placed.{placed, length-placed, placed-other, placed-at, placed-sum}
+use Rattle.fill.specs.Equations.{Equations, independent}
+use Rattle.fill.specs.Filled.{Filled}
+
+-- what holds of each element before i, and of v, holds up to i once v is written there
+pub each-set : {A : Type 0} (P : ℕ → A → Type 0) (xs : List A) (i : ℕ) (v d : A) → i < length xs → ((j : ℕ) → j < i → P j (getD xs j d)) → P i v
+    → (j : ℕ) → j < i + 1 → P j (getD (set xs i v) j d)
+each-set P xs i v d h f p j l = elim (ℕ-discrete j i) [
+  | yes q ↦ (rw (q, getD-set-same xs i v d h) p)
+  | no q ↦ (rw (getD-set-other xs i j v d q) (f j (omega arith)))
+]
+
+-- ---- the search for lost places
+module _ (marks : List ℕ) where
+  pub lost-below : (w : ℕ) → countBelow w (lost marks) ≡ lostIn w marks 0
+  unfolding lostIn
+  lost-below w = total-ext w _ _ (λ j _. ap (λ p. one (lost marks p)) (sym (first-place w j)))
+
+  pub count-next : (i : ℕ) (b : Bool) → lost marks i ≡ b → countBelow (i + 1) (lost marks) ≡ countBelow i (lost marks) + one b
+  count-next i b e = ap (λ n. countBelow n (lost marks)) (add-one i) ∙ total-suc i _ ∙ ap (λ b. countBelow i (lost marks) + one b) e
+
+  module _ (at : List ℕ) (i n : ℕ) (P : Positions marks i at n) where
+    pub found-next : n < length at → lost marks i ≡ true → Positions marks (i + 1) (set at n i) (n + 1)
+    found-next h e = record {
+      inside = each-set (λ _ p. p < i + 1) at n i 0 h (λ j l. let b = P .inside j l in omega arith) (omega arith);
+      erased = each-set (λ _ p. lost marks p ≡ true) at n i 0 h (P .erased) e;
+      ascending = λ j k l b. elim (ℕ-discrete k n) [
+        | yes q ↦ (rw (q, here, there j (omega arith)) (P .inside j (omega arith)))
+        | no q ↦ (rw (there j (omega arith), there k q) (P .ascending j k l (omega arith)))
+      ];
+    }
+      where
+        here : getD (set at n i) n 0 ≡ i
+        here = getD-set-same at n i 0 h
+
+        there : (j : ℕ) → (j ≡ n → ⊥) → getD (set at n i) j 0 ≡ getD at j 0
+        there j q = getD-set-other at n j i 0 q
+
+    pub found-none : Positions marks (i + 1) at n
+    found-none = record { inside = λ j l. let b = P .inside j l in omega arith; erased = P .erased; ascending = P .ascending }
+
+-- ---- a syndrome
+pub syndrome : (part : List ℕ) (e : ℕ) → e < 4 → length part ≤ 16
+    → innerProduct 8 285 (length part) part (getD powerRows e noRow) ≡ localSum bytes (length part) part 0 e
+unfolding innerProduct groupSum
+syndrome part e h l =
+    sum-ext (length part) _ _ (λ j b. ap₂ (product 8 285) (ap (λ p. getD part p 0) (sym (first-place (length part) j))) (power-at e j h (omega arith)))
+
+-- ---- the lost places filled
+-- more than four are lost
+pub unchanged : (marks xs : List ℕ) (t : ℕ) → t ≡ lostIn (length marks) marks 0 → 4 < t → Filled marks xs xs
+unchanged marks xs t e h = record { size = refl; present = λ _ _. refl; zero = λ _ s l. let q = ap (λ w. lostIn w marks 0) s in absurd (omega arith) }
+
+pub zeros-at : (n k i j : ℕ) → entry (replicate n (replicate k 0)) i j ≡ 0
+zeros-at zero k i j = refl
+zeros-at (suc n) k zero j = at-zero k j
+  where
+    at-zero : (k j : ℕ) → getD {A = ℕ} (replicate k 0) j 0 ≡ 0
+    at-zero zero j = refl
+    at-zero (suc k) zero = refl
+    at-zero (suc k) (suc j) = at-zero k j
+zeros-at (suc n) k (suc i) j = zeros-at n k i j
+
+-- xs with zeros, and then the solution, in the lost places
+module _ (marks xs ys zs at : List ℕ) (Z M N : List (List ℕ)) (t : ℕ) (P : Positions marks (length xs) at t)
+    (hy : ys ≡ placed xs at Z t) (hz : zs ≡ placed ys at N t) where
+  same-size : length ys ≡ length xs
+  same-size = ap length hy ∙ length-placed xs at Z t
+
+  kept : (p : ℕ) → lost marks p ≡ false → getD zs p 0 ≡ getD xs p 0
+  kept p e =
+      ap (λ l. getD l p 0) hz ∙ placed-other ys at N t p other ∙ ap (λ l. getD l p 0) hy ∙ placed-other xs at Z t p other
+    where
+      other : (i : ℕ) → i < t → p ≡ getD at i 0 → ⊥
+      other i l q = true≢false (sym (P .erased i l) ∙ ap (lost marks) (sym q) ∙ e)
+
+  apart : (i j : ℕ) → i < t → j < t → ¬ (i ≡ j) → ¬ (getD at i 0 ≡ getD at j 0)
+  apart i j hi hj n q = elim (decLt i j) [
+    | yes l ↦ (let a = P .ascending i j l hj in omega arith)
+    | no l ↦ (let a = P .ascending j i (omega arith) hi in omega arith)
+  ]
+
+  module _ (blank : (i : ℕ) → entry Z i 4 ≡ 0) (fits : length xs ≤ 16) (S : System 8 M t) (Q : Equations ys at t M) (hN : N ≡ eliminated 8 285 M t) where
+    solved : (e : ℕ) → e < t → sumBelow t (λ i. times bytes (entry N i 4) (raised bytes (bytes .locator (getD at i 0)) e)) ≡ localSum bytes (length ys) ys 0 e
+    solved e h =
+        sum-ext t _ _ (λ i l. product-comm 8 285 _ _ ∙ ap₂ (product 8 285) (sym (Q e h .left i l)) (ap (λ A. entry A i 4) hN))
+        ∙ solution M t S
+        (independent bytes bytes-sound t (λ i. getD at i 0) (λ i l. let b = P .inside i l in omega arith) apart M (λ e i he hi. Q e he .left i hi)) 4 .solves e h
+        ∙ Q e h .right
+
+    sums-zero : (e : ℕ) → e < t → localSum bytes (length ys) zs 0 e ≡ 0
+    sums-zero e h =
+        ap (λ l. localSum bytes (length ys) l 0 e) hz
+        ∙ placed-sum ys at N t (P .ascending) (λ i l. rw same-size (P .inside i l)) bytes
+        (λ i l. ap (λ l. getD l (getD at i 0) 0) hy ∙ placed-at xs at Z t (P .ascending) (P .inside) i l ∙ blank i) e
+        ∙ ap (λ s. localSum bytes (length ys) ys 0 e ⊕ s) (solved e h) ∙ ⊕-self _
+
+    pub filled : t ≡ lostIn (length xs) marks 0 → Filled marks xs zs
+    filled ht = record {
+      size = ap length hz ∙ length-placed ys at N t ∙ same-size;
+      present = kept;
+      zero = λ _ _ _ e h. rw same-size at (sums-zero e (rw ht h));
+    }

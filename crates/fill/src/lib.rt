@@ -1,0 +1,100 @@
+// Fills the lost places of one group from the group's own local equations, of which t lost places take the first t.
+ghost use mathlib.Core.Path.{_≡_};
+ghost use Prim.Native.Nat.{_≤_, _<_};
+ghost use lib.ListN.{length};
+ghost use Rattle.fill.specs.Filled.{Filled};
+ghost use Rattle.fill.specs.Positions.{Inside, Found};
+ghost use Rattle.fill.specs.Placed.{placed};
+ghost use Rattle.fill.specs.Equations.{Equation, Equations};
+
+// The positions of the first four lost places, in order, and how many places are lost.
+struct Erasures {
+    at: [usize; 4],
+    count: usize,
+}
+
+fn find(marks: &[u8]) -> Erasures
+    ensures { λ r. ⌜ Found (now (marks .entry)) (r .at) (r .count) ⌝ }
+{
+    let mut at = [0usize; 4];
+    let mut n: usize = 0;
+    let mut i: usize = 0;
+    while i < marks.len() {
+        if marks[i] == 1 {
+            if n < 4 {
+                at[n] = i;
+            }
+            n += 1;
+        }
+        i += 1;
+    }
+    Erasures { at, count: n }
+}
+
+// Writes the right side of row i at position at[i], for each i below t.
+fn place(part: &mut [u8], at: [usize; 4], rows: [[u8; 5]; 4], t: usize)
+    requires { ⌜ (t ≤ 4) × Inside (length (now part)) at t ⌝ }
+    ensures { λ _. ⌜ now (part .exit) ≡ placed (now (part .entry)) at rows t ⌝ }
+{
+    let mut i: usize = 0;
+    while i < t {
+        let p = at[i];
+        part[p] = rows[i][4];
+        i += 1;
+    }
+}
+
+// The equation e: the powers of the positions' locators, and the syndrome on the right side.
+fn equation(part: &[u8], at: [usize; 4], t: usize, e: usize) -> [u8; 5]
+    requires { ⌜ (t ≤ 4) × (e < 4) × (length (now part) ≤ 16) × Inside (length (now part)) at t ⌝ }
+    ensures { λ r. ⌜ Equation (now (part .entry)) at t e r ⌝ }
+{
+    let powers = coefficients::power_row(e);
+    let mut x = [0u8; 5];
+    x[4] = gf256::dot(part, &powers);
+    let mut i: usize = 0;
+    while i < t {
+        let j = at[i];
+        x[i] = powers[j];
+        i += 1;
+    }
+    x
+}
+
+// The first t equations.
+fn equations(part: &[u8], at: [usize; 4], t: usize) -> [[u8; 5]; 4]
+    requires { ⌜ (t ≤ 4) × (length (now part) ≤ 16) × Inside (length (now part)) at t ⌝ }
+    ensures { λ r. ⌜ Equations (now (part .entry)) at t r ⌝ }
+{
+    let mut rows = [[0u8; 5]; 4];
+    let mut e: usize = 0;
+    while e < t {
+        let x = equation(part, at, t, e);
+        rows[e] = x;
+        e += 1;
+    }
+    rows
+}
+
+// Fills the lost places, if at most four of at most sixteen are lost; what stood there does not count. Else nothing changes.
+pub fn fill(part: &mut [u8], marks: &[u8])
+    ensures { λ _. ⌜ Filled (now (marks .entry)) (now (part .entry)) (now (part .exit)) ⌝ }
+{
+    if 16 < part.len() {
+        return;
+    }
+    if marks.len() != part.len() {
+        return;
+    }
+    let erasures = find(marks);
+    let t = erasures.count;
+    if 4 < t {
+        return;
+    }
+    let at = erasures.at;
+    let zeros = [[0u8; 5]; 4];
+    place(part, at, zeros, t);
+    let rows = equations(part, at, t);
+    let solution = solve::eliminate(rows, t);
+    place(part, at, solution, t);
+}

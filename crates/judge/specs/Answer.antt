@@ -1,0 +1,24 @@
+-- What Judge answers.
+use mathlib.Core.List.{List}
+use Prim.Native.Nat.{ℕ, zero, suc}
+use lib.Dec.{ltb}
+use Rattle.shape.specs.Refusals.{refuse, _orElse_}
+use Rattle.code.specs.Marks.{excess}
+use Rattle.marks.specs.Refusal.{marksRefusal}
+use Rattle.judge.specs.declared.Judged.{Judged}
+
+-- 8: undetermined, which is an excess above two; after 1 to 6
+unfoldable pub judgedNumberOf : ℕ → ℕ → ℕ → List ℕ → ℕ
+judgedNumberOf m w c marks = marksRefusal m w c marks orElse refuse 8 (ltb 2 (excess m w c marks))
+
+abbrev pub judgedAt : ℕ → Judged
+judgedAt zero = Judged.Determined
+judgedAt (suc r) = Judged.Refused (suc r)
+
+unfoldable pub judgedOf : ℕ → ℕ → ℕ → List ℕ → Judged
+judgedOf m w c marks = judgedAt (judgedNumberOf m w c marks)
+
+-- the number given back, 0 for determined
+abbrev pub judgedNumber : Judged → ℕ
+judgedNumber Judged.Determined = 0
+judgedNumber (Judged.Refused r) = r

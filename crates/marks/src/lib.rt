@@ -1,0 +1,72 @@
+// Marks of lost places: their refusal, the count of one group and the excess of a whole pattern.
+ghost use mathlib.Core.Path.{_≡_};
+ghost use Prim.Native.Nat.{_-_, _*_};
+ghost use lib.ListN.{length};
+ghost use Rattle.shape.specs.Shapes.{Good};
+ghost use Rattle.code.specs.Marks.{lostIn, excess};
+ghost use Rattle.marks.specs.Refusal.{areMarks, marksRefusal};
+
+// Whether every mark is 0 or 1.
+pub fn are_marks(marks: &[u8]) -> bool
+    ensures { λ r. ⌜ r ≡ areMarks (now (marks .entry)) ⌝ }
+{
+    let mut i: usize = 0;
+    while i < marks.len() {
+        if 1 < marks[i] {
+            return false;
+        }
+        i += 1;
+    }
+    true
+}
+
+// The refusal, 1 to 6, of a service that is lent marks; 0 if there is none.
+pub fn marks_refusal(m: usize, w: usize, c: usize, marks: &[u8]) -> u8
+    ensures { λ r. ⌜ r ≡ marksRefusal m w c (now (marks .entry)) ⌝ }
+{
+    let r = shape::word_refusal(m, w, c, marks.len());
+    if r != 0 {
+        return r;
+    }
+    if are_marks(marks) { 0 } else { 6 }
+}
+
+// How many places of one group's stretch are lost.
+pub fn lost_in(part: &[u8]) -> usize
+    ensures { λ r. ⌜ r ≡ lostIn (length (now (part .entry))) (now (part .entry)) 0 ⌝ }
+{
+    let mut n: usize = 0;
+    let mut i: usize = 0;
+    while i < part.len() {
+        if part[i] == 1 {
+            n += 1;
+        }
+        i += 1;
+    }
+    n
+}
+
+// l less c, or 0 if that is negative.
+fn less(l: usize, c: usize) -> usize
+    ensures { λ r. ⌜ r ≡ l - c ⌝ }
+{
+    if c < l { l - c } else { 0 }
+}
+
+// The excess of the marks of a good shape.
+pub fn excess_of(m: usize, w: usize, c: usize, marks: &[u8]) -> usize
+    ensures { λ r. ⌜ (Good m w c → length (now (marks .entry)) ≡ m * w → r ≡ excess m w c (now (marks .entry))) ⌝ }
+{
+    if shape::word_refusal(m, w, c, marks.len()) != 0 {
+        return 0;
+    }
+    let mut x: usize = 0;
+    let mut g: usize = 0;
+    while g < m {
+        let a = g * w;
+        let e = a + w;
+        x += less(lost_in(&marks[a..e]), c);
+        g += 1;
+    }
+    x
+}

@@ -1,0 +1,42 @@
+use mathlib.Core.Path.{_≡_, refl, sym}
+use lib.ListN.{length}
+use Rattle.shape.specs.Refusals.{unless-refused}
+use Rattle.shape.specs.Shapes.{bufferRefusal}
+use Rattle.shape.specs.Laws.{good-of-buffers}
+use Rattle.places.specs.Places.{extractedOf, extractedData}
+use Rattle.shape.specs.Answers.{answer-refused}
+use borrow.Author.Needs.{needs}
+use Rattle.places.proofs.extract.Statement.{statement}
+use Rattle.places.proofs.extract.Tie as tie
+
+buffer-refusal-requires : tie.Need-buffer-refusal-requires
+buffer-refusal-requires c κs = search needs
+
+returns : tie.Need-returns
+unfolding extractedOf extractedData
+returns c =
+    let r = c .before .buffer-refusal in
+    let e = r .ensures in (
+      cc (answer-refused (r .result) (c .if1 .taken)),
+      (e, sym (rw (← e) (unless-refused (r .result) _ _ (c .if1 .taken)))),
+    )
+
+copy-data-requires : tie.Need-copy-data-requires
+copy-data-requires c κs =
+    let a = c .before .before .before .before .before .args in
+    let z = good-of-buffers (a .m) (a .w) (a .c) (length (a .word .now)) (length (a .bytes .now)) (cc) in
+    (z .0, (z .1, z .2))
+
+same-length : tie.Need-same-length
+same-length c = search needs
+
+returns-2 : tie.Need-returns-2
+unfolding extractedOf extractedData
+returns-2 c =
+    let a = c .before .before .before .before .before .before .before .before .args in
+    let z : bufferRefusal (a .m) (a .w) (a .c) (length (a .word .now)) (length (a .bytes .now)) ≡ 0 = cc in
+    rw z (refl, (refl, c .before .before .copy-data .ensures))
+
+pub extract-spec : {M : Type 1} → statement M
+extract-spec =
+    tie.close (tie.spec buffer-refusal-requires returns copy-data-requires same-length returns-2)

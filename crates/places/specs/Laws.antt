@@ -1,0 +1,144 @@
+-- The laws of data places and check places.
+use mathlib.Core.Path.{_≡_, refl, sym, ap, ap₂, _∙_}
+use mathlib.Core.Bool.{true, false, _||_, _&&_, or-false}
+use mathlib.Core.List.{List, [], _∷_}
+use Prim.Native.Nat.{ℕ, zero, suc, _+_, _-_, _*_, _/_, _%_, _≤_, _<_}
+use native.Mathlib.Nat.{add-zero, zero-add, zero-mul, suc-mul, mul-comm, mod-eq-of-lt, div-eq-of-lt, mul-add-mod-self-right, mul-add-div-right}
+use native.Mathlib.Decide.{decLe}
+use native.Mathlib.Omega.{arith}
+use lib.Dec.{eqb, leb}
+use lib.ListN.{length, getD, length-map}
+use borrow.Author.Tests.{le-leb, lt-leb, eq-eqb, ne-eqb}
+use Rattle.shape.specs.Shapes.{Good, placeCount, dataCount}
+use Rattle.shape.specs.Laws.{data-and-checks, word-of-good, buffers-of-good}
+use Rattle.places.specs.Places.{isCheck, othersFrom, dataPlaces, bytesAt, extractOf, placedOf, mark, checkMarks, extractedData, placedWord, markedChecks}
+use Rattle.counting.specs.Count.{totalBelow, countBelow, one, total-append, count-ext}
+use Rattle.places.specs.Count.{count-from}
+use Rattle.places.specs.From as From
+
+-- place j of group g
+pub check-at : (m w c g j : ℕ) → j < w → isCheck m w c (g * w + j) ≡ (leb w (j + c) || (eqb (g + 1) m && leb w (j + (c + 2))))
+unfolding isCheck
+check-at m w c g j h =
+    let e : (g * w + j) % w ≡ j = mul-add-mod-self-right g w j ∙ mod-eq-of-lt h in
+    let d : (g * w + j) / w ≡ g = mul-add-div-right (omega arith) g j ∙ ap (λ x. g + x) (div-eq-of-lt h) ∙ add-zero g in
+    rw (e, d)
+
+-- in a group that is not the last
+pub check-inner : (m w c g j : ℕ) → g + 1 < m → j < w → isCheck m w c (g * w + j) ≡ leb w (j + c)
+check-inner m w c g j l h = check-at m w c g j h ∙ rw (ne-eqb (g + 1) m (omega arith)) (or-false (leb w (j + c)))
+
+-- in the last group
+pub check-last : (m w c g j : ℕ) → g + 1 ≡ m → j < w → isCheck m w c (g * w + j) ≡ leb w (j + (c + 2))
+check-last m w c g j e h = check-at m w c g j h ∙ rw (eq-eqb (g + 1) m e) (go (decLe w (j + c)))
+  where
+    go : Dec (w ≤ j + c) → (leb w (j + c) || leb w (j + (c + 2))) ≡ leb w (j + (c + 2))
+    go (yes a) = let b : w ≤ j + (c + 2) = omega arith in rw (le-leb w (j + c) a) (sym (le-leb w (j + (c + 2)) b))
+    go (no a) = let b : j + c < w = omega arith in rw (lt-leb w (j + c) b)
+
+module _ {m w c : ℕ} (good : Good m w c) where
+  -- "the last c places of every group"
+  pub checks-inner : (g : ℕ) → g + 1 < m → countBelow w (λ j. isCheck m w c (g * w + j)) ≡ c
+  checks-inner g l =
+      count-ext w (λ j. isCheck m w c (g * w + j)) (λ j. leb w (j + c)) (λ j h. check-inner m w c g j l h)
+      ∙ count-from w c w ∙ omega arith
+
+  -- "and, in the last group, also the two before them"
+  pub checks-last : (g : ℕ) → g + 1 ≡ m → countBelow w (λ j. isCheck m w c (g * w + j)) ≡ c + 2
+  checks-last g e =
+      count-ext w (λ j. isCheck m w c (g * w + j)) (λ j. leb w (j + (c + 2))) (λ j h. check-last m w c g j e h)
+      ∙ count-from w (c + 2) w ∙ omega arith
+
+  checks-before : (g : ℕ) → g < m → countBelow (g * w) (isCheck m w c) ≡ g * c
+  unfolding totalBelow
+  checks-before zero l = rw (zero-mul w, zero-mul c)
+  checks-before (suc g) l =
+      rw (suc-mul g w, suc-mul g c)
+      (total-append (g * w) w (λ p. one (isCheck m w c p)) ∙ ap₂ _+_ (checks-before g (omega arith)) (checks-inner g (omega arith)))
+
+  pub checks-all : countBelow (placeCount m w) (isCheck m w c) ≡ m * c + 2
+  checks-all =
+      let g = m - 1 in
+      let e : m ≡ suc g = omega arith in
+      ap (λ x. countBelow (x * w) (isCheck m w c)) e ∙ ap (λ x. countBelow x (isCheck m w c)) (suc-mul g w)
+      ∙ total-append (g * w) w (λ p. one (isCheck m w c p)) ∙ ap₂ _+_ (checks-before g (omega arith)) (checks-last g (omega arith))
+      ∙ omega (arith, ap (λ x. x * c) e, suc-mul g c)
+
+  pub data-length : length (dataPlaces m w c) ≡ dataCount m w c
+  unfolding dataPlaces totalBelow
+  data-length =
+      let n = placeCount m w in
+      omega (arith, From.others-length (isCheck m w c) 0 n, ap (λ x. countBelow x (isCheck m w c)) (zero-add n), checks-all, data-and-checks good, mul-comm m c)
+
+  pub extract-length : (word : List ℕ) → length (extractOf m w c word) ≡ dataCount m w c
+  unfolding extractOf bytesAt
+  extract-length word = length-map (dataPlaces m w c) (λ p. getD word p 0) ∙ data-length
+
+  pub extract-placed : (bytes : List ℕ) → length bytes ≡ dataCount m w c → extractOf m w c (placedOf m w c bytes) ≡ bytes
+  unfolding extractOf placedOf dataPlaces bytesAt
+  extract-placed bytes e = From.others-spread (isCheck m w c) 0 (placeCount m w) [] bytes refl (e ∙ sym data-length)
+
+  -- what a call that is not refused leaves
+  pub extracted-data : (word bytes : List ℕ) → length word ≡ placeCount m w → length bytes ≡ dataCount m w c → extractedData m w c word bytes ≡ extractOf m w c word
+  unfolding extractedData
+  extracted-data word bytes e f = rw (buffers-of-good m w c (length word) (length bytes) good e f)
+
+  pub placed-word : (bytes word : List ℕ) → length word ≡ placeCount m w → length bytes ≡ dataCount m w c → placedWord m w c bytes word ≡ placedOf m w c bytes
+  unfolding placedWord
+  placed-word bytes word e f = rw (buffers-of-good m w c (length word) (length bytes) good e f)
+
+  pub marked-checks : (marks : List ℕ) → length marks ≡ placeCount m w → markedChecks m w c marks ≡ checkMarks m w c
+  unfolding markedChecks
+  marked-checks marks e = rw (word-of-good m w c (length marks) good e)
+
+module _ (m w c : ℕ) where
+  pub placed-length : (bytes : List ℕ) → length (placedOf m w c bytes) ≡ placeCount m w
+  unfolding placedOf
+  placed-length bytes = From.spread-length (isCheck m w c) 0 (placeCount m w) bytes
+
+  pub placed-check : (bytes : List ℕ) (p : ℕ) → p < placeCount m w → isCheck m w c p ≡ true → getD (placedOf m w c bytes) p 0 ≡ 0
+  unfolding placedOf
+  placed-check bytes p l e = From.spread-check (isCheck m w c) 0 (placeCount m w) bytes p l (ap (isCheck m w c) (zero-add p) ∙ e)
+
+  -- numbers below b stay below b
+  pub placed-below : (b : ℕ) → 0 < b → (bytes : List ℕ) → ((i : ℕ) → getD bytes i 0 < b) → (p : ℕ) → getD (placedOf m w c bytes) p 0 < b
+  unfolding placedOf
+  placed-below b l bytes h p = From.spread-below (isCheck m w c) b l 0 (placeCount m w) bytes h p
+
+  pub extract-below : (b : ℕ) → 0 < b → (word : List ℕ) → ((p : ℕ) → getD word p 0 < b) → (i : ℕ) → getD (extractOf m w c word) i 0 < b
+  unfolding extractOf
+  extract-below b l word h i = From.bytes-below b l word h (dataPlaces m w c) i
+
+  pub marks-length : length (checkMarks m w c) ≡ placeCount m w
+  unfolding checkMarks
+  marks-length = From.marks-length (isCheck m w c) 0 (placeCount m w)
+
+  pub marks-at : (p : ℕ) → p < placeCount m w → getD (checkMarks m w c) p 0 ≡ mark (isCheck m w c p)
+  unfolding checkMarks
+  marks-at p l = From.marks-from (isCheck m w c) 0 (placeCount m w) p l ∙ ap (λ q. mark (isCheck m w c q)) (zero-add p)
+
+  pub marks-small : (p : ℕ) → getD (checkMarks m w c) p 0 ≤ 1
+  unfolding checkMarks
+  marks-small p = From.marks-small (isCheck m w c) 0 (placeCount m w) p
+
+  -- words that agree at the data places have the same data
+  pub extract-agree : (x y : List ℕ) → ((p : ℕ) → p < placeCount m w → isCheck m w c p ≡ false → getD x p 0 ≡ getD y p 0) → extractOf m w c x ≡ extractOf m w c y
+  unfolding extractOf dataPlaces bytesAt
+  extract-agree x y h =
+      From.others-ext (isCheck m w c) (λ p. getD x p 0) (λ p. getD y p 0) 0 (placeCount m w) (λ p a b e. h p (omega arith) e)
+
+  -- and those that have the same data agree there
+  pub agree-extract : (x y : List ℕ) → extractOf m w c x ≡ extractOf m w c y → (p : ℕ) → p < placeCount m w → isCheck m w c p ≡ false → getD x p 0 ≡ getD y p 0
+  unfolding extractOf dataPlaces bytesAt
+  agree-extract x y h p l e =
+      From.ext-others (isCheck m w c) (λ p. getD x p 0) (λ p. getD y p 0) 0 (placeCount m w) h p (omega arith) (omega arith) e
+
+-- "m 2, w 3, c 1, data 1, 1: word 1, 1, 0, 78, 206, 128."
+pub extract-2-3-1 : extractOf 2 3 1 (1 ∷ 1 ∷ 0 ∷ 78 ∷ 206 ∷ 128 ∷ []) ≡ 1 ∷ 1 ∷ []
+unfolding extractOf dataPlaces othersFrom isCheck bytesAt
+extract-2-3-1 = refl
+
+-- "m 1, w 4, c 1, data 1: word 1, 79, 147, 221."
+pub extract-1-4-1 : extractOf 1 4 1 (1 ∷ 79 ∷ 147 ∷ 221 ∷ []) ≡ 1 ∷ []
+unfolding extractOf dataPlaces othersFrom isCheck bytesAt
+extract-1-4-1 = refl

@@ -1,0 +1,4 @@
+pub mod Places
+pub mod Count
+pub mod From
+pub mod Laws

@@ -1,0 +1,71 @@
+-- Which places of a word carry data, and what Extract gives.
+use mathlib.Core.Bool.{Bool, true, false, cond, _||_, _&&_}
+use mathlib.Core.List.{List, [], _∷_, map}
+use Prim.Native.Nat.{ℕ, zero, suc, _+_, _/_, _%_}
+use lib.Dec.{eqb, leb}
+use lib.ListN.{length, getD, drop}
+use Rattle.shape.specs.Refusals.{unlessRefused}
+use Rattle.shape.specs.Shapes.{placeCount, wordRefusal, bufferRefusal}
+use Rattle.shape.specs.declared.Answer.{Answer}
+use Rattle.shape.specs.Answers.{answerAt}
+
+-- "Check places are the last c places of every group and, in the last group, also the two before them."
+-- Place p is number p % w of group p / w; the last c are those whose number and c make at least w.
+unfoldable pub isCheck : ℕ → ℕ → ℕ → ℕ → Bool
+isCheck m w c p = leb w (p % w + c) || (eqb (p / w + 1) m && leb w (p % w + (c + 2)))
+
+-- of r places from p on, those that are no check
+unfoldable pub othersFrom : (ℕ → Bool) → ℕ → ℕ → List ℕ
+othersFrom check p zero = []
+othersFrom check p (suc r) = cond (check p) (othersFrom check (suc p) r) (p ∷ othersFrom check (suc p) r)
+
+-- "All other places carry data, in word order."
+unfoldable pub dataPlaces : ℕ → ℕ → ℕ → List ℕ
+dataPlaces m w c = othersFrom (isCheck m w c) 0 (placeCount m w)
+
+-- the bytes of a word at these places
+unfoldable pub bytesAt : List ℕ → List ℕ → List ℕ
+bytesAt word places = map (λ p. getD word p 0) places
+
+-- "Extract: the k data bytes of any word of n bytes"
+unfoldable pub extractOf : ℕ → ℕ → ℕ → List ℕ → List ℕ
+extractOf m w c word = bytesAt word (dataPlaces m w c)
+
+-- r places from p on, with 0 at a check and the next byte at each other
+unfoldable pub spreadFrom : (ℕ → Bool) → ℕ → ℕ → List ℕ → List ℕ
+spreadFrom check p zero bytes = []
+spreadFrom check p (suc r) bytes =
+    cond (check p) (0 ∷ spreadFrom check (suc p) r bytes) (getD bytes 0 0 ∷ spreadFrom check (suc p) r (drop 1 bytes))
+
+-- the word with these bytes in its data places and 0 in its check places
+unfoldable pub placedOf : ℕ → ℕ → ℕ → List ℕ → List ℕ
+placedOf m w c bytes = spreadFrom (isCheck m w c) 0 (placeCount m w) bytes
+
+-- "1 for lost and 0 for present"
+abbrev pub mark : Bool → ℕ
+mark true = 1
+mark false = 0
+
+-- the marks of r places from p on, with the checks lost
+unfoldable pub marksFrom : (ℕ → Bool) → ℕ → ℕ → List ℕ
+marksFrom check p zero = []
+marksFrom check p (suc r) = mark (check p) ∷ marksFrom check (suc p) r
+
+-- the marks of a word that has lost its check places
+unfoldable pub checkMarks : ℕ → ℕ → ℕ → List ℕ
+checkMarks m w c = marksFrom (isCheck m w c) 0 (placeCount m w)
+
+-- what Extract answers
+unfoldable pub extractedOf : ℕ → ℕ → ℕ → List ℕ → List ℕ → Answer
+extractedOf m w c word bytes = answerAt (bufferRefusal m w c (length word) (length bytes))
+
+-- the data buffer at the end
+unfoldable pub extractedData : ℕ → ℕ → ℕ → List ℕ → List ℕ → List ℕ
+extractedData m w c word bytes = unlessRefused (bufferRefusal m w c (length word) (length bytes)) (extractOf m w c word) bytes
+
+-- the word buffer after place, and the marks after mark_checks
+unfoldable pub placedWord : ℕ → ℕ → ℕ → List ℕ → List ℕ → List ℕ
+placedWord m w c bytes word = unlessRefused (bufferRefusal m w c (length word) (length bytes)) (placedOf m w c bytes) word
+
+unfoldable pub markedChecks : ℕ → ℕ → ℕ → List ℕ → List ℕ
+markedChecks m w c marks = unlessRefused (wordRefusal m w c (length marks)) (checkMarks m w c) marks

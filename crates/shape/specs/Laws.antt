@@ -1,0 +1,172 @@
+-- The laws of a shape, by which whoever uses one goes.
+use mathlib.Core.Path.{_≡_, refl, ap}
+use mathlib.Core.Logic.{_↔_}
+use mathlib.Core.Bool.{Bool, true, false, _||_}
+use mathlib.Core.List.{[], _∷_}
+use Prim.Native.Nat.{ℕ, zero, suc, _+_, _*_, _≤_}
+use native.Mathlib.Nat.{mul-sub, mul-comm, mul-le-mul, mul-le-mul-left}
+use native.Mathlib.Omega.{arith}
+use borrow.Author.Tests.{eqb-true, eqb-false, ltb-false, not-false, eq-eqb, ne-eqb, le-ltb}
+use Rattle.shape.specs.declared.Shape.{Shape}
+use Rattle.shape.specs.declared.Made.{Made}
+use Rattle.shape.specs.Refusals.{refuse-zero, orElse-zero}
+use Rattle.shape.specs.Shapes.{Good, placeCount, dataCount, shapeRefusal, wordRefusal, bufferRefusal, madeOf, madeAt, madeNumber, describedOf, describedNumber, describedFigures}
+
+or-none : (a b : Bool) → (a || b) ≡ false → (a ≡ false) × (b ≡ false)
+or-none true true e = (e, e)
+or-none true false e = (e, refl)
+or-none false b e = (refl, e)
+
+module _ (m w c : ℕ) where
+  pub good-of-refusal : shapeRefusal m w c ≡ 0 → Good m w c
+  unfolding shapeRefusal
+  good-of-refusal e =
+      let e₁ = orElse-zero _ _ e in
+      let e₂ = orElse-zero _ _ (e₁ .1) in
+      let e₃ = orElse-zero _ _ (e₂ .1) in
+      let t₁ = or-none _ _ (refuse-zero 0 _ (e₁ .0)) in
+      let t₂ = or-none _ _ (refuse-zero 1 _ (e₂ .0)) in
+      let t₃ = or-none _ _ (refuse-zero 2 _ (e₃ .0)) in
+      let a₁ = eqb-false m 0 (t₁ .0) in
+      let b₁ = ltb-false 15 m (t₁ .1) in
+      let a₂ = eqb-false c 0 (t₂ .0) in
+      let b₂ = ltb-false 4 c (t₂ .1) in
+      let a₃ = ltb-false w (c + 2) (t₃ .0) in
+      let b₃ = ltb-false 16 w (t₃ .1) in
+      let a₄ = eqb-false (dataCount m w c) 0 (refuse-zero 3 _ (e₃ .1)) in
+      record {
+        some = omega arith;
+        few = omega arith;
+        checked = omega arith;
+        few-checks = omega arith;
+        wide = omega arith;
+        narrow = omega arith;
+        room = omega arith;
+      }
+
+  pub refusal-of-good : Good m w c → shapeRefusal m w c ≡ 0
+  unfolding shapeRefusal
+  refusal-of-good g =
+      simp (
+        ne-eqb m 0 (omega arith),
+        le-ltb 15 m (omega arith),
+        ne-eqb c 0 (omega arith),
+        le-ltb 4 c (omega arith),
+        le-ltb w (c + 2) (omega arith),
+        le-ltb 16 w (omega arith),
+        ne-eqb (dataCount m w c) 0 (omega arith),
+      )
+
+  pub refusal-iff : (shapeRefusal m w c ≡ 0) ↔ Good m w c
+  refusal-iff = (good-of-refusal, refusal-of-good)
+
+-- s is the good shape of m, w and c
+pub record Shaped (s : Shape) (m w c : ℕ) : Type 0 where
+  pub groups : s .m ≡ m
+  pub width : s .w ≡ w
+  pub checks : s .c ≡ c
+  pub good : Good m w c
+
+-- r is the number of the shape's refusal
+pub record Unshaped (r m w c : ℕ) : Type 0 where
+  pub less : ℕ
+  pub number : r ≡ suc less
+  pub refusal : shapeRefusal m w c ≡ suc less
+
+module _ (m w c : ℕ) where
+  pub made-of-good : Good m w c → madeOf m w c ≡ Made.Good (record { m = m; w = w; c = c })
+  unfolding madeOf
+  made-of-good g = rw (refusal-of-good m w c g)
+
+  pub made-number : madeNumber (madeOf m w c) ≡ shapeRefusal m w c
+  unfolding madeOf
+  made-number = go (shapeRefusal m w c)
+    where
+      go : (r : ℕ) → madeNumber (madeAt r (record { m = m; w = w; c = c })) ≡ r
+      go zero = refl
+      go (suc r) = refl
+
+  pub shaped : (s : Shape) → madeOf m w c ≡ Made.Good s → Shaped s m w c
+  unfolding madeOf
+  shaped s = go (shapeRefusal m w c) refl
+    where
+      go : (r : ℕ) → shapeRefusal m w c ≡ r → madeAt r (record { m = m; w = w; c = c }) ≡ Made.Good s → Shaped s m w c
+      go zero e h =
+          let q : s ≡ record { m = m; w = w; c = c } = cc in
+          record { groups = ap (λ t. t .m) q; width = ap (λ t. t .w) q; checks = ap (λ t. t .c) q; good = good-of-refusal m w c e }
+      go (suc r) e h = let z : _≡_ {A = ℕ} 0 1 = cc in absurd (omega arith)
+
+  pub unshaped : (r : ℕ) → madeOf m w c ≡ Made.Refused r → Unshaped r m w c
+  unfolding madeOf
+  unshaped r = go (shapeRefusal m w c) refl
+    where
+      go : (p : ℕ) → shapeRefusal m w c ≡ p → madeAt p (record { m = m; w = w; c = c }) ≡ Made.Refused r → Unshaped r m w c
+      go zero e h = let z : _≡_ {A = ℕ} 0 1 = cc in absurd (omega arith)
+      go (suc p) e h = record { less = p; number = cc; refusal = e }
+
+module _ {m w c : ℕ} (g : Good m w c) where
+  -- "A word has n = m·w bytes, at most 240"
+  pub places-most : placeCount m w ≤ 240
+  places-most = mul-le-mul (g .few) (g .narrow)
+
+  pub data-some : 1 ≤ dataCount m w c
+  data-some = omega arith
+
+  -- all places: data, the local checks, and the two across
+  pub data-and-checks : dataCount m w c + c * m + 2 ≡ placeCount m w
+  data-and-checks =
+      let l : m * c ≤ m * w = mul-le-mul-left m (omega arith) in
+      omega (arith, mul-sub m w c, mul-comm c m)
+
+-- lent lengths
+module _ (m w c : ℕ) where
+  pub good-of-word : (n : ℕ) → wordRefusal m w c n ≡ 0 → Good m w c × (n ≡ placeCount m w)
+  unfolding wordRefusal
+  good-of-word n e =
+      let z = orElse-zero _ _ e in
+      (good-of-refusal m w c (z .0), eqb-true _ _ (not-false _ (refuse-zero 4 _ (z .1))))
+
+  pub word-of-good : (n : ℕ) → Good m w c → n ≡ placeCount m w → wordRefusal m w c n ≡ 0
+  unfolding wordRefusal
+  word-of-good n g e = simp (refusal-of-good m w c g, eq-eqb n (placeCount m w) e)
+
+  pub word-length : (n : ℕ) → Good m w c → (n ≡ placeCount m w → ⊥) → wordRefusal m w c n ≡ 5
+  unfolding wordRefusal
+  word-length n g e = simp (refusal-of-good m w c g, ne-eqb n (placeCount m w) e)
+
+  pub word-unshaped : (n r : ℕ) → Unshaped r m w c → wordRefusal m w c n ≡ r
+  unfolding wordRefusal
+  word-unshaped n r u = simp (u .refusal, u .number)
+
+  pub good-of-buffers : (n k : ℕ) → bufferRefusal m w c n k ≡ 0 → Good m w c × (n ≡ placeCount m w) × (k ≡ dataCount m w c)
+  unfolding bufferRefusal
+  good-of-buffers n k e =
+      let z = orElse-zero _ _ e in
+      let g = good-of-word n (z .0) in
+      (g .0, g .1, eqb-true _ _ (not-false _ (refuse-zero 4 _ (z .1))))
+
+  pub buffers-of-good : (n k : ℕ) → Good m w c → n ≡ placeCount m w → k ≡ dataCount m w c → bufferRefusal m w c n k ≡ 0
+  unfolding bufferRefusal
+  buffers-of-good n k g e f = simp (word-of-good n g e, eq-eqb k (dataCount m w c) f)
+
+  pub buffers-word-length : (n k : ℕ) → Good m w c → (n ≡ placeCount m w → ⊥) → bufferRefusal m w c n k ≡ 5
+  unfolding bufferRefusal
+  buffers-word-length n k g e = simp (word-length n g e)
+
+  pub buffers-data-length : (n k : ℕ) → Good m w c → n ≡ placeCount m w → (k ≡ dataCount m w c → ⊥) → bufferRefusal m w c n k ≡ 5
+  unfolding bufferRefusal
+  buffers-data-length n k g e f = simp (word-of-good n g e, ne-eqb k (dataCount m w c) f)
+
+  pub buffers-unshaped : (n k r : ℕ) → Unshaped r m w c → bufferRefusal m w c n k ≡ r
+  unfolding bufferRefusal
+  buffers-unshaped n k r u = simp (word-unshaped n r u, u .number)
+
+-- "Shape m 2, w 3, c 1: n 6, k 2."
+pub figures-2-3-1 : describedFigures (describedOf 2 3 1) ≡ 6 ∷ 2 ∷ 3 ∷ []
+unfolding describedOf shapeRefusal
+figures-2-3-1 = refl
+
+-- "m 1, w 3, c 1: refused 4."
+pub number-1-3-1 : describedNumber (describedOf 1 3 1) ≡ 4
+unfolding describedOf shapeRefusal
+number-1-3-1 = refl

@@ -1,0 +1,83 @@
+use mathlib.Core.Path.{_≡_, sym, _∙_}
+use Prim.Native.Nat.{ℕ, _-_, _<_, _≤_}
+use native.Mathlib.Omega.{arith}
+use borrow.Author.Count.{below-none, below-more}
+use borrow.Author.Needs.{needs}
+use lib.Ieee.Bits.{is-true}
+use lib.ListN.{length}
+use Rattle.code.specs.Edition.{bytes}
+use Rattle.code.specs.Word.{localSum, local-zero, zero-local}
+use Rattle.syndrome.specs.Parts.{is-false, power-group}
+use Rattle.syndrome.proofs.local_zero.Statement.{statement}
+use Rattle.syndrome.proofs.local_zero.Tie as tie
+
+abbrev Inv-loop : tie.InvT-loop
+Inv-loop part c e₀ e = (e ≤ c) × (length part ≤ 16 → (k : ℕ) → k < e → localSum bytes (length part) part 0 k ≡ 0)
+
+abbrev μ-loop : tie.MeasureT-loop
+μ-loop part c e₀ e = c - e
+
+returns : tie.Need-returns Inv-loop μ-loop
+returns c = λ _ few. absurd (omega arith)
+
+loop-holds : tie.Need-loop-holds Inv-loop μ-loop
+loop-holds c = (omega arith, λ _. below-none _)
+
+power-row-requires : tie.Need-power-row-requires Inv-loop μ-loop
+power-row-requires c κs = search needs
+
+slice-aggregate-dot : tie.Need-slice-aggregate-dot Inv-loop μ-loop
+slice-aggregate-dot c = search needs
+
+dot-requires : tie.Need-dot-requires Inv-loop μ-loop
+dot-requires c κs = search needs
+
+returns-2 : tie.Need-returns-2 Inv-loop μ-loop
+returns-2 c =
+    let s = c .before .before .before .before .before in
+    let a = s .before .before .before .args in
+    let p = a .part .now in
+    λ narrow few.
+    let z = power-group p narrow (s .loop .e) (omega arith) in
+    let e : c .before .dot .result ≡ localSum bytes (length p) p 0 (s .loop .e) = cc in
+    sym (is-false _ (λ t. c .if2 .taken (e ∙ local-zero bytes (length p) (a .c) p 0 t (s .loop .e) (omega arith))))
+
+add-e : tie.Need-add-e Inv-loop μ-loop
+add-e c = omega arith
+
+loop-less : tie.Need-loop-less Inv-loop μ-loop
+loop-less c = omega arith
+
+loop-again : tie.Need-loop-again Inv-loop μ-loop
+loop-again c =
+    let s = c .before .before .before .before .before in
+    let p = s .before .before .before .args .part .now in (
+      omega arith,
+      λ narrow.
+          let z = power-group p narrow (s .loop .e) (omega arith) in
+          below-more (λ k. localSum bytes (length p) p 0 k ≡ 0) (s .loop .e) (s .loop .inv .1 narrow) (cc),
+    )
+
+returns-3 : tie.Need-returns-3 Inv-loop μ-loop
+returns-3 c =
+    let s = c .before in
+    let a = s .before .before .before .args in
+    let p = a .part .now in
+    λ narrow _. sym (is-true _ (zero-local bytes (length p) (a .c) p 0 (λ k l. s .loop .inv .1 narrow k (omega arith))))
+
+pub local-zero-spec : {M : Type 1} → statement M
+local-zero-spec =
+    tie.close
+    (tie.spec
+    Inv-loop
+    μ-loop
+    returns
+    loop-holds
+    power-row-requires
+    slice-aggregate-dot
+    dot-requires
+    returns-2
+    add-e
+    loop-less
+    loop-again
+    returns-3)

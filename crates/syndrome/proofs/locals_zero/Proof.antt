@@ -1,0 +1,113 @@
+use mathlib.Core.Path.{_≡_, refl, sym, _∙_, subst}
+use mathlib.Core.Bool.{true, false}
+use Prim.Native.Nat.{ℕ, _-_, _<_, _≤_}
+use native.Mathlib.Omega.{arith}
+use borrow.Author.Count.{below-none, below-more}
+use borrow.Author.Needs.{needs}
+use borrow.Author.Tests.{not-true, not-false}
+use lib.Dec.{T}
+use lib.Ieee.Bits.{is-true}
+use lib.ListN.{length}
+use Rattle.counting.specs.Test.{all-at, all-intro}
+use Rattle.shape.specs.Laws.{word-of-good}
+use Rattle.code.specs.Edition.{bytes}
+use Rattle.code.specs.Word.{isLocal}
+use Rattle.groups.specs.Lent.{Lent, lent, end-fits, part-narrow}
+use Rattle.syndrome.specs.Parts.{is-false, part-local}
+use Rattle.syndrome.proofs.locals_zero.Statement.{statement}
+use Rattle.syndrome.proofs.locals_zero.Tie as tie
+
+abbrev Inv-loop : tie.InvT-loop
+Inv-loop m w c word g₀ g = Lent m w c word × (g ≤ m) × ((k : ℕ) → k < g → T (isLocal bytes w c word k))
+
+abbrev μ-loop : tie.MeasureT-loop
+μ-loop m w c word g₀ g = m - g
+
+word-refusal-requires : tie.Need-word-refusal-requires Inv-loop μ-loop
+word-refusal-requires c κs = search needs
+
+returns : tie.Need-returns Inv-loop μ-loop
+returns c =
+    let a = c .before .before .before .args in
+    λ good size. absurd (c .if1 .taken (c .before .word-refusal .ensures ∙ word-of-good (a .m) (a .w) (a .c) (length (a .word .now)) good size))
+
+loop-holds : tie.Need-loop-holds Inv-loop μ-loop
+loop-holds c =
+    let a = c .before .before .before .args in
+    (lent (a .m) (a .w) (a .c) (a .word .now) (sym (c .before .word-refusal .ensures) ∙ c .if1 .left), omega arith, below-none _)
+
+mul-a : tie.Need-mul-a Inv-loop μ-loop
+mul-a c = omega (arith, end-fits (c .before .loop .inv .0) (c .before .loop .g) (c .loop-test .taken))
+
+add-e : tie.Need-add-e Inv-loop μ-loop
+add-e c = omega (arith, end-fits (c .before .loop .inv .0) (c .before .loop .g) (c .loop-test .taken))
+
+sub-local-zero : tie.Need-sub-local-zero Inv-loop μ-loop
+sub-local-zero c = search needs
+
+part-local-zero-start : tie.Need-part-local-zero-start Inv-loop μ-loop
+part-local-zero-start c = search needs
+
+part-local-zero-end : tie.Need-part-local-zero-end Inv-loop μ-loop
+part-local-zero-end c = omega (arith, end-fits (c .before .loop .inv .0) (c .before .loop .g) (c .loop-test .taken))
+
+local-zero-requires : tie.Need-local-zero-requires Inv-loop μ-loop
+local-zero-requires c κs = search needs
+
+-- what was tested is the group's own equations
+tested : (c : tie.After-local-zero Inv-loop μ-loop)
+    → c .local-zero .result ≡ isLocal bytes (c .before .before .before .before .before .before .before .args .w) (c .before .before .before .before .before .before .before .args .c)
+    (c .before .before .before .before .before .before .before .args .word .now) (c .before .before .before .loop .g)
+tested c =
+    let t = c .before .before in
+    let s = t .before in
+    let L = s .loop .inv .0 in
+    let n = part-narrow L (s .loop .g) (t .loop-test .taken) refl in
+    c .local-zero .ensures n (L .good .few-checks) ∙ part-local L (s .loop .g) (t .loop-test .taken) refl
+
+returns-2 : tie.Need-returns-2 Inv-loop μ-loop
+returns-2 c =
+    let s = c .before .before .before .before in
+    let a = s .before .before .before .before .args in
+    let e : isLocal bytes (a .w) (a .c) (a .word .now) (s .loop .g) ≡ false = sym (tested (c .before)) ∙ not-true _ (c .if2 .taken) in
+    λ _ _. sym (is-false _ (λ t. subst T e (all-at (a .m) (isLocal bytes (a .w) (a .c) (a .word .now)) t (s .loop .g) (omega arith))))
+
+add-g : tie.Need-add-g Inv-loop μ-loop
+add-g c = omega arith
+
+loop-less : tie.Need-loop-less Inv-loop μ-loop
+loop-less c = omega arith
+
+loop-again : tie.Need-loop-again Inv-loop μ-loop
+loop-again c =
+    let s = c .before .before .before .before in
+    let a = s .before .before .before .before .args in
+    let e : true ≡ isLocal bytes (a .w) (a .c) (a .word .now) (s .loop .g) = sym (not-false _ (c .if2 .left)) ∙ tested (c .before) in
+    (s .loop .inv .0, omega arith, below-more (λ k. T (isLocal bytes (a .w) (a .c) (a .word .now) k)) (s .loop .g) (s .loop .inv .2) (subst T e tt))
+
+returns-3 : tie.Need-returns-3 Inv-loop μ-loop
+returns-3 c =
+    let s = c .before in
+    let a = s .before .before .before .before .args in
+    λ _ _. sym (is-true _ (all-intro (a .m) (isLocal bytes (a .w) (a .c) (a .word .now)) (λ k l. s .loop .inv .2 k (omega arith))))
+
+pub locals-zero-spec : {M : Type 1} → statement M
+locals-zero-spec =
+    tie.close
+    (tie.spec
+    Inv-loop
+    μ-loop
+    word-refusal-requires
+    returns
+    loop-holds
+    mul-a
+    add-e
+    sub-local-zero
+    part-local-zero-start
+    part-local-zero-end
+    local-zero-requires
+    returns-2
+    add-g
+    loop-less
+    loop-again
+    returns-3)

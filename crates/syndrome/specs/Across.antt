@@ -1,0 +1,9 @@
+-- The two sums across, as one value.
+use mathlib.Core.List.{List}
+use Prim.Native.Nat.{ℕ}
+use Rattle.code.specs.Edition.{bytes}
+use Rattle.code.specs.Word.{firstAcross, secondAcross}
+use Rattle.syndrome.specs.declared.Sums.{Sums}
+
+abbrev pub acrossOf : ℕ → ℕ → ℕ → List ℕ → Sums
+acrossOf m w c word = record { first = firstAcross bytes m w c word; second = secondAcross bytes m w c word }

@@ -1,0 +1,29 @@
+// The service Check.
+ghost use mathlib.Core.Path.{_≡_};
+ghost use lib.ListN.{length};
+ghost use Rattle.shape.specs.Shapes.{wordRefusal};
+ghost use Rattle.word_check.specs.Answer.{checkedOf, checkedNumber, checkedFigures, figuresOf};
+
+// Whether the word is a codeword, or the number of a refusal.
+pub enum Checked {
+    Codeword,
+    Other,
+    Refused(u8),
+}
+
+// Whether a word is a codeword of the shape.
+pub fn check(m: usize, w: usize, c: usize, word: &[u8]) -> Checked
+    ensures answer { λ r. ⌜ r ≡ checkedOf m w c (now (word .entry)) ⌝ }
+    ensures number { λ r. ⌜ checkedNumber r ≡ wordRefusal m w c (length (now (word .entry))) ⌝ }
+    ensures figures { λ r. ⌜ checkedFigures r ≡ figuresOf m w c (now (word .entry)) ⌝ }
+{
+    let r = shape::word_refusal(m, w, c, word.len());
+    if r != 0 {
+        return Checked::Refused(r);
+    }
+    if syndrome::is_codeword(m, w, c, word) {
+        Checked::Codeword
+    } else {
+        Checked::Other
+    }
+}

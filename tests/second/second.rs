@@ -1,0 +1,686 @@
+//! Second program: an independent reference written from the requirements
+//! paper alone. It takes the plainest way everywhere: products by shifts,
+//! every equation written out, Gaussian elimination over the full set.
+
+use std::io::{self, ErrorKind, Read, Write};
+
+// ---------------------------------------------------------------- the field
+
+/// The sixteen locators in place order, as the paper lists them.
+pub const LOCATORS: [u8; 16] = [
+    1, 152, 78, 10, 153, 214, 68, 147, 79, 146, 215, 220, 221, 69, 11, 0,
+];
+
+/// Multiply by 2: shift left, and reduce by 285 if bit 8 is set.
+pub fn double(x: u8) -> u8 {
+    let shifted = (x as u16) << 1;
+    if shifted & 256 != 0 {
+        (shifted ^ 285) as u8
+    } else {
+        shifted as u8
+    }
+}
+
+/// Product: the sum over the set bits of x of y times that power of two.
+pub fn mul(x: u8, y: u8) -> u8 {
+    let mut sum = 0;
+    let mut term = y;
+    for bit in 0..8 {
+        if (x >> bit) & 1 == 1 {
+            sum ^= term;
+        }
+        term = double(term);
+    }
+    sum
+}
+
+/// Power by repeated product; the power 0 is 1 for every x, 0 included.
+pub fn pow(x: u8, exponent: u64) -> u8 {
+    let mut product = 1;
+    for _ in 0..exponent {
+        product = mul(product, x);
+    }
+    product
+}
+
+/// Inverse of a nonzero byte, by search.
+pub fn inverse(x: u8) -> u8 {
+    for y in 1..=255 {
+        if mul(x, y) == 1 {
+            return y;
+        }
+    }
+    panic!("0 has no inverse")
+}
+
+// ---------------------------------------------------------------- the shape
+
+/// Describe: n, k and the sure count, or 1 to 4.
+pub fn describe(m: u64, w: u64, c: u64) -> Result<(u64, u64, u64), u8> {
+    if m == 0 || m > 15 {
+        return Err(1);
+    }
+    if c == 0 || c > 4 {
+        return Err(2);
+    }
+    if w < c + 2 || w > 16 {
+        return Err(3);
+    }
+    let k = m * (w - c) - 2;
+    if k == 0 {
+        return Err(4);
+    }
+    Ok((m * w, k, c + 2))
+}
+
+/// Whether place p of the word is a check place (good shape).
+pub fn is_check_place(m: u64, w: u64, c: u64, p: u64) -> bool {
+    let (group, place) = (p / w, p % w);
+    place >= w - c || (group == m - 1 && place >= w - c - 2)
+}
+
+/// Coefficient of place p in equation r (good shape). Equations 0 to mc-1
+/// are the local ones, group after group; then the two across.
+fn coefficient(m: u64, w: u64, c: u64, r: u64, p: u64) -> u8 {
+    let (group, place) = (p / w, p % w);
+    let a = LOCATORS[place as usize];
+    let b = pow(a, c) ^ mul(2, pow(a, c + 1));
+    if r < m * c {
+        if r / c == group {
+            pow(a, r % c)
+        } else {
+            0
+        }
+    } else if r == m * c {
+        b
+    } else {
+        mul(pow(2, group), pow(b, 16))
+    }
+}
+
+/// All mc+2 equations, each a row of n coefficients (good shape).
+pub fn equations(m: u64, w: u64, c: u64) -> Vec<Vec<u8>> {
+    let mut rows = Vec::new();
+    for r in 0..m * c + 2 {
+        let mut row = Vec::new();
+        for p in 0..m * w {
+            row.push(coefficient(m, w, c, r, p));
+        }
+        rows.push(row);
+    }
+    rows
+}
+
+// -------------------------------------------------------------- elimination
+
+enum Solution {
+    Undetermined,
+    Contradictory,
+    Unique(Vec<u8>),
+}
+
+/// Bring the first `unknowns` columns to reduced row echelon form, carrying
+/// any further columns along; gives the rank of the first columns.
+fn reduce(rows: &mut [Vec<u8>], unknowns: usize) -> usize {
+    let mut rank = 0;
+    for column in 0..unknowns {
+        let Some(pivot) = (rank..rows.len()).find(|&r| rows[r][column] != 0) else {
+            continue;
+        };
+        rows.swap(rank, pivot);
+        let scale = inverse(rows[rank][column]);
+        for entry in rows[rank].iter_mut() {
+            *entry = mul(scale, *entry);
+        }
+        let pivot_row = rows[rank].clone();
+        for (r, row) in rows.iter_mut().enumerate() {
+            if r != rank && row[column] != 0 {
+                let factor = row[column];
+                for (entry, above) in row.iter_mut().zip(&pivot_row) {
+                    *entry ^= mul(factor, *above);
+                }
+            }
+        }
+        rank += 1;
+    }
+    rank
+}
+
+/// Augmented matrix: the columns of the lost places, then the sum over the
+/// present places. The byte in a lost place is never read.
+fn system(rows: &[Vec<u8>], word: &[u8], lost: &[bool]) -> Vec<Vec<u8>> {
+    let mut matrix = Vec::new();
+    for row in rows {
+        let mut line = Vec::new();
+        let mut sum = 0;
+        for p in 0..lost.len() {
+            if lost[p] {
+                line.push(row[p]);
+            } else {
+                sum ^= mul(row[p], word[p]);
+            }
+        }
+        line.push(sum);
+        matrix.push(line);
+    }
+    matrix
+}
+
+/// Solve the equations for the lost places. Undetermined comes first,
+/// whether or not the equations are consistent.
+fn solve(rows: &[Vec<u8>], word: &[u8], lost: &[bool]) -> Solution {
+    let unknowns = lost.iter().filter(|&&x| x).count();
+    let mut matrix = system(rows, word, lost);
+    let rank = reduce(&mut matrix, unknowns);
+    if rank < unknowns {
+        return Solution::Undetermined;
+    }
+    if matrix[rank..].iter().any(|line| line[unknowns] != 0) {
+        return Solution::Contradictory;
+    }
+    Solution::Unique(matrix[..rank].iter().map(|line| line[unknowns]).collect())
+}
+
+/// Write the found bytes into the lost places, in place order.
+fn fill(word: &mut [u8], lost: &[bool], found: &[u8]) {
+    let mut next = 0;
+    for p in 0..lost.len() {
+        if lost[p] {
+            word[p] = found[next];
+            next += 1;
+        }
+    }
+}
+
+// ----------------------------------------------------------------- services
+
+/// Encode k data bytes into a word of n bytes: 0, or 1 to 5.
+pub fn encode(m: u64, w: u64, c: u64, data: &[u8], word: &mut [u8]) -> u8 {
+    let (n, k, _) = match describe(m, w, c) {
+        Ok(figures) => figures,
+        Err(number) => return number,
+    };
+    if data.len() as u64 != k || word.len() as u64 != n {
+        return 5;
+    }
+    let unknown: Vec<bool> = (0..n).map(|p| is_check_place(m, w, c, p)).collect();
+    let mut known = vec![0; n as usize];
+    let mut next = 0;
+    for p in 0..n as usize {
+        if !unknown[p] {
+            known[p] = data[next];
+            next += 1;
+        }
+    }
+    match solve(&equations(m, w, c), &known, &unknown) {
+        Solution::Unique(found) => fill(&mut known, &unknown, &found),
+        _ => panic!("the check places are always determined"),
+    }
+    word.copy_from_slice(&known);
+    0
+}
+
+/// Extract the k data bytes of any word of n bytes: 0, or 1 to 5.
+pub fn extract(m: u64, w: u64, c: u64, word: &[u8], data: &mut [u8]) -> u8 {
+    let (n, k, _) = match describe(m, w, c) {
+        Ok(figures) => figures,
+        Err(number) => return number,
+    };
+    if word.len() as u64 != n || data.len() as u64 != k {
+        return 5;
+    }
+    let mut next = 0;
+    for p in 0..n {
+        if !is_check_place(m, w, c, p) {
+            data[next] = word[p as usize];
+            next += 1;
+        }
+    }
+    0
+}
+
+/// Check: whether every equation gives zero, or 1 to 5.
+pub fn check(m: u64, w: u64, c: u64, word: &[u8]) -> Result<bool, u8> {
+    let (n, _, _) = describe(m, w, c)?;
+    if word.len() as u64 != n {
+        return Err(5);
+    }
+    for row in equations(m, w, c) {
+        let mut sum = 0;
+        for p in 0..word.len() {
+            sum ^= mul(row[p], word[p]);
+        }
+        if sum != 0 {
+            return Ok(false);
+        }
+    }
+    Ok(true)
+}
+
+/// The lost places as flags.
+fn flags(marks: &[u8]) -> Vec<bool> {
+    marks.iter().map(|&mark| mark == 1).collect()
+}
+
+/// Judge: 0 if the columns of the lost places are independent, else 8;
+/// or 1 to 6.
+pub fn judge(m: u64, w: u64, c: u64, marks: &[u8]) -> u8 {
+    let (n, _, _) = match describe(m, w, c) {
+        Ok(figures) => figures,
+        Err(number) => return number,
+    };
+    if marks.len() as u64 != n {
+        return 5;
+    }
+    if marks.iter().any(|&mark| mark > 1) {
+        return 6;
+    }
+    let lost = flags(marks);
+    let unknowns = lost.iter().filter(|&&x| x).count();
+    let zero = vec![0; n as usize];
+    let mut matrix = system(&equations(m, w, c), &zero, &lost);
+    if reduce(&mut matrix, unknowns) < unknowns {
+        8
+    } else {
+        0
+    }
+}
+
+/// The refusals 1 to 6 shared by repair and recover; 0 if none.
+fn lent_fault(m: u64, w: u64, c: u64, word: &[u8], marks: &[u8]) -> u8 {
+    let (n, _, _) = match describe(m, w, c) {
+        Ok(figures) => figures,
+        Err(number) => return number,
+    };
+    if word.len() as u64 != n || marks.len() as u64 != n {
+        return 5;
+    }
+    if marks.iter().any(|&mark| mark > 1) {
+        return 6;
+    }
+    0
+}
+
+/// Repair group g by its own c equations: 0, or 1 to 9.
+pub fn repair(m: u64, w: u64, c: u64, g: u64, word: &mut [u8], marks: &mut [u8]) -> u8 {
+    let fault = lent_fault(m, w, c, word, marks);
+    if fault != 0 {
+        return fault;
+    }
+    if g >= m {
+        return 7;
+    }
+    let (start, end) = ((g * w) as usize, (g * w + w) as usize);
+    let mut lost = flags(marks);
+    for p in 0..lost.len() {
+        if p < start || p >= end {
+            lost[p] = false;
+        }
+    }
+    if lost.iter().filter(|&&x| x).count() as u64 > c {
+        return 8;
+    }
+    let own = &equations(m, w, c)[(g * c) as usize..(g * c + c) as usize];
+    match solve(own, word, &lost) {
+        Solution::Undetermined => panic!("at most c losses are always determined"),
+        Solution::Contradictory => 9,
+        Solution::Unique(found) => {
+            fill(word, &lost, &found);
+            marks[start..end].fill(0);
+            0
+        }
+    }
+}
+
+/// Recover the whole word by all equations: 0, or 1 to 6, 8, 9.
+pub fn recover(m: u64, w: u64, c: u64, word: &mut [u8], marks: &mut [u8]) -> u8 {
+    let fault = lent_fault(m, w, c, word, marks);
+    if fault != 0 {
+        return fault;
+    }
+    let lost = flags(marks);
+    match solve(&equations(m, w, c), word, &lost) {
+        Solution::Undetermined => 8,
+        Solution::Contradictory => 9,
+        Solution::Unique(found) => {
+            fill(word, &lost, &found);
+            marks.fill(0);
+            0
+        }
+    }
+}
+
+/// The excess of n marks of a good shape: per group the lost count less c,
+/// not below 0, summed over the groups.
+pub fn excess(m: u64, w: u64, c: u64, marks: &[u8]) -> u64 {
+    let mut sum = 0;
+    for g in 0..m {
+        let stretch = &marks[(g * w) as usize..(g * w + w) as usize];
+        let lost = stretch.iter().filter(|&&mark| mark == 1).count() as u64;
+        if lost > c {
+            sum += lost - c;
+        }
+    }
+    sum
+}
+
+// ----------------------------------------------------------------- the desk
+
+pub const LAST_T: u64 = 65_535;
+pub const LAST_SERVED: u64 = 4_294_967_295;
+
+/// One slot of the desk; `taken` is 0 for free and 1 for taken.
+#[derive(Clone, Copy, Debug, PartialEq, Eq)]
+pub struct Job {
+    pub taken: u64,
+    pub m: u64,
+    pub w: u64,
+    pub c: u64,
+    pub handle: u64,
+    pub served: u64,
+    pub marks: [u8; 240],
+}
+
+/// The desk: the count t of handles issued and eight slots.
+#[derive(Clone, Copy, Debug, PartialEq, Eq)]
+pub struct Desk {
+    pub t: u64,
+    pub jobs: [Job; 8],
+}
+
+/// A free slot with every field zero.
+pub const FREE: Job = Job {
+    taken: 0,
+    m: 0,
+    w: 0,
+    c: 0,
+    handle: 0,
+    served: 0,
+    marks: [0; 240],
+};
+
+/// The desk with t 0 and all slots free.
+pub fn fresh() -> Desk {
+    Desk { t: 0, jobs: [FREE; 8] }
+}
+
+/// Whether a taken job is sound in slot s of a desk with count t.
+fn sound_job(job: &Job, s: u64, t: u64) -> bool {
+    let (n, _, _) = match describe(job.m, job.w, job.c) {
+        Ok(figures) => figures,
+        Err(_) => return false,
+    };
+    let marks = &job.marks[..n as usize];
+    if marks.iter().any(|&mark| mark > 1) {
+        return false;
+    }
+    if excess(job.m, job.w, job.c, marks) > 2 {
+        return false;
+    }
+    let u = job.handle / 8;
+    job.handle % 8 == s && u >= 1 && u <= t
+}
+
+/// Whether the desk is sound. Free slots and marks past n do not matter.
+pub fn sound(desk: &Desk) -> bool {
+    if desk.t > LAST_T {
+        return false;
+    }
+    let mut issues: Vec<u64> = Vec::new();
+    for s in 0..8 {
+        let job = &desk.jobs[s];
+        if job.taken == 0 {
+            continue;
+        }
+        if job.taken != 1 || !sound_job(job, s as u64, desk.t) {
+            return false;
+        }
+        if issues.contains(&(job.handle / 8)) {
+            return false;
+        }
+        issues.push(job.handle / 8);
+    }
+    true
+}
+
+/// The taken slot that holds the handle.
+fn find(desk: &Desk, handle: u64) -> Option<usize> {
+    (0..8).find(|&s| desk.jobs[s].taken == 1 && desk.jobs[s].handle == handle)
+}
+
+/// Open: the handle, or 31, then 1 to 6, 8, 10, 11.
+pub fn open(desk: &mut Desk, m: u64, w: u64, c: u64, marks: &[u8]) -> Result<u64, u8> {
+    if !sound(desk) {
+        return Err(31);
+    }
+    let number = judge(m, w, c, marks);
+    if number != 0 {
+        return Err(number);
+    }
+    if desk.t == LAST_T {
+        return Err(10);
+    }
+    let Some(s) = (0..8).find(|&s| desk.jobs[s].taken == 0) else {
+        return Err(11);
+    };
+    desk.t += 1;
+    let handle = 8 * desk.t + s as u64;
+    let mut job = Job { taken: 1, m, w, c, handle, ..FREE };
+    job.marks[..marks.len()].copy_from_slice(marks);
+    desk.jobs[s] = job;
+    Ok(handle)
+}
+
+/// Serve: recover the word by the job's marks, which stay; 0, or 31, 12, 5,
+/// 13, 9.
+pub fn serve(desk: &mut Desk, handle: u64, word: &mut [u8]) -> u8 {
+    if !sound(desk) {
+        return 31;
+    }
+    let Some(s) = find(desk, handle) else {
+        return 12;
+    };
+    let job = &mut desk.jobs[s];
+    let n = job.m * job.w;
+    if word.len() as u64 != n {
+        return 5;
+    }
+    if job.served >= LAST_SERVED {
+        return 13;
+    }
+    let mut marks = job.marks[..n as usize].to_vec();
+    let number = recover(job.m, job.w, job.c, word, &mut marks);
+    if number == 0 {
+        job.served += 1;
+    }
+    number
+}
+
+/// Read the served count, or 31, 12.
+pub fn read(desk: &Desk, handle: u64) -> Result<u64, u8> {
+    if !sound(desk) {
+        return Err(31);
+    }
+    match find(desk, handle) {
+        Some(s) => Ok(desk.jobs[s].served),
+        None => Err(12),
+    }
+}
+
+/// Close: free the slot and zero its fields; 0, or 31, 12.
+pub fn close(desk: &mut Desk, handle: u64) -> u8 {
+    if !sound(desk) {
+        return 31;
+    }
+    match find(desk, handle) {
+        Some(s) => {
+            desk.jobs[s] = FREE;
+            0
+        }
+        None => 12,
+    }
+}
+
+// --------------------------------------------------------------- text lines
+
+/// Most bytes of a line before its line feed.
+pub const LONGEST: usize = 1024;
+
+/// The shape in force, as m, w, c.
+pub type Shape = (u64, u64, u64);
+
+/// A number from 0 to 255 without sign or leading zero.
+fn number(field: &[u8]) -> Option<u8> {
+    if field.is_empty() || field.len() > 3 {
+        return None;
+    }
+    if field.len() > 1 && field[0] == b'0' {
+        return None;
+    }
+    let mut value: u32 = 0;
+    for &digit in field {
+        if !digit.is_ascii_digit() {
+            return None;
+        }
+        value = 10 * value + (digit - b'0') as u32;
+    }
+    if value <= 255 {
+        Some(value as u8)
+    } else {
+        None
+    }
+}
+
+/// All fields as numbers, or None if one is bad.
+fn numbers(fields: &[&[u8]]) -> Option<Vec<u8>> {
+    fields.iter().map(|field| number(field)).collect()
+}
+
+/// All fields as bytes and marks, where - is a lost place.
+fn bytes_and_marks(fields: &[&[u8]]) -> Option<(Vec<u8>, Vec<u8>)> {
+    let (mut bytes, mut marks) = (Vec::new(), Vec::new());
+    for &field in fields {
+        if field == b"-" {
+            bytes.push(0);
+            marks.push(1);
+        } else {
+            bytes.push(number(field)?);
+            marks.push(0);
+        }
+    }
+    Some((bytes, marks))
+}
+
+fn refused(number: u8) -> Vec<u8> {
+    format!("refused\t{number}").into_bytes()
+}
+
+fn word_line(word: &[u8]) -> Vec<u8> {
+    let mut text = String::from("word");
+    for byte in word {
+        text.push_str(&format!("\t{byte}"));
+    }
+    text.into_bytes()
+}
+
+/// Answer to a shape record and the shape then in force.
+fn shape_record(state: Option<Shape>, fields: &[&[u8]]) -> (Vec<u8>, Option<Shape>) {
+    let Some(values) = numbers(fields) else {
+        return (refused(14), state);
+    };
+    if values.len() != 3 {
+        return (refused(14), state);
+    }
+    let (m, w, c) = (values[0] as u64, values[1] as u64, values[2] as u64);
+    match describe(m, w, c) {
+        Ok((n, k, _)) => (format!("ok\t{n}\t{k}").into_bytes(), Some((m, w, c))),
+        Err(number) => (refused(number), state),
+    }
+}
+
+/// Answer to a data record.
+fn data_record(state: Option<Shape>, fields: &[&[u8]]) -> Vec<u8> {
+    let Some(data) = numbers(fields) else {
+        return refused(14);
+    };
+    let Some((m, w, c)) = state else {
+        return refused(15);
+    };
+    let n = match describe(m, w, c) {
+        Ok((n, _, _)) => n,
+        Err(number) => return refused(number),
+    };
+    let mut word = vec![0; n as usize];
+    match encode(m, w, c, &data, &mut word) {
+        0 => word_line(&word),
+        number => refused(number),
+    }
+}
+
+/// Answer to a word record.
+fn word_record(state: Option<Shape>, fields: &[&[u8]]) -> Vec<u8> {
+    let Some((mut word, mut marks)) = bytes_and_marks(fields) else {
+        return refused(14);
+    };
+    let Some((m, w, c)) = state else {
+        return refused(15);
+    };
+    match recover(m, w, c, &mut word, &mut marks) {
+        0 => word_line(&word),
+        number => refused(number),
+    }
+}
+
+/// One input line (without its line feed) to one output line (without its
+/// line feed) and the shape then in force.
+pub fn line(state: Option<Shape>, line: &[u8]) -> (Vec<u8>, Option<Shape>) {
+    if line.is_empty() || line.len() > LONGEST {
+        return (refused(14), state);
+    }
+    let fields: Vec<&[u8]> = line.split(|&byte| byte == b'\t').collect();
+    match fields[0] {
+        b"shape" => shape_record(state, &fields[1..]),
+        b"data" => (data_record(state, &fields[1..]), state),
+        b"word" => (word_record(state, &fields[1..]), state),
+        _ => (refused(14), state),
+    }
+}
+
+/// Answer one kept line with a line feed.
+fn answer(output: &mut impl Write, state: &mut Option<Shape>, kept: &[u8]) -> io::Result<()> {
+    let (mut text, next) = line(*state, kept);
+    *state = next;
+    text.push(b'\n');
+    output.write_all(&text)
+}
+
+/// A whole session. Of a line no more than 1,025 bytes are kept, which is
+/// enough to see that it is too long.
+pub fn session(mut input: impl Read, mut output: impl Write) -> io::Result<()> {
+    let mut state: Option<Shape> = None;
+    let mut kept: Vec<u8> = Vec::with_capacity(LONGEST + 1);
+    let mut chunk = [0u8; 4096];
+    loop {
+        let count = match input.read(&mut chunk) {
+            Ok(count) => count,
+            Err(error) if error.kind() == ErrorKind::Interrupted => continue,
+            Err(error) => return Err(error),
+        };
+        if count == 0 {
+            break;
+        }
+        for &byte in &chunk[..count] {
+            if byte == b'\n' {
+                answer(&mut output, &mut state, &kept)?;
+                kept.clear();
+            } else if kept.len() <= LONGEST {
+                kept.push(byte);
+            }
+        }
+        output.flush()?;
+    }
+    if !kept.is_empty() {
+        answer(&mut output, &mut state, &kept)?;
+    }
+    output.flush()
+}
