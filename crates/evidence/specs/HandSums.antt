@@ -6,6 +6,9 @@ use Rattle.binary_field.specs.Xor.{_⊕_, masked}
 use Rattle.binary_field.specs.Product.{double, bitSum, product}
 use Rattle.binary_field.specs.Power.{power}
 use Rattle.shape.specs.Shapes.{shapeRefusal, describedOf, describedNumber, describedFigures}
+use Rattle.recover.specs.Service.{recoverOf}
+use Rattle.encode.specs.Service.{encodedWord}
+use Rattle.evidence.specs.WordSums.{outcomeList, encoded-first, encoded-second, three-lost, five-lost, last-byte}
 
 -- in each pair the two are the same
 abbrev pub AllSame : List (List ℕ × List ℕ) → Type 0
@@ -22,8 +25,25 @@ handSums =
     (number (product 8 285 2 128), number 29) ∷ (number (product 8 285 152 152), number 78) ∷ (number (product 8 285 152 11), number 1) ∷
     (number (product 8 285 0 77), number 0) ∷ (number (power 8 285 3 16), number 77) ∷
     -- shape m 2, w 3, c 1: n 6, k 2 (and the sure count 3); m 1, w 3, c 1: refused 4
-    (describedFigures (describedOf 2 3 1), 6 ∷ 2 ∷ 3 ∷ []) ∷ (number (describedNumber (describedOf 1 3 1)), number 4) ∷ []
+    (describedFigures (describedOf 2 3 1), 6 ∷ 2 ∷ 3 ∷ []) ∷ (number (describedNumber (describedOf 1 3 1)), number 4) ∷
+    -- m 1, w 4, c 1, data 1: word 1, 79, 147, 221; m 2, w 3, c 1, data 1, 1: word 1, 1, 0, 78, 206, 128
+    (encodedWord 1 4 1 (1 ∷ []), 1 ∷ 79 ∷ 147 ∷ 221 ∷ []) ∷ (encodedWord 2 3 1 (1 ∷ 1 ∷ []), 1 ∷ 1 ∷ 0 ∷ 78 ∷ 206 ∷ 128 ∷ []) ∷
+    -- the number, the word and the marks. In that word the first three lost: recovered
+    (
+      outcomeList (recoverOf 2 3 1 (255 ∷ 255 ∷ 255 ∷ 78 ∷ 206 ∷ 128 ∷ []) (1 ∷ 1 ∷ 1 ∷ 0 ∷ 0 ∷ 0 ∷ [])),
+      0 ∷ 1 ∷ 1 ∷ 0 ∷ 78 ∷ 206 ∷ 128 ∷ 0 ∷ 0 ∷ 0 ∷ 0 ∷ 0 ∷ 0 ∷ [],
+    ) ∷
+    -- the first five lost: 8
+    (
+      outcomeList (recoverOf 2 3 1 (1 ∷ 1 ∷ 0 ∷ 78 ∷ 206 ∷ 128 ∷ []) (1 ∷ 1 ∷ 1 ∷ 1 ∷ 1 ∷ 0 ∷ [])),
+      8 ∷ 1 ∷ 1 ∷ 0 ∷ 78 ∷ 206 ∷ 128 ∷ 1 ∷ 1 ∷ 1 ∷ 1 ∷ 1 ∷ 0 ∷ [],
+    ) ∷
+    -- nothing lost, last byte 129: 9
+    (
+      outcomeList (recoverOf 2 3 1 (1 ∷ 1 ∷ 0 ∷ 78 ∷ 206 ∷ 129 ∷ []) (0 ∷ 0 ∷ 0 ∷ 0 ∷ 0 ∷ 0 ∷ [])),
+      9 ∷ 1 ∷ 1 ∷ 0 ∷ 78 ∷ 206 ∷ 129 ∷ 0 ∷ 0 ∷ 0 ∷ 0 ∷ 0 ∷ 0 ∷ [],
+    ) ∷ []
 
 pub hand-sums : AllSame handSums
 unfolding power product bitSum double masked _⊕_ shapeRefusal describedOf
-hand-sums = (refl, (refl, (refl, (refl, (refl, (refl, (refl, tt)))))))
+hand-sums = (refl, (refl, (refl, (refl, (refl, (refl, (refl, (encoded-first, (encoded-second, (three-lost, (five-lost, (last-byte, tt))))))))))))

@@ -1,1 +1,2 @@
+pub mod WordSums
 pub mod HandSums

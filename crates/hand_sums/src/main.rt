@@ -1,4 +1,5 @@
-// The hand sums, by the code: products by shifts and through the tables, the figures of shapes, and words that are checked and judged.
+// The hand sums, by the code: products by shifts and through the tables, the figures of shapes, and words that are checked, judged, encoded,
+// recovered and repaired.
 use libc::STDOUT_FILENO;
 
 fn number(n: u64, end: &[u8]) {
@@ -61,6 +62,56 @@ fn judge_line(marks: &[u8]) {
     }
 }
 
+fn bytes_line(bytes: &[u8]) {
+    let mut i: usize = 0;
+    while i < bytes.len() {
+        io::write_all(STDOUT_FILENO, b" ");
+        number(bytes[i] as u64, b"");
+        i += 1;
+    }
+    io::write_all(STDOUT_FILENO, b"\n");
+}
+
+fn answer_line(answer: shape::Answer, word: &[u8]) {
+    match answer {
+        shape::Answer::Done => {
+            io::write_all(STDOUT_FILENO, b"done:");
+            bytes_line(word);
+        }
+        shape::Answer::Refused(r) => refused_line(r),
+    }
+}
+
+fn recover_line(word: &mut [u8], marks: &mut [u8]) {
+    let answer = recover::recover(2, 3, 1, word, marks);
+    answer_line(answer, word);
+}
+
+fn repair_line(word: &mut [u8], marks: &mut [u8]) {
+    let answer = repair::repair(2, 3, 1, 1, word, marks);
+    answer_line(answer, word);
+}
+
+fn encodings() {
+    let mut four = [0u8; 4];
+    let one = encode::encode(1, 4, 1, &[1], &mut four);
+    answer_line(one, &four);
+    let mut six = [0u8; 6];
+    let two = encode::encode(2, 3, 1, &[1, 1], &mut six);
+    answer_line(two, &six);
+    let short = encode::encode(2, 3, 1, &[1], &mut six);
+    answer_line(short, &six);
+}
+
+fn recoveries() {
+    recover_line(&mut [255, 255, 255, 78, 206, 128], &mut [1, 1, 1, 0, 0, 0]);
+    recover_line(&mut [1, 1, 0, 78, 206, 128], &mut [1, 1, 1, 1, 1, 0]);
+    recover_line(&mut [1, 1, 0, 78, 206, 129], &mut [0, 0, 0, 0, 0, 0]);
+    repair_line(&mut [1, 1, 9, 255, 206, 128], &mut [0, 0, 0, 1, 0, 0]);
+    repair_line(&mut [1, 1, 9, 255, 255, 128], &mut [0, 0, 0, 1, 1, 0]);
+    repair_line(&mut [1, 1, 9, 79, 206, 128], &mut [0, 0, 0, 0, 0, 0]);
+}
+
 fn shapes() {
     describe_line(2, 3, 1);
     describe_line(1, 3, 1);
@@ -101,4 +152,6 @@ fn main() {
     field();
     shapes();
     words();
+    encodings();
+    recoveries();
 }

@@ -1,0 +1,264 @@
+-- Laws of the steps: writes, lent stretches, a filled group and front, the unknowns, and directions with their sums across.
+use mathlib.Core.Path.{_≡_, refl, sym, ap, ap₂, _∙_, subst}
+use mathlib.Core.Bool.{false}
+use mathlib.Core.List.{List, [], _∷_, _++_}
+use Prim.Native.Nat.{ℕ, zero, suc, _+_, _-_, _*_, _/_, _%_, _^_, _≤_, _<_}
+use native.Mathlib.Nat.{suc-mul, mul-le-mul-right, div-lt-iff-lt-mul, div-add-mod', mod-lt}
+use native.Mathlib.Decide.{ℕ-discrete, decLt}
+use native.Mathlib.Omega.{arith}
+use lib.Dec.{eqb, lit<, lit≤}
+use lib.ListN.{length, getD, take, drop, set, replicate, length-set, length-replicate, getD-replicate}
+use lib.Seq.{getD-set-same, getD-set-other, getD-take, take-at, length-take-le, ext-getD}
+use Rattle.binary_field.specs.Xor.{_⊕_, ⊕-zero-r}
+use Rattle.binary_field.specs.Product.{product, product-zero}
+use Rattle.binary_field.specs.Sum.{sum-ext}
+use Rattle.code.specs.Edition.{Edition, bytes, times}
+use Rattle.code.specs.Word.{groupSum, localSum, coefficient, twisted}
+use Rattle.code.specs.Marks.{lost, lostIn}
+use Rattle.code.specs.Stretch.{stretch, withStretch, stretch-at, stretch-length, with-length, with-inside, with-before, with-after, stretch-count, place-cases}
+use Rattle.code.specs.Combined.{combined}
+use Rattle.code.specs.Lone.{lone, lone-inside, lone-before, lone-after, lone-word}
+use Rattle.shape.specs.Shapes.{Good}
+use Rattle.fill.specs.Change.{first-place}
+use Rattle.fill.specs.Filled.{Filled}
+use Rattle.erasures.specs.Whole.{KeptAll}
+use Rattle.erasures.specs.Places.{FreePlaces, freeAt}
+use Rattle.solve.specs.Elimination.{entry, eliminated}
+use Rattle.solve.specs.Solution.{OnlySolution}
+use Rattle.solve.specs.Bytes.{solution}
+use Rattle.syndrome.specs.Across.{acrossOf}
+use Rattle.syndrome.specs.declared.Sums.{Sums}
+use Rattle.candidate.specs.Steps.{GroupsFilled, Direction, Added}
+use Rattle.candidate.specs.Solved.{twoRows, pairAt, Solved, combined-length, combined-one}
+use Rattle.candidate.specs.Mended.{KeptFew}
+
+-- ---- writes
+-- past a write at i the elements are as they were
+pub rest-set : {A : Type 0} (f : ℕ → A) (xs : List A) (i : ℕ) (v d : A) → ((k : ℕ) → i ≤ k → getD xs k d ≡ f k)
+    → (k : ℕ) → i + 1 ≤ k → getD (set xs i v) k d ≡ f k
+rest-set f xs i v d h k l = getD-set-other xs i k v d (omega arith) ∙ h k (omega arith)
+
+-- ---- stretches
+-- a stretch ends within the word
+pub stretch-end : (m w g : ℕ) → g < m → g * w + w ≤ m * w
+stretch-end m w g l = subst (λ k. k ≤ m * w) (suc-mul g w) (mul-le-mul-right w l)
+
+-- sums of groups with the same symbols
+pub group-ext : (E : Edition) (w g i : ℕ) (xs ys : List ℕ) (h : ℕ → ℕ) → ((j : ℕ) → j < w → getD xs (g * w + j) 0 ≡ getD ys (i * w + j) 0)
+    → groupSum E w xs g h ≡ groupSum E w ys i h
+unfolding groupSum
+group-ext E w g i xs ys h same = sum-ext w _ _ (λ j l. ap (λ a. times E a (h j)) (same j l))
+
+-- ---- the group g filled, after those before it
+module _ (m w c g : ℕ) (good : Good m w c) (kept before xs part : List ℕ) (l : g < m) (size-xs : length xs ≡ m * w) (size-kept : length kept ≡ m * w)
+    (few : lostIn w kept g ≤ c) (F : Filled (stretch w g kept) (stretch w g xs) part) (G : GroupsFilled g w kept before xs) where
+  fits : (ys : List ℕ) → length ys ≡ m * w → suc g * w ≤ length ys
+  fits ys e = subst (λ n. suc g * w ≤ n) (sym e) (mul-le-mul-right w l)
+
+  room : suc g * w ≤ length xs
+  room = fits xs size-xs
+
+  width : length (stretch w g xs) ≡ w
+  width = stretch-length w g xs room
+
+  part-size : length part ≡ w
+  part-size = F .size ∙ width
+
+  own-zero : (e : ℕ) → e < lostIn w kept g → localSum bytes w part 0 e ≡ 0
+  own-zero e h =
+      let n = good .narrow in
+      let f = good .few-checks in
+      let k = stretch-count w g kept in
+      subst (λ v. v ≤ 16 → length (stretch w g kept) ≡ v → lostIn v (stretch w g kept) 0 ≤ 4 → (e : ℕ) → e < lostIn v (stretch w g kept) 0 → localSum bytes v part 0 e ≡ 0)
+      width (F .zero) n (stretch-length w g kept (fits kept size-kept)) (omega arith) e (omega arith)
+
+  in-stretch : (j : ℕ) → j < w → lost kept (g * w + j) ≡ false → getD (withStretch w g xs part) (g * w + j) 0 ≡ getD before (g * w + j) 0
+  in-stretch j h e =
+      with-inside w g xs room part part-size j h ∙ F .present j (ap (λ b. eqb b 1) (stretch-at w g kept j h) ∙ e) ∙ stretch-at w g xs j h
+      ∙ G .present (g * w + j) e
+
+  present : (p : ℕ) → lost kept p ≡ false → getD (withStretch w g xs part) p 0 ≡ getD before p 0
+  present p e = elim (decLt p (g * w)) [
+    | yes h ↦ with-before w g xs room part part-size p h ∙ G .present p e
+    | no h ↦
+        elim (decLt p (suc g * w)) [
+          | yes k ↦
+              (let s = suc-mul g w in
+              let q : g * w + (p - g * w) ≡ p = omega arith in
+              let b : p - g * w < w = omega arith in
+              subst (λ n. lost kept n ≡ false → getD (withStretch w g xs part) n 0 ≡ getD before n 0) q (in-stretch (p - g * w) b) e)
+          | no k ↦ with-after w g xs room part part-size p (omega arith) ∙ G .present p e
+        ]
+  ]
+
+  sums : (i : ℕ) → i < g + 1 → (e : ℕ) → e < lostIn w kept i → localSum bytes w (withStretch w g xs part) i e ≡ 0
+  sums i b e h = elim (ℕ-discrete i g) [
+    | yes q ↦
+        subst (λ n. e < lostIn w kept n → localSum bytes w (withStretch w g xs part) n e ≡ 0) (sym q)
+        (λ k. group-ext bytes w g 0 _ part _ (λ j d. with-inside w g xs room part part-size j d ∙ ap (λ n. getD part n 0) (sym (first-place w j))) ∙ own-zero e k) h
+    | no q ↦
+        group-ext bytes w i i _ xs _
+        (λ j d. with-before w g xs room part part-size (i * w + j)
+        (let r : suc i * w ≤ g * w = mul-le-mul-right w (omega arith) in let s = suc-mul i w in omega arith)) ∙ G .zero i (omega arith) e h
+  ]
+
+  pub group-filled : GroupsFilled (g + 1) w kept before (withStretch w g xs part)
+  group-filled = record { size = with-length w g xs room part part-size ∙ G .size; present = present; zero = sums }
+
+-- ---- a front of zeros with 1 at place j, filled
+pub direction-filled : (n j : ℕ) (kept part rest : List ℕ) → length kept ≤ n → length kept ≤ 16 → j < length kept → lost kept j ≡ false
+    → lostIn (length kept) kept 0 ≤ 4 → Filled kept (take (length kept) (set (replicate n 0) j 1)) part
+    → Direction (length kept) j kept (take (length kept) (part ++ rest))
+direction-filled n j kept part rest fits narrow inside own few F =
+    subst (Direction w j kept) (sym (take-at part rest w size)) record {
+      size = size;
+      own = F .present j own ∙ getD-take w h j 0 inside ∙ getD-set-same (replicate n 0) j 1 0 (subst (λ k. j < k) (sym (length-replicate n 0)) (omega arith));
+      off = λ i l e d.
+          F .present i e ∙ getD-take w h i 0 l ∙ getD-set-other (replicate n 0) j i 1 0 d ∙ getD-replicate n i 0 0 (omega arith);
+      zero = subst (λ v. v ≤ 16 → w ≡ v → lostIn v kept 0 ≤ 4 → (e : ℕ) → e < lostIn v kept 0 → localSum bytes v part 0 e ≡ 0) width (F .zero) narrow refl few;
+    }
+  where
+    w : ℕ
+    w = length kept
+
+    h : List ℕ
+    h = set (replicate n 0) j 1
+
+    width : length (take w h) ≡ w
+    width = length-take-le w h (subst (λ k. w ≤ k) (sym (length-set (replicate n 0) j 1 ∙ length-replicate n 0)) fits)
+
+    size : length part ≡ w
+    size = F .size ∙ width
+
+-- ---- two unknowns
+row-lt : {a b s : ℕ} → a < 256 → b < 256 → s < 256 → (i : ℕ) → getD (a ∷ b ∷ 0 ∷ 0 ∷ s ∷ []) i 0 < 256
+row-lt ha hb hs zero = ha
+row-lt ha hb hs (suc zero) = hb
+row-lt ha hb hs (suc (suc zero)) = lit< tt
+row-lt ha hb hs (suc (suc (suc zero))) = lit< tt
+row-lt ha hb hs (suc (suc (suc (suc zero)))) = hs
+row-lt ha hb hs (suc (suc (suc (suc (suc i))))) = lit< tt
+
+-- a solution is known by its values below t
+solution-ext : {k m : ℕ} {M : List (List ℕ)} {t r : ℕ} {x : ℕ → ℕ} (y : ℕ → ℕ) → ((i : ℕ) → i < t → x i ≡ y i) → OnlySolution k m M t r x → OnlySolution k m M t r y
+solution-ext {k} {m} {M} {t} y same S = record {
+  solves = λ e l. sum-ext t _ _ (λ i h. ap (product k m (entry M e i)) (sym (same i h))) ∙ S .solves e l;
+  small = λ i l. subst (λ a. a < 2 ^ k) (same i l) (S .small i l);
+  only = λ z small solves i l. S .only z small solves i l ∙ same i l;
+}
+
+pub two-solved : {a₁ a₂ b₁ b₂ s t : ℕ} {R : List (List ℕ)} → a₁ < 256 → a₂ < 256 → b₁ < 256 → b₂ < 256 → s < 256 → t < 256
+    → R ≡ eliminated 8 285 (twoRows a₁ a₂ b₁ b₂ s t) 2 → Solved a₁ a₂ b₁ b₂ s t (entry R 0 4) (entry R 1 4)
+two-solved {a₁} {a₂} {b₁} {b₂} {s} {t} {R} ha₁ ha₂ hb₁ hb₂ hs ht e trivial =
+    solution-ext (pairAt (entry R 0 4) (entry R 1 4)) same (solution M 2 (record { long = lit≤ tt; small = small }) trivial 4)
+  where
+    M : List (List ℕ)
+    M = twoRows a₁ a₂ b₁ b₂ s t
+
+    small : (i : ℕ) → i < 2 → (j : ℕ) → entry M i j < 256
+    small zero l = row-lt ha₁ ha₂ hs
+    small (suc zero) l = row-lt hb₁ hb₂ ht
+    small (suc (suc i)) l = absurd (omega arith)
+
+    same : (i : ℕ) → i < 2 → entry (eliminated 8 285 M 2) i 4 ≡ pairAt (entry R 0 4) (entry R 1 4) i
+    same zero l = ap (λ Q. entry Q 0 4) (sym e)
+    same (suc zero) l = ap (λ Q. entry Q 1 4) (sym e)
+    same (suc (suc i)) l = absurd (omega arith)
+
+-- ---- a multiple of a direction added to its group
+pub added-combined : (m w g u : ℕ) (h word part : List ℕ) → g < m → length word ≡ m * w → length h ≡ w → Added u h (stretch w g word) part
+    → withStretch w g word part ≡ combined bytes (m * w) word 1 (λ _. u) (λ _. lone m w g h)
+added-combined m w g u h word part l size long A =
+    ext-getD 0 _ _ (length-after ∙ size ∙ sym (combined-length bytes (m * w) 1 word _ _))
+    (λ p k. place-cases (λ p. p < m * w → getD (withStretch w g word part) p 0 ≡ getD C p 0) w g
+    (λ p h d. with-before w g word room part part-size p h ∙ plus-none p d (lone-before m w g _ l long p h))
+    (λ j h d. with-inside w g word room part part-size j h ∙ A .each j (subst (λ n. j < n) (sym width) h) ∙ inside j h d)
+    (λ p h d. with-after w g word room part part-size p h ∙ plus-none p d (lone-after m w g _ l long p h))
+    p (subst (λ n. p < n) (length-after ∙ size) k))
+  where
+    room : suc g * w ≤ length word
+    room = subst (λ n. suc g * w ≤ n) (sym size) (mul-le-mul-right w l)
+
+    width : length (stretch w g word) ≡ w
+    width = stretch-length w g word room
+
+    part-size : length part ≡ w
+    part-size = A .size ∙ width
+
+    length-after : length (withStretch w g word part) ≡ length word
+    length-after = with-length w g word room part part-size
+
+    C : List ℕ
+    C = combined bytes (m * w) word 1 (λ _. u) (λ _. lone m w g h)
+
+    plus-none : (p : ℕ) → p < m * w → getD (lone m w g h) p 0 ≡ 0 → getD word p 0 ≡ getD C p 0
+    plus-none p d e = sym (combined-one bytes m w word u _ p d ∙ ap (λ b. getD word p 0 ⊕ times bytes u b) e ∙ ap (λ s. getD word p 0 ⊕ s) (product-zero 8 285 u) ∙ ⊕-zero-r (getD word p 0))
+
+    inside : (j : ℕ) → j < w → g * w + j < m * w → getD (stretch w g word) j 0 ⊕ times bytes u (getD h j 0) ≡ getD C (g * w + j) 0
+    inside j b d = ap₂ (λ x y. x ⊕ times bytes u y) (stretch-at w g word j b) (sym (lone-inside m w g h l long j b)) ∙ sym (combined-one bytes m w word u _ (g * w + j) d)
+
+-- ---- the direction of place p
+module _ (m w c p : ℕ) (good : Good m w c) (l : p < m * w) where
+  some-wide : 0 < w
+  some-wide = let k = good .wide in omega arith
+
+  pub group-lt : p / w < m
+  group-lt = div-lt-iff-lt-mul some-wide .1 l
+
+  pub group-end : p / w * w + w ≤ m * w
+  group-end = stretch-end m w (p / w) group-lt
+
+  module _ (kept : List ℕ) (K : KeptFew m w c p kept) where
+    part-width : length (stretch w (p / w) kept) ≡ w
+    part-width = stretch-length w (p / w) kept (subst (λ n. suc (p / w) * w ≤ n) (sym (K .size)) (mul-le-mul-right w group-lt))
+
+    -- what direction asks of the stretch, and what it gives
+    pub way-asked : (length (stretch w (p / w) kept) ≤ 16)
+        × ((p % w < length (stretch w (p / w) kept))
+        × ((lost (stretch w (p / w) kept) (p % w) ≡ false)
+        × (lostIn (length (stretch w (p / w) kept)) (stretch w (p / w) kept) 0 ≤ 4)))
+    way-asked =
+        subst (λ n. (n ≤ 16) × ((p % w < n) × ((lost (stretch w (p / w) kept) (p % w) ≡ false) × (lostIn n (stretch w (p / w) kept) 0 ≤ 4)))) (sym part-width) (
+          good .narrow,
+          (
+            inside,
+            (
+              ap (λ b. eqb b 1) (stretch-at w (p / w) kept (p % w) inside) ∙ ap (lost kept) (div-add-mod' p w) ∙ K .own,
+              (let f = K .few (p / w) group-lt in let k = good .few-checks in let e = stretch-count w (p / w) kept in omega arith),
+            ),
+          ),
+        )
+      where
+        inside : p % w < w
+        inside = mod-lt p some-wide
+
+    pub way-given : (r : List ℕ) → Direction (length (stretch w (p / w) kept)) (p % w) (stretch w (p / w) kept) (take (length (stretch w (p / w) kept)) r)
+        → Direction w (p % w) (stretch w (p / w) kept) (take w r)
+    way-given r = subst (λ n. Direction n (p % w) (stretch w (p / w) kept) (take n r)) part-width
+
+-- ---- the sums across of a direction are those of its group
+pub weights-of : (m w c g : ℕ) (part : List ℕ) {a b : ℕ} → g < m → length part ≡ w
+    → a ≡ groupSum bytes (length part) part 0 (coefficient bytes c) → b ≡ groupSum bytes (length part) part 0 (twisted bytes c g)
+    → _≡_ {A = Sums} (record { first = a; second = b }) (acrossOf m w c (lone m w g part))
+weights-of m w c g part l long e₁ e₂ =
+    ap₂ (λ a b. record { first = a; second = b })
+    (e₁ ∙ ap (λ n. groupSum bytes n part 0 (coefficient bytes c)) long ∙ sym (lone-word m w g part l long bytes _))
+    (e₂ ∙ ap (λ n. groupSum bytes n part 0 (twisted bytes c g)) long ∙ sym (lone-word m w g part l long bytes _))
+
+-- the unknowns for these sums
+pub solved-sums : {A B S a b s : Sums} {u v : ℕ} → A ≡ a → B ≡ b → S ≡ s → Solved (A .first) (B .first) (A .second) (B .second) (S .first) (S .second) u v
+    → Solved (a .first) (b .first) (a .second) (b .second) (s .first) (s .second) u v
+solved-sums {A} {B} {S} {a} {b} {u = u} {v = v} e f g Q =
+    subst (λ z. Solved (a .first) (b .first) (a .second) (b .second) (z .first) (z .second) u v) g
+    (subst (λ z. Solved (a .first) (z .first) (a .second) (z .second) (S .first) (S .second) u v) f
+    (subst (λ z. Solved (z .first) (B .first) (z .second) (B .second) (S .first) (S .second) u v) e Q))
+
+-- ---- a free place is one for a direction
+pub few-at : {m w c : ℕ} {marks kept : List ℕ} {x a b : ℕ} → KeptAll m w c marks kept → FreePlaces marks kept x a b → length marks ≡ m * w
+    → (i : ℕ) → i < x → KeptFew m w c (freeAt a b i) kept
+few-at K P size i l = record { size = K .size ∙ size; few = K .kept-few; own = P .not-kept i l }
+
+-- ---- the marks kept, from a copy of the marks
+pub kept-copy : {m w c : ℕ} {marks from kept : List ℕ} → Good m w c → length marks ≡ m * w → from ≡ marks
+    → (Good m w c → length from ≡ m * w → KeptAll m w c from kept) → KeptAll m w c marks kept
+kept-copy {m} {w} {c} {kept = kept} good size e k = subst (λ xs. KeptAll m w c xs kept) e (k good (ap length e ∙ size))

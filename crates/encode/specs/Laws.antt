@@ -1,0 +1,135 @@
+-- Encoding gives the one codeword that carries the data.
+use mathlib.Core.Path.{_≡_, refl, sym, ap, ap₂, _∙_, subst}
+use mathlib.Core.Bool.{Bool, true, false}
+use mathlib.Core.List.{List}
+use Prim.Native.Nat.{ℕ, zero, suc, _+_, _-_, _*_, _<_, _≤_}
+use native.Mathlib.Nat.{suc-mul, mul-le-mul-right}
+use native.Mathlib.Omega.{arith}
+use native.Mathlib.Decide.{decLt}
+use lib.Dec.{eqb}
+use lib.ListN.{length, getD}
+use Rattle.counting.specs.Count.{totalBelow, countBelow, total-ext, total-suc, total-zero, count-ext}
+use Rattle.shape.specs.Refusals.{unlessRefused}
+use Rattle.shape.specs.Shapes.{Good, placeCount, dataCount, bufferRefusal}
+use Rattle.shape.specs.Laws.{word-of-good, good-of-buffers}
+use Rattle.places.specs.Places.{isCheck, extractOf, placedOf, placedWord, checkMarks, mark}
+use Rattle.places.specs.Laws.{checks-inner, checks-last, marks-length, marks-at, marks-small, placed-length, placed-word, placed-below, extract-placed, extract-agree, agree-extract}
+use Rattle.marks.specs.Refusal.{marks-of-good}
+use Rattle.code.specs.Edition.{bytes, bytes-sound, bytes-few}
+use Rattle.code.specs.Word.{Symbols, Codeword}
+use Rattle.code.specs.Marks.{lost, lostIn, excess}
+use Rattle.code.specs.Answer.{Outcome, written}
+use Rattle.code.specs.Recovery.{Agrees, recovered, recovered-done, only-one}
+use Rattle.code.specs.Encoding.{carried, carried-agrees}
+use Rattle.recover.specs.Service.{unlessBefore, recoverRefusal, recoverOf}
+use Rattle.encode.specs.Service.{encodedWord, encodedBuffer}
+
+-- a word is the one codeword that carries these data
+pub record Encoded (m w c : ℕ) (bytes′ word : List ℕ) : Type 0 where
+  pub codeword : Codeword bytes m w c word
+  pub carries : extractOf m w c word ≡ bytes′
+  pub only : (y : List ℕ) → Codeword bytes m w c y → extractOf m w c y ≡ bytes′ → y ≡ word
+
+module _ {m w c : ℕ} (good : Good m w c) where
+  -- the lost places are the check places
+  pub lost-check : (p : ℕ) → p < m * w → lost (checkMarks m w c) p ≡ isCheck m w c p
+  lost-check p l = ap (λ b. eqb b 1) (marks-at m w c p l) ∙ go (isCheck m w c p)
+    where
+      go : (v : Bool) → eqb (mark v) 1 ≡ v
+      go true = refl
+      go false = refl
+
+  in-word : (g j : ℕ) → g < m → j < w → g * w + j < m * w
+  in-word g j l h = omega (arith, suc-mul g w, mul-le-mul-right {m = suc g} {n = m} w (omega arith))
+
+  lost-count : (g : ℕ) → g < m → lostIn w (checkMarks m w c) g ≡ countBelow w (λ j. isCheck m w c (g * w + j))
+  unfolding lostIn
+  lost-count g l = count-ext w _ _ (λ j h. lost-check (g * w + j) (in-word g j l h))
+
+  full : (g : ℕ) → g < m → c ≤ lostIn w (checkMarks m w c) g
+  full g l = elim (decLt (g + 1) m) [
+    | yes h ↦ (let e = lost-count g l ∙ checks-inner good g h in omega arith)
+    | no h ↦ (let e = lost-count g l ∙ checks-last good g (omega arith) in omega arith)
+  ]
+
+  two : excess m w c (checkMarks m w c) ≡ 2
+  unfolding excess
+  two =
+      let g = m - 1 in
+      let some = good .some in
+      let e : m ≡ suc g = omega arith in
+      let inner : totalBelow g (λ i. lostIn w (checkMarks m w c) i - c) ≡ 0 =
+      total-zero g (λ i. lostIn w (checkMarks m w c) i - c) (λ i l. let d = lost-count i (omega arith) ∙ checks-inner good i (omega arith) in omega arith)
+      in
+      let last : lostIn w (checkMarks m w c) g ≡ c + 2 = lost-count g (omega arith) ∙ checks-last good g (omega arith) in
+      ap (λ n. totalBelow n (λ i. lostIn w (checkMarks m w c) i - c)) e ∙ total-suc g (λ i. lostIn w (checkMarks m w c) i - c) ∙ omega arith
+
+  wide : 0 < w
+  wide = let g = good in omega arith
+
+  module _ (carries : List ℕ) (size : length carries ≡ dataCount m w c) (small : (i : ℕ) → getD carries i 0 < 256) where
+    symbols : Symbols bytes (m * w) (placedOf m w c carries)
+    symbols = record { size = placed-length m w c carries; each = placed-below m w c 256 (omega arith) carries small }
+
+    agreeing : List ℕ
+    agreeing = carried bytes bytes-sound m w c (bytes-few (good .few)) wide (good .narrow) (checkMarks m w c) (marks-length m w c) full two (placedOf m w c carries)
+
+    agreeing-agrees : Agrees bytes m w c (checkMarks m w c) (placedOf m w c carries) agreeing
+    unfolding agreeing
+    agreeing-agrees =
+        carried-agrees bytes bytes-sound m w c (bytes-few (good .few)) wide (good .narrow) (checkMarks m w c) (marks-length m w c) full two (placedOf m w c carries) symbols
+
+    encoded-is : agreeing ≡ encodedWord m w c carries
+    unfolding encodedWord
+    encoded-is =
+        sym (ap (λ (o : Outcome). o .word) (recovered-done bytes bytes-sound m w c (bytes-few (good .few)) wide (good .narrow) (placedOf m w c carries) (checkMarks m w c) symbols agreeing
+        (let e = two in omega arith) agreeing-agrees))
+
+    agrees : Agrees bytes m w c (checkMarks m w c) (placedOf m w c carries) (encodedWord m w c carries)
+    agrees = subst (Agrees bytes m w c (checkMarks m w c) (placedOf m w c carries)) encoded-is agreeing-agrees
+
+    -- "it is a codeword; extract gives the data back; it is the only codeword with that data"
+    pub encoded : Encoded m w c carries (encodedWord m w c carries)
+    encoded = record {
+      codeword = agrees .codeword;
+      carries = extract-agree m w c _ _ (λ p l e. agrees .agree p l (lost-check p l ∙ e)) ∙ extract-placed good carries size;
+      only = λ y C d.
+          only-one bytes bytes-sound m w c (bytes-few (good .few)) wide (good .narrow) (placedOf m w c carries) (checkMarks m w c) symbols (let e = two in omega arith)
+          y (encodedWord m w c carries)
+          (record { codeword = C; agree = λ p l e. agree-extract m w c y (placedOf m w c carries) (d ∙ sym (extract-placed good carries size)) p l (sym (lost-check p l) ∙ e) })
+          agrees;
+    }
+
+    -- a recovery of the check places is never refused, and gives the encoded word
+    not-refused : recoverRefusal m w c (placedOf m w c carries) (checkMarks m w c) ≡ 0
+    unfolding recoverRefusal
+    not-refused =
+        simp (
+          word-of-good m w c (length (placedOf m w c carries)) good (placed-length m w c carries),
+          marks-of-good m w c (checkMarks m w c) (record {
+            good = good;
+            size = marks-length m w c;
+            each = λ p. let h = marks-small m w c p in omega arith;
+          }),
+        )
+
+    pub recovered-checks : (recoverOf m w c (placedOf m w c carries) (checkMarks m w c)) .word ≡ encodedWord m w c carries
+    unfolding recoverOf encodedWord
+    recovered-checks = ap (λ r. (unlessBefore r (recovered bytes m w c (placedOf m w c carries) (checkMarks m w c)) (placedOf m w c carries) (checkMarks m w c)) .word) not-refused
+
+-- a call whose buffers are not refused: the word after the data are placed, and at the end
+module _ (m w c : ℕ) (carries word after : List ℕ) (accepted : bufferRefusal m w c (length word) (length carries) ≡ 0) (put : after ≡ placedWord m w c carries word) where
+  G : Good m w c × (length word ≡ placeCount m w) × (length carries ≡ dataCount m w c)
+  G = good-of-buffers m w c (length word) (length carries) accepted
+
+  put-is : after ≡ placedOf m w c carries
+  put-is = put ∙ placed-word (G .0) carries word (G .1) (G .2)
+
+  pub after-size : length after ≡ m * w
+  after-size = ap length put-is ∙ placed-length m w c carries
+
+  pub buffer-end : ((i : ℕ) → getD carries i 0 < 256) → (end : List ℕ) → end ≡ (recoverOf m w c after (checkMarks m w c)) .word → end ≡ encodedBuffer m w c carries word
+  unfolding encodedBuffer
+  buffer-end small end e =
+      e ∙ ap (λ u. (recoverOf m w c u (checkMarks m w c)) .word) put-is ∙ recovered-checks (G .0) carries (G .2) small
+      ∙ sym (ap (λ r. unlessRefused r (encodedWord m w c carries) word) accepted)

@@ -1,0 +1,58 @@
+// The service Recover.
+use shape::Answer;
+ghost use mathlib.Core.Path.{_≡_};
+ghost use Prim.Native.Nat.{_*_};
+ghost use lib.ListN.{length};
+ghost use Rattle.shape.specs.Shapes.{Good};
+ghost use Rattle.shape.specs.Answers.{answerAt};
+ghost use Rattle.recover.specs.Service.{recoverRefusal, recoverOf};
+ghost use Rattle.recover.specs.Attempt.{Attempt};
+
+// The refusal of a call by its shape, its lengths and its marks, 1 to 6; 0 if there is none.
+pub fn refusal(m: usize, w: usize, c: usize, word: &[u8], marks: &[u8]) -> u8
+    ensures { λ r. ⌜ r ≡ recoverRefusal m w c (now (word .entry)) (now (marks .entry)) ⌝ }
+{
+    let r = shape::word_refusal(m, w, c, word.len());
+    if r != 0 {
+        return r;
+    }
+    marks::marks_refusal(m, w, c, marks)
+}
+
+// Writes the candidate, made in found, into the word if it is a codeword.
+fn attempt(m: usize, w: usize, c: usize, word: &mut [u8], marks: &[u8], found: &mut [u8]) -> bool
+    requires { ⌜ Good m w c ⌝ }
+    requires { ⌜ length (now word) ≡ m * w ⌝ }
+    requires { ⌜ length (now marks) ≡ m * w ⌝ }
+    requires { ⌜ length (now found) ≡ m * w ⌝ }
+    ensures { λ r. ⌜ Attempt m w c (now (marks .entry)) (now (word .entry)) (now (word .exit)) r ⌝ }
+{
+    candidate::candidate(m, w, c, word, marks, found);
+    if !syndrome::is_codeword(m, w, c, found) {
+        return false;
+    }
+    buffers::copy(found, word);
+    true
+}
+
+// Recovers the whole word from its present bytes, or refuses and changes nothing.
+pub fn recover(m: usize, w: usize, c: usize, word: &mut [u8], marks: &mut [u8]) -> Answer
+    ensures answer { λ r. ⌜ r ≡ answerAt ((recoverOf m w c (now (word .entry)) (now (marks .entry))) .number) ⌝ }
+    ensures word { λ _. ⌜ now (word .exit) ≡ (recoverOf m w c (now (word .entry)) (now (marks .entry))) .word ⌝ }
+    ensures marks { λ _. ⌜ now (marks .exit) ≡ (recoverOf m w c (now (word .entry)) (now (marks .entry))) .marks ⌝ }
+{
+    let r = refusal(m, w, c, word, marks);
+    if r != 0 {
+        return Answer::Refused(r);
+    }
+    if 2 < marks::excess_of(m, w, c, marks) {
+        return Answer::Refused(8);
+    }
+    let n = word.len();
+    let mut found = [0u8; 240];
+    if !attempt(m, w, c, word, marks, &mut found[..n]) {
+        return Answer::Refused(9);
+    }
+    buffers::clear(marks);
+    Answer::Done
+}

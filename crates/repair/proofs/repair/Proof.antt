@@ -1,0 +1,180 @@
+use mathlib.Core.Path.{_≡_, refl, sym, ap, _∙_}
+use Prim.Native.Nat.{_<_}
+use native.Mathlib.Omega.{arith}
+use Rattle.shape.specs.Answers.{answerAt, answer-refused}
+use Rattle.shape.specs.Laws.{places-most}
+use Rattle.code.specs.Stretch.{withStretch}
+use Rattle.groups.specs.Lent.{Lent, end-fits, part-stretch, part-length, part-narrow, with-lent}
+use Rattle.recover.specs.Attempt.{accepted}
+use Rattle.repair.specs.Service.{service-refused, refused-early, refused-seven, service-part}
+use borrow.Author.Needs.{needs}
+use Rattle.repair.proofs.repair.Statement.{statement}
+use Rattle.repair.proofs.repair.Tie as tie
+use Rattle.repair.proofs.repair.Reads as reads
+use Rattle.repair.proofs.repair.Lts as lts
+use Rattle.recover.proofs.refusal.Reads as refusal-reads
+use Rattle.repair.proofs.repair_part.Reads as repair-part-reads
+
+refusal-requires : tie.Need-refusal-requires
+refusal-requires c κs = search needs
+
+same-length : tie.Need-same-length
+same-length c = search needs
+
+same-length-2 : tie.Need-same-length-2
+same-length-2 c = search needs
+
+returns : tie.Need-returns
+returns c =
+    let r = c .before in
+    let a = r .before .before .before .before .before .args in
+    let n = r .refusal .result in
+    let e = service-refused (a .m) (a .w) (a .c) (a .g) (a .word .now) (a .marks .now) n
+    (refused-early (a .m) (a .w) (a .c) (a .g) (a .word .now) (a .marks .now) n (r .refusal .ensures) (c .if1 .taken)) (c .if1 .taken) in
+    (sym (answer-refused n (c .if1 .taken)) ∙ ap (λ o. answerAt (o .number)) (sym e), (ap (λ o. o .word) (sym e), ap (λ o. o .marks) (sym e)))
+
+same-length-3 : tie.Need-same-length-3
+same-length-3 c = search needs
+
+same-length-4 : tie.Need-same-length-4
+same-length-4 c = search needs
+
+returns-2 : tie.Need-returns-2
+returns-2 c =
+    let r = c .before .before in
+    let a = r .before .before .before .before .before .args in
+    let A = accepted (a .m) (a .w) (a .c) (a .word .now) (a .marks .now) (r .refusal .result) (r .refusal .ensures) (omega arith) in
+    let e = service-refused (a .m) (a .w) (a .c) (a .g) (a .word .now) (a .marks .now) 7
+    (refused-seven (a .m) (a .w) (a .c) (a .g) (a .word .now) (a .marks .now) (A .refusal) (c .if2 .taken)) (λ z. omega arith) in
+    (ap (λ o. answerAt (o .number)) (sym e), (ap (λ o. o .word) (sym e), ap (λ o. o .marks) (sym e)))
+
+mul-a : tie.Need-mul-a
+mul-a c =
+    let r = c .before .before in
+    let a = r .before .before .before .before .before .args in
+    let A = accepted (a .m) (a .w) (a .c) (a .word .now) (a .marks .now) (r .refusal .result) (r .refusal .ensures) (omega arith) in
+    omega (arith, places-most (A .good), end-fits {xs = a .word .now} (record { good = A .good; size = A .word-size }) (a .g) (omega arith))
+
+add-e : tie.Need-add-e
+add-e c =
+    let r = c .before .before in
+    let a = r .before .before .before .before .before .args in
+    let A = accepted (a .m) (a .w) (a .c) (a .word .now) (a .marks .now) (r .refusal .result) (r .refusal .ensures) (omega arith) in
+    omega (arith, places-most (A .good), end-fits {xs = a .word .now} (record { good = A .good; size = A .word-size }) (a .g) (omega arith))
+
+sub-repair-part : tie.Need-sub-repair-part
+sub-repair-part c = search needs
+
+part-repair-part-start : tie.Need-part-repair-part-start
+part-repair-part-start c = search needs
+
+part-repair-part-end : tie.Need-part-repair-part-end
+part-repair-part-end c =
+    let r = c .before .before in
+    let a = r .before .before .before .before .before .args in
+    let A = accepted (a .m) (a .w) (a .c) (a .word .now) (a .marks .now) (r .refusal .result) (r .refusal .ensures) (omega arith) in
+    omega (arith, end-fits {xs = a .word .now} (record { good = A .good; size = A .word-size }) (a .g) (omega arith))
+
+sub-repair-part-2 : tie.Need-sub-repair-part-2
+sub-repair-part-2 c = search needs
+
+part-repair-part-start-2 : tie.Need-part-repair-part-start-2
+part-repair-part-start-2 c = search needs
+
+part-repair-part-end-2 : tie.Need-part-repair-part-end-2
+part-repair-part-end-2 c =
+    let r = c .before .before .before in
+    let a = r .before .before .before .before .before .args in
+    let A = accepted (a .m) (a .w) (a .c) (a .word .now) (a .marks .now) (r .refusal .result) (r .refusal .ensures) (omega arith) in
+    omega (arith, end-fits {xs = a .marks .now} (record { good = A .good; size = A .marks-size }) (a .g) (omega arith))
+
+repair-part-requires : tie.Need-repair-part-requires
+repair-part-requires c κs =
+    let r = c .before .before .before .before in
+    let a = r .before .before .before .before .before .args in
+    let A = accepted (a .m) (a .w) (a .c) (a .word .now) (a .marks .now) (r .refusal .result) (r .refusal .ensures) (omega arith) in
+    let L : Lent (a .m) (a .w) (a .c) (a .word .now) = record { good = A .good; size = A .word-size } in
+    let M : Lent (a .m) (a .w) (a .c) (a .marks .now) = record { good = A .good; size = A .marks-size } in
+    let l : a .g < a .m = omega arith in
+    let n = part-length {xs = a .word .now} L (a .g) l refl in
+    let k = part-length {xs = a .marks .now} M (a .g) l refl in
+    let g = A .good in
+    (rw n (omega arith), (part-narrow {xs = a .word .now} L (a .g) l refl, (g .few-checks, k ∙ sym n)))
+
+same-length-5 : tie.Need-same-length-5
+same-length-5 c = search needs
+
+same-length-6 : tie.Need-same-length-6
+same-length-6 c = search needs
+
+returns-3 : tie.Need-returns-3
+returns-3 c =
+    let t = c .before .before .before .before .before in
+    let r = t .before .before .before .before .before in
+    let a = r .before .before .before .before .before .args in
+    let A = accepted (a .m) (a .w) (a .c) (a .word .now) (a .marks .now) (r .refusal .result) (r .refusal .ensures) (omega arith) in
+    let L : Lent (a .m) (a .w) (a .c) (a .word .now) = record { good = A .good; size = A .word-size } in
+    let M : Lent (a .m) (a .w) (a .c) (a .marks .now) = record { good = A .good; size = A .marks-size } in
+    let l : a .g < a .m = omega arith in
+    let e = service-part (a .m) (a .w) (a .c) (a .g) (a .word .now) (a .marks .now) _ _ (A .refusal) l
+    (part-stretch {xs = a .word .now} L (a .g) l refl) (part-stretch {xs = a .marks .now} M (a .g) l refl) (part-length {xs = a .word .now} L (a .g) l refl) in
+    let E = t .repair-part .ensures in (
+      sym (answer-refused (t .repair-part .result) (c .if3 .taken)) ∙ ap answerAt (E .0) ∙ ap (λ o. answerAt (o .number)) (sym e),
+      (
+        rw (with-lent) (ap (withStretch (a .w) (a .g) (a .word .now)) (E .1 .0) ∙ ap (λ o. o .word) (sym e)),
+        rw (with-lent) (ap (withStretch (a .w) (a .g) (a .marks .now)) (E .1 .1) ∙ ap (λ o. o .marks) (sym e)),
+      ),
+    )
+
+same-length-7 : tie.Need-same-length-7
+same-length-7 c = search needs
+
+same-length-8 : tie.Need-same-length-8
+same-length-8 c = search needs
+
+returns-4 : tie.Need-returns-4
+returns-4 c =
+    let t = c .before .before .before .before .before in
+    let r = t .before .before .before .before .before in
+    let a = r .before .before .before .before .before .args in
+    let A = accepted (a .m) (a .w) (a .c) (a .word .now) (a .marks .now) (r .refusal .result) (r .refusal .ensures) (omega arith) in
+    let L : Lent (a .m) (a .w) (a .c) (a .word .now) = record { good = A .good; size = A .word-size } in
+    let M : Lent (a .m) (a .w) (a .c) (a .marks .now) = record { good = A .good; size = A .marks-size } in
+    let l : a .g < a .m = omega arith in
+    let e = service-part (a .m) (a .w) (a .c) (a .g) (a .word .now) (a .marks .now) _ _ (A .refusal) l
+    (part-stretch {xs = a .word .now} L (a .g) l refl) (part-stretch {xs = a .marks .now} M (a .g) l refl) (part-length {xs = a .word .now} L (a .g) l refl) in
+    let E = t .repair-part .ensures in
+    let z : t .repair-part .result ≡ 0 = omega arith in (
+      ap answerAt (sym z ∙ E .0) ∙ ap (λ o. answerAt (o .number)) (sym e),
+      (
+        rw (with-lent) (ap (withStretch (a .w) (a .g) (a .word .now)) (E .1 .0) ∙ ap (λ o. o .word) (sym e)),
+        rw (with-lent) (ap (withStretch (a .w) (a .g) (a .marks .now)) (E .1 .1) ∙ ap (λ o. o .marks) (sym e)),
+      ),
+    )
+
+pub repair-spec : {M : Type 1} → statement M
+repair-spec =
+    tie.close
+    (tie.spec
+    refusal-requires
+    same-length
+    same-length-2
+    returns
+    same-length-3
+    same-length-4
+    returns-2
+    mul-a
+    add-e
+    sub-repair-part
+    part-repair-part-start
+    part-repair-part-end
+    sub-repair-part-2
+    part-repair-part-start-2
+    part-repair-part-end-2
+    repair-part-requires
+    same-length-5
+    same-length-6
+    returns-3
+    same-length-7
+    same-length-8
+    returns-4)

@@ -1,0 +1,73 @@
+// The service Repair: one group, by its own equations.
+use shape::Answer;
+ghost use mathlib.Core.Path.{_≡_};
+ghost use Prim.Native.Nat.{_≤_, _<_};
+ghost use lib.ListN.{length};
+ghost use Rattle.shape.specs.Answers.{answerAt};
+ghost use Rattle.code.specs.Edition.{bytes};
+ghost use Rattle.code.specs.Marks.{lostIn};
+ghost use Rattle.code.specs.Repair.{repaired};
+ghost use Rattle.repair.specs.Service.{PartAttempt, repairRefusal, repairOf};
+
+// Fills the lost places of a stretch in found, and writes it into the stretch if it satisfies all of the group's equations.
+fn attempt(c: usize, part: &mut [u8], marks: &[u8], found: &mut [u8]) -> bool
+    requires { ⌜ 0 < length (now part) ⌝ }
+    requires { ⌜ length (now part) ≤ 16 ⌝ }
+    requires { ⌜ c ≤ 4 ⌝ }
+    requires { ⌜ length (now marks) ≡ length (now part) ⌝ }
+    requires { ⌜ length (now found) ≡ length (now part) ⌝ }
+    requires { ⌜ lostIn (length (now part)) (now marks) 0 ≤ c ⌝ }
+    ensures { λ r. ⌜ PartAttempt (length (now (part .entry))) c (now (marks .entry)) (now (part .entry)) (now (part .exit)) r ⌝ }
+{
+    buffers::copy(part, found);
+    fill::fill(found, marks);
+    if !syndrome::local_zero(found, c) {
+        return false;
+    }
+    buffers::copy(found, part);
+    true
+}
+
+// Repairs one group's stretch of the word and the marks; answers 0, 8 or 9, and changes nothing unless it is 0.
+fn repair_part(c: usize, part: &mut [u8], marks: &mut [u8]) -> u8
+    requires { ⌜ 0 < length (now part) ⌝ }
+    requires { ⌜ length (now part) ≤ 16 ⌝ }
+    requires { ⌜ c ≤ 4 ⌝ }
+    requires { ⌜ length (now marks) ≡ length (now part) ⌝ }
+    ensures { λ r. ⌜ r ≡ (repaired bytes (length (now (part .entry))) c (now (part .entry)) (now (marks .entry))) .number ⌝ }
+    ensures { λ _. ⌜ now (part .exit) ≡ (repaired bytes (length (now (part .entry))) c (now (part .entry)) (now (marks .entry))) .word ⌝ }
+    ensures { λ _. ⌜ now (marks .exit) ≡ (repaired bytes (length (now (part .entry))) c (now (part .entry)) (now (marks .entry))) .marks ⌝ }
+{
+    if c < marks::lost_in(marks) {
+        return 8;
+    }
+    let w = part.len();
+    let mut found = [0u8; 16];
+    if !attempt(c, part, marks, &mut found[..w]) {
+        return 9;
+    }
+    buffers::clear(marks);
+    0
+}
+
+// Repairs group g of the word, or refuses and changes nothing.
+pub fn repair(m: usize, w: usize, c: usize, g: usize, word: &mut [u8], marks: &mut [u8]) -> Answer
+    ensures answer { λ r. ⌜ r ≡ answerAt ((repairOf m w c g (now (word .entry)) (now (marks .entry))) .number) ⌝ }
+    ensures word { λ _. ⌜ now (word .exit) ≡ (repairOf m w c g (now (word .entry)) (now (marks .entry))) .word ⌝ }
+    ensures marks { λ _. ⌜ now (marks .exit) ≡ (repairOf m w c g (now (word .entry)) (now (marks .entry))) .marks ⌝ }
+{
+    let r = recover::refusal(m, w, c, word, marks);
+    if r != 0 {
+        return Answer::Refused(r);
+    }
+    if m <= g {
+        return Answer::Refused(7);
+    }
+    let a = g * w;
+    let e = a + w;
+    let n = repair_part(c, &mut word[a..e], &mut marks[a..e]);
+    if n != 0 {
+        return Answer::Refused(n);
+    }
+    Answer::Done
+}
