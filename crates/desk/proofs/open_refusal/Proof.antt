@@ -1,0 +1,79 @@
+use mathlib.Core.Path.{_≡_, sym, _∙_}
+use mathlib.Core.Bool.{true, false}
+use borrow.Author.Tests.{not-true, not-false, eq-eqb, ne-eqb}
+use Rattle.marks.specs.Refusal.{orElse-first}
+use Rattle.judge.specs.Answer.{judgedNumberOf}
+use Rattle.desk.specs.Desks.{isSound}
+use Rattle.desk.specs.Calls.{openNumber, freeFrom}
+use borrow.Author.Needs.{needs}
+use Rattle.desk.proofs.open_refusal.Statement.{statement}
+use Rattle.desk.proofs.open_refusal.Tie as tie
+
+is-sound-requires : tie.Need-is-sound-requires
+is-sound-requires c κs = search needs
+
+returns : tie.Need-returns
+unfolding openNumber
+returns c =
+    let e : isSound (c .before .before .before .args .desk) ≡ false = sym (c .before .is-sound .ensures) ∙ not-true _ (c .if1 .taken) in
+    simp e
+
+judged-requires : tie.Need-judged-requires
+judged-requires c κs = search needs
+
+returns-2 : tie.Need-returns-2
+unfolding openNumber
+returns-2 c =
+    let b = c .before .before in
+    let a = b .before .before .before .args in
+    let e : isSound (a .desk) ≡ true = sym (b .before .is-sound .ensures) ∙ not-false _ (b .if1 .left) in
+    let j = c .before .judged .ensures in
+    simp e (j ∙ sym (orElse-first _ _ (λ z. c .if2 .taken (j ∙ z))))
+
+returns-3 : tie.Need-returns-3
+unfolding openNumber
+returns-3 c =
+    let k = c .before .before in
+    let b = k .before .before in
+    let a = b .before .before .before .args in
+    let e : isSound (a .desk) ≡ true = sym (b .before .is-sound .ensures) ∙ not-false _ (b .if1 .left) in
+    let z : judgedNumberOf (a .m) (a .w) (a .c) (a .marks .now) ≡ 0 = sym (k .before .judged .ensures) ∙ k .if2 .left in
+    simp (e, z, eq-eqb (a .desk .t) 65535 (c .if3 .taken))
+
+free-slot-requires : tie.Need-free-slot-requires
+free-slot-requires c κs = search needs
+
+returns-4 : tie.Need-returns-4
+unfolding openNumber
+returns-4 c =
+    let h = c .before .before in
+    let k = h .before .before in
+    let b = k .before .before in
+    let a = b .before .before .before .args in
+    let e : isSound (a .desk) ≡ true = sym (b .before .is-sound .ensures) ∙ not-false _ (b .if1 .left) in
+    let z : judgedNumberOf (a .m) (a .w) (a .c) (a .marks .now) ≡ 0 = sym (k .before .judged .ensures) ∙ k .if2 .left in
+    simp (e, z, ne-eqb (a .desk .t) 65535 (h .if3 .left), eq-eqb (freeFrom (a .desk .jobs) 0) 8 (sym (c .before .free-slot .ensures) ∙ c .if4 .taken))
+
+returns-5 : tie.Need-returns-5
+unfolding openNumber
+returns-5 c =
+    let h = c .before .before in
+    let k = h .before .before in
+    let b = k .before .before in
+    let a = b .before .before .before .args in
+    let e : isSound (a .desk) ≡ true = sym (b .before .is-sound .ensures) ∙ not-false _ (b .if1 .left) in
+    let z : judgedNumberOf (a .m) (a .w) (a .c) (a .marks .now) ≡ 0 = sym (k .before .judged .ensures) ∙ k .if2 .left in
+    simp (e, z, ne-eqb (a .desk .t) 65535 (h .if3 .left), ne-eqb (freeFrom (a .desk .jobs) 0) 8 (λ q. c .if4 .left (c .before .free-slot .ensures ∙ q)))
+
+pub open-refusal-spec : {M : Type 1} → statement M
+open-refusal-spec =
+    tie.close
+    (tie.spec
+    is-sound-requires
+    returns
+    judged-requires
+    returns-2
+    returns-3
+    free-slot-requires
+    returns-4
+    returns-5)

@@ -1,0 +1,74 @@
+-- Laws of the tests on a desk.
+use mathlib.Core.Path.{_≡_, sym, ap, subst}
+use mathlib.Core.Bool.{Bool, true, false, not, and-eq-true-iff}
+use mathlib.Core.List.{List}
+use Prim.Native.Nat.{ℕ, _+_, _*_, _<_, _≤_}
+use native.Mathlib.Numerals.{add-one}
+use native.Mathlib.Omega.{arith}
+use borrow.Author.Tests.{not-true, ne-eqb, leb-true, le-leb}
+use lib.Dec.{T, not-T}
+use lib.Ieee.Bits.{is-true}
+use Rattle.counting.specs.Test.{anyBelow, all-at, all-intro, any-intro}
+use Rattle.shape.specs.Refusals.{orElse-zero}
+use Rattle.shape.specs.Laws.{places-most}
+use Rattle.marks.specs.Refusal.{Marked, good-of-marks}
+use Rattle.judge.specs.Answer.{judgedNumberOf}
+use Rattle.desk.specs.declared.Job.{Job}
+use Rattle.desk.specs.declared.Desk.{Desk}
+use Rattle.desk.specs.Desks.{isGood, marksOf, jobAt, isSoundSlot, isTwice, isSound}
+
+pub holds : {b : Bool} → b ≡ true → T b
+holds e = subst T (sym e) tt
+
+pub false-of : (b : Bool) → (b ≡ true → ⊥) → b ≡ false
+false-of b h = not-true b (is-true _ (not-T b (λ t. h (is-true b t))))
+
+-- a number of which a test holds
+pub any-true : (n : ℕ) (f : ℕ → Bool) (i : ℕ) → i < n → f i ≡ true → anyBelow n f ≡ true
+any-true n f i l e = is-true _ (any-intro n f i l (holds e))
+
+-- one turn of a test over the numbers below n
+pub any-turn : (n : ℕ) (f : ℕ → Bool) → anyBelow n f ≡ false → f n ≡ false → anyBelow (n + 1) f ≡ false
+any-turn n f h e = rw (add-one, e, h)
+
+-- what Judge answers 0 has a good shape and n marks of 0 or 1
+pub judged-marked : (m w c : ℕ) (marks : List ℕ) → judgedNumberOf m w c marks ≡ 0 → Marked m w c marks
+unfolding judgedNumberOf
+judged-marked m w c marks e = good-of-marks m w c marks (orElse-zero _ _ e .0)
+
+-- no good job has more than 240 places
+pub large-job : (job : Job) → 240 < job .m * job .w → isGood job ≡ false
+unfolding isGood
+large-job job h =
+    ne-eqb (judgedNumberOf (job .m) (job .w) (job .c) (marksOf job)) 0
+    (λ e. let k = places-most (judged-marked (job .m) (job .w) (job .c) (marksOf job) e .good) in omega arith)
+
+-- the parts of soundness
+pub record Sound (desk : Desk) : Type 0 where
+  pub few : desk .t ≤ 65535
+  pub slots : (s : ℕ) → s < 8 → isSoundSlot (desk .t) s (jobAt desk s) ≡ true
+  pub once : (s : ℕ) → s < 8 → isTwice desk s ≡ false
+
+module _ (desk : Desk) where
+  pub sound-parts : isSound desk ≡ true → Sound desk
+  unfolding isSound
+  sound-parts e =
+      let p = and-eq-true-iff _ _ .0 e in
+      let q = and-eq-true-iff _ _ .0 (p .0) in
+      record {
+        few = leb-true _ _ (q .0);
+        slots = λ s l. is-true _ (all-at 8 (λ s. isSoundSlot (desk .t) s (jobAt desk s)) (holds (q .1)) s l);
+        once = λ s l. not-true _ (is-true _ (all-at 8 (λ s. not (isTwice desk s)) (holds (p .1)) s l));
+      }
+
+  pub sound-of : Sound desk → isSound desk ≡ true
+  unfolding isSound
+  sound-of S =
+      and-eq-true-iff _ _ .1 (
+        and-eq-true-iff _ _ .1
+            (le-leb (desk .t) 65535 (S .few), is-true _ (all-intro 8 (λ s. isSoundSlot (desk .t) s (jobAt desk s)) (λ s l. holds (S .slots s l)))),
+        is-true _ (all-intro 8 (λ s. not (isTwice desk s)) (λ s l. holds (ap not (S .once s l)))),
+      )
+
+  pub unsound : (Sound desk → ⊥) → isSound desk ≡ false
+  unsound h = false-of (isSound desk) (λ e. h (sound-parts e))

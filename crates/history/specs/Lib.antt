@@ -1,0 +1,9 @@
+pub mod History
+pub mod Put
+pub mod Effects
+pub mod Sound
+pub mod Theorem
+pub mod Alone
+pub mod Others
+pub mod Task
+pub mod Saved
