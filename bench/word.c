@@ -7,6 +7,7 @@
 
 uint8_t axlebloom_encode(size_t m, size_t w, size_t c, const uint8_t *bytes, size_t k, uint8_t *word, size_t n);
 uint8_t axlebloom_recover(size_t m, size_t w, size_t c, uint8_t *word, size_t n, uint8_t *marks, size_t nm);
+uint8_t axlebloom_check(size_t m, size_t w, size_t c, const uint8_t *word, size_t n);
 uint8_t axlebloom_judge(size_t m, size_t w, size_t c, const uint8_t *marks, size_t n);
 
 static uint8_t power_of_two[510], logarithm[256], locator[16], locator_power[6][16];
@@ -174,5 +175,10 @@ int main(void) {
   double start = now();
   for (int i = 0; i < TURNS; i++) if (axlebloom_judge(15, 16, 4, marks, 240)) exit(3);
   printf("judge, 240 places: %.0f ns\n", (now() - start) / TURNS * 1e9);
+  uint8_t bytes[178] = {1, 2, 3}, word[240];
+  if (axlebloom_encode(15, 16, 4, bytes, 178, word, 240)) exit(4);
+  start = now();
+  for (int i = 0; i < TURNS; i++) if (axlebloom_check(15, 16, 4, word, 240)) exit(5);
+  printf("check, 240 places: %.0f ns\n", (now() - start) / TURNS * 1e9);
   return 0;
 }

@@ -1,10 +1,14 @@
 // The services as C calls them: numbers and lent bytes, each with its length, and the number given back, 0 for done.
 use judge::Judged;
 use shape::Answer;
+use shape::Described;
+use word_check::Checked;
 ghost use mathlib.Core.Path.{_≡_};
-ghost use lib.ListN.{length};
-ghost use Rattle.shape.specs.Shapes.{bufferRefusal};
+ghost use lib.ListN.{length, getD};
+ghost use Rattle.shape.specs.Shapes.{shapeRefusal, bufferRefusal, describedNumber, describedFigures, figuresOf};
 ghost use Rattle.shape.specs.Answers.{answerNumber};
+ghost use Rattle.word_check.specs.Answer.{checkedOf};
+ghost use Rattle.exports.specs.Numbers.{checkedCode};
 ghost use Rattle.places.specs.Places.{extractedData};
 ghost use Rattle.judge.specs.Answer.{judgedNumber, judgedNumberOf};
 ghost use Rattle.recover.specs.Service.{recoverOf};
@@ -30,6 +34,92 @@ fn judged_number(judged: Judged) -> u8
         Judged::Determined => 0,
         Judged::Refused(r) => r,
     }
+}
+
+// The number of a check: 0 for a codeword, 9 for another word.
+fn checked_number(checked: Checked) -> u8
+    ensures { λ r. ⌜ r ≡ checkedCode checked ⌝ }
+{
+    match checked {
+        Checked::Codeword => 0,
+        Checked::Other => 9,
+        Checked::Refused(r) => r,
+    }
+}
+
+// The number of a description.
+fn described_number(described: Described) -> u8
+    ensures { λ r. ⌜ r ≡ describedNumber described ⌝ }
+{
+    match described {
+        Described::Figures { n, k, sure } => 0,
+        Described::Refused(r) => r,
+    }
+}
+
+// Its first figure, the places of a word; 0 if it is refused.
+fn described_places(described: Described) -> usize
+    ensures { λ r. ⌜ r ≡ getD (describedFigures described) 0 0 ⌝ }
+{
+    match described {
+        Described::Figures { n, k, sure } => n,
+        Described::Refused(r) => 0,
+    }
+}
+
+// Its second figure, the bytes of data.
+fn described_data(described: Described) -> usize
+    ensures { λ r. ⌜ r ≡ getD (describedFigures described) 1 0 ⌝ }
+{
+    match described {
+        Described::Figures { n, k, sure } => k,
+        Described::Refused(r) => 0,
+    }
+}
+
+// Its third figure, the sure count.
+fn described_sure(described: Described) -> usize
+    ensures { λ r. ⌜ r ≡ getD (describedFigures described) 2 0 ⌝ }
+{
+    match described {
+        Described::Figures { n, k, sure } => sure,
+        Described::Refused(r) => 0,
+    }
+}
+
+#[no_mangle]
+pub extern "C" fn axlebloom_describe(m: usize, w: usize, c: usize) -> u8
+    ensures { λ r. ⌜ r ≡ shapeRefusal m w c ⌝ }
+{
+    described_number(shape::describe(m, w, c))
+}
+
+#[no_mangle]
+pub extern "C" fn axlebloom_places(m: usize, w: usize, c: usize) -> usize
+    ensures { λ r. ⌜ r ≡ getD (figuresOf m w c) 0 0 ⌝ }
+{
+    described_places(shape::describe(m, w, c))
+}
+
+#[no_mangle]
+pub extern "C" fn axlebloom_data(m: usize, w: usize, c: usize) -> usize
+    ensures { λ r. ⌜ r ≡ getD (figuresOf m w c) 1 0 ⌝ }
+{
+    described_data(shape::describe(m, w, c))
+}
+
+#[no_mangle]
+pub extern "C" fn axlebloom_sure(m: usize, w: usize, c: usize) -> usize
+    ensures { λ r. ⌜ r ≡ getD (figuresOf m w c) 2 0 ⌝ }
+{
+    described_sure(shape::describe(m, w, c))
+}
+
+#[no_mangle]
+pub extern "C" fn axlebloom_check(m: usize, w: usize, c: usize, word: &[u8]) -> u8
+    ensures { λ r. ⌜ r ≡ checkedCode (checkedOf m w c (now (word .entry))) ⌝ }
+{
+    checked_number(word_check::check(m, w, c, word))
 }
 
 #[no_mangle]

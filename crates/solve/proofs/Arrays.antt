@@ -20,6 +20,10 @@ module _ (w : Width) where
   row-small (x ∷ xs) (u ∷ us) p zero = p .0 .1
   row-small (x ∷ xs) (u ∷ us) p (suc c) = row-small xs us (p .1) c
 
+  -- a row alone
+  pub array-small : (n : ℕ) (xs : List ℕ) (vs : List Val) → Is (Array (UInt w) n) xs vs → Small (bits w) xs
+  array-small n xs vs p = row-small xs (p .0) (p .1 .1)
+
   rows-small : (n : ℕ) (M : List (List ℕ)) (us : List Val) → shadow (each (List ℕ) (Array (UInt w) n .own) M us) → (e : ℕ) → Small (bits w) (row M e)
   rows-small n [] us p e = λ c. pow-pos (bits w)
   rows-small n (xs ∷ M) [] p e = absurd p

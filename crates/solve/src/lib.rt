@@ -1,27 +1,33 @@
 // Gauss-Jordan elimination over the field of bytes: up to four equations, with the right side in the fifth column.
+// p and l are the two tables of gf256, laid out once a call and lent to every step.
 ghost use mathlib.Core.Path.{_≡_};
 ghost use Prim.Native.Nat.{_≤_, _<_, min};
+ghost use Rattle.gf256.specs.Tables.{powers, logs};
 ghost use Rattle.solve.specs.Elimination.{scaled, added, exchanged, normalized, clearedRow, cleared, pivot, eliminateColumn, eliminated};
 
 // The row a plus f times the row b.
-fn add(a: [u8; 5], b: [u8; 5], f: u8) -> [u8; 5]
+fn add(p: &[u8; 256], l: &[u8; 256], a: [u8; 5], b: [u8; 5], f: u8) -> [u8; 5]
+    requires { ⌜ now p ≡ powers ⌝ }
+    requires { ⌜ now l ≡ logs ⌝ }
     ensures { λ r. ⌜ r ≡ added 8 285 f a b ⌝ }
 {
     let mut x = a;
     let mut c: usize = 0;
     while c < 5 {
-        x[c] = x[c] ^ gf256::shifted_product(f, b[c]);
+        x[c] = x[c] ^ gf256::product_in(p, l, f, b[c]);
         c += 1;
     }
     x
 }
 
 // A row times f.
-fn scale(row: [u8; 5], f: u8) -> [u8; 5]
+fn scale(p: &[u8; 256], l: &[u8; 256], row: [u8; 5], f: u8) -> [u8; 5]
+    requires { ⌜ now p ≡ powers ⌝ }
+    requires { ⌜ now l ≡ logs ⌝ }
     ensures { λ r. ⌜ r ≡ scaled 8 285 f row ⌝ }
 {
     let zeros = [0u8; 5];
-    add(zeros, row, f)
+    add(p, l, zeros, row, f)
 }
 
 // The rows i and j exchanged.
@@ -38,20 +44,24 @@ fn exchange(rows: [[u8; 5]; 4], i: usize, j: usize) -> [[u8; 5]; 4]
 }
 
 // Row j times the inverse of its entry in column j.
-fn normalize(rows: [[u8; 5]; 4], j: usize) -> [[u8; 5]; 4]
+fn normalize(p: &[u8; 256], l: &[u8; 256], rows: [[u8; 5]; 4], j: usize) -> [[u8; 5]; 4]
+    requires { ⌜ now p ≡ powers ⌝ }
+    requires { ⌜ now l ≡ logs ⌝ }
     requires { ⌜ j < 4 ⌝ }
     ensures { λ r. ⌜ r ≡ normalized 8 285 rows j ⌝ }
 {
     let mut x = rows;
     let row = x[j];
     let a = row[j];
-    let f = gf256::inverse(a);
-    x[j] = scale(row, f);
+    let f = gf256::inverse_in(p, l, a);
+    x[j] = scale(p, l, row, f);
     x
 }
 
 // Row i, if it is not j, plus its entry in column j times row j.
-fn clear_row(rows: [[u8; 5]; 4], j: usize, i: usize) -> [[u8; 5]; 4]
+fn clear_row(p: &[u8; 256], l: &[u8; 256], rows: [[u8; 5]; 4], j: usize, i: usize) -> [[u8; 5]; 4]
+    requires { ⌜ now p ≡ powers ⌝ }
+    requires { ⌜ now l ≡ logs ⌝ }
     requires { ⌜ (j < 4) × (i < 4) ⌝ }
     ensures { λ r. ⌜ r ≡ clearedRow 8 285 rows j i ⌝ }
 {
@@ -61,19 +71,21 @@ fn clear_row(rows: [[u8; 5]; 4], j: usize, i: usize) -> [[u8; 5]; 4]
     let mut x = rows;
     let a = x[i];
     let b = x[j];
-    x[i] = add(a, b, a[j]);
+    x[i] = add(p, l, a, b, a[j]);
     x
 }
 
 // Each row below t but j so cleared.
-fn clear(rows: [[u8; 5]; 4], j: usize, t: usize) -> [[u8; 5]; 4]
+fn clear(p: &[u8; 256], l: &[u8; 256], rows: [[u8; 5]; 4], j: usize, t: usize) -> [[u8; 5]; 4]
+    requires { ⌜ now p ≡ powers ⌝ }
+    requires { ⌜ now l ≡ logs ⌝ }
     requires { ⌜ (j < 4) × (t ≤ 4) ⌝ }
     ensures { λ r. ⌜ r ≡ cleared 8 285 rows j t ⌝ }
 {
     let mut x = rows;
     let mut i: usize = 0;
     while i < t {
-        let y = clear_row(x, j, i);
+        let y = clear_row(p, l, x, j, i);
         x = y;
         i += 1;
     }
@@ -96,15 +108,23 @@ fn pivot(rows: [[u8; 5]; 4], j: usize, t: usize) -> usize
 }
 
 // Column j made the column j of the identity, if it has a pivot.
-fn eliminate_column(rows: [[u8; 5]; 4], j: usize, t: usize) -> [[u8; 5]; 4]
+fn eliminate_column(
+    p: &[u8; 256],
+    l: &[u8; 256],
+    rows: [[u8; 5]; 4],
+    j: usize,
+    t: usize,
+) -> [[u8; 5]; 4]
+    requires { ⌜ now p ≡ powers ⌝ }
+    requires { ⌜ now l ≡ logs ⌝ }
     requires { ⌜ (j < t) × (t ≤ 4) ⌝ }
     ensures { λ r. ⌜ r ≡ eliminateColumn 8 285 rows j t ⌝ }
 {
-    let p = pivot(rows, j, t);
-    if p < t {
-        let x = exchange(rows, j, p);
-        let y = normalize(x, j);
-        clear(y, j, t)
+    let i = pivot(rows, j, t);
+    if i < t {
+        let x = exchange(rows, j, i);
+        let y = normalize(p, l, x, j);
+        clear(p, l, y, j, t)
     } else {
         rows
     }
@@ -120,11 +140,13 @@ fn at_most_4(t: usize) -> usize
 pub fn eliminate(rows: [[u8; 5]; 4], t: usize) -> [[u8; 5]; 4]
     ensures { λ r. ⌜ r ≡ eliminated 8 285 rows (min t 4) ⌝ }
 {
+    let p = gf256::tables::powers();
+    let l = gf256::tables::logs();
     let n = at_most_4(t);
     let mut x = rows;
     let mut j: usize = 0;
     while j < n {
-        let y = eliminate_column(x, j, n);
+        let y = eliminate_column(&p, &l, x, j, n);
         x = y;
         j += 1;
     }

@@ -8,16 +8,16 @@ use Rattle.solve.proofs.clear.Statement.{statement}
 use Rattle.solve.proofs.clear.Tie as tie
 
 abbrev Inv-loop : tie.InvT-loop
-Inv-loop j t x₀ i₀ x i = (i ≤ t) × (x ≡ cleared 8 285 x₀ j i)
+Inv-loop p l j t x₀ i₀ x i = (i ≤ t) × (x ≡ cleared 8 285 x₀ j i)
 
 abbrev μ-loop : tie.MeasureT-loop
-μ-loop j t x₀ i₀ x i = t - i
+μ-loop p l j t x₀ i₀ x i = t - i
 
 loop-holds : tie.Need-loop-holds Inv-loop μ-loop
 loop-holds c = (omega arith, sym (clear-none 8 285 _ _))
 
 clear-row-requires : tie.Need-clear-row-requires Inv-loop μ-loop
-clear-row-requires c κs = search needs
+clear-row-requires c κs = let q = c .before .before .pre in (q .0, (q .1 .0, (omega arith, omega arith)))
 
 add-i : tie.Need-add-i Inv-loop μ-loop
 add-i c = omega arith

@@ -14,7 +14,7 @@ normalize-requires : tie.Need-normalize-requires
 normalize-requires c κs = search needs
 
 clear-requires : tie.Need-clear-requires
-clear-requires c κs = search needs
+clear-requires c κs = let q = c .before .before .before .before .pre in (q .0, (q .1 .0, (omega arith, omega arith)))
 
 returns : tie.Need-returns
 returns c =

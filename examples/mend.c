@@ -1,0 +1,36 @@
+/* Encodes a text, loses bytes, mends one group by its own checks and the rest across the groups, and reads the text again. */
+#include <stdio.h>
+#include <string.h>
+
+#include "axlebloom.h"
+
+enum { M = 4, W = 8, C = 2, N = M * W };
+
+static int stopped(const char *step, uint8_t number) {
+  if (number) printf("%s: refused %d\n", step, number);
+  return number;
+}
+
+int main(void) {
+  uint8_t data[22] = "twenty-two bytes: text", word[N], marks[N] = {0}, back[22] = {0};
+  if (axlebloom_data(M, W, C) != sizeof data || axlebloom_places(M, W, C) != N) return 1;
+  if (stopped("encode", axlebloom_encode(M, W, C, data, sizeof data, word, N))) return 1;
+
+  /* group 0 loses two places, which its own checks mend; group 2 loses four, two more than it can mend alone */
+  const int lost[] = {1, 6, 16, 17, 18, 20};
+  for (size_t i = 0; i < sizeof lost / sizeof *lost; i++) marks[lost[i]] = 1, word[lost[i]] = '?';
+
+  if (stopped("repair of group 0", axlebloom_repair(M, W, C, 0, word, N, marks, N))) return 1;
+  printf("repair of group 2 alone: refused %d\n", axlebloom_repair(M, W, C, 2, word, N, marks, N));
+  if (stopped("recover", axlebloom_recover(M, W, C, word, N, marks, N))) return 1;
+  if (stopped("check", axlebloom_check(M, W, C, word, N))) return 1;
+  if (stopped("extract", axlebloom_extract(M, W, C, word, N, back, sizeof back))) return 1;
+  printf("%.22s\n", (const char *)back);
+
+  /* with a byte wrong that is not marked, the word is refused and stays as it was */
+  word[5] ^= 1;
+  uint8_t copy[N];
+  memcpy(copy, word, N);
+  printf("a wrong byte: refused %d, %s\n", axlebloom_recover(M, W, C, word, N, marks, N), memcmp(copy, word, N) ? "changed" : "unchanged");
+  return memcmp(data, back, sizeof data) != 0;
+}
