@@ -1,5 +1,6 @@
 // Whole buffers copied and cleared.
 ghost use mathlib.Core.Path.{_≡_};
+ghost use mathlib.Core.Bool.{true, false};
 ghost use lib.ListN.{length, replicate};
 
 // Copies one buffer over another of the same length; one of another length is left as it is.
@@ -25,5 +26,15 @@ pub fn clear(buffer: &mut [u8])
     while i < buffer.len() {
         buffer[i] = 0;
         i += 1;
+    }
+}
+
+// Sets every byte to 0 if the test holds.
+pub fn clear_if(test: bool, buffer: &mut [u8])
+    ensures { λ _. ⌜ (test ≡ true → now (buffer .exit) ≡ replicate (length (now (buffer .entry))) 0) ⌝ }
+    ensures { λ _. ⌜ (test ≡ false → now (buffer .exit) ≡ now (buffer .entry)) ⌝ }
+{
+    if test {
+        clear(buffer);
     }
 }

@@ -50,15 +50,14 @@ fn equation(part: &[u8], at: [usize; 4], t: usize, e: usize) -> [u8; 5]
     ensures { λ r. ⌜ Equation (now (part .entry)) at t e r ⌝ }
 {
     let powers = coefficients::power_row(e);
-    let mut x = [0u8; 5];
-    x[4] = gf256::dot(part, &powers);
-    let mut i: usize = 0;
-    while i < t {
-        let j = at[i];
-        x[i] = powers[j];
-        i += 1;
-    }
-    x
+    let syndrome = coefficients::power_sum(part, e);
+    [
+        powers[at[0] % 16],
+        powers[at[1] % 16],
+        powers[at[2] % 16],
+        powers[at[3] % 16],
+        syndrome,
+    ]
 }
 
 // The first t equations.

@@ -2,19 +2,27 @@
 pub mod tables;
 
 ghost use mathlib.Core.Path.{_≡_};
-ghost use Prim.Native.Nat.{_<_, min};
-ghost use lib.ListN.{length};
+ghost use Prim.Native.Nat.{_<_, _≤_, min};
+ghost use lib.ListN.{length, getD};
 ghost use Rattle.binary_field.specs.Product.{double, product};
-ghost use Rattle.binary_field.specs.Sum.{innerProduct};
+ghost use Rattle.binary_field.specs.Sum.{sumBelow, innerProduct};
 ghost use Rattle.binary_field.specs.Power.{power};
 ghost use Rattle.binary_field.specs.Inverse.{inverse};
 ghost use Rattle.gf256.specs.Tables.{throughTables, inverseThrough};
 
-// Twice a: a shift left by one, and where a bit is shifted out the exclusive or with what is left of 285.
+// What is left of 285, if the bit that a doubling shifts out is set.
+fn reduction(a: u8) -> u8
+    ensures { λ r. ⌜ (a < 128 → r ≡ 0) ⌝ }
+    ensures { λ r. ⌜ (128 ≤ a → r ≡ 29) ⌝ }
+{
+    if a < 128 { 0 } else { 29 }
+}
+
+// Twice a: a shift left by one, and the masked exclusive or.
 pub fn double(a: u8) -> u8
     ensures { λ r. ⌜ r ≡ double 8 285 a ⌝ }
 {
-    if a < 128 { a << 1 } else { (a << 1) ^ 29 }
+    (a << 1) ^ reduction(a)
 }
 
 // The product by shifts: the sum over the set bits of b of a times that power of two.
@@ -95,6 +103,32 @@ pub fn power(a: u8, n: usize) -> u8
     let mut i: usize = 0;
     while i < n {
         r = shifted_product(a, r);
+        i += 1;
+    }
+    r
+}
+
+// 2 to the power n, by doubling.
+pub fn power_of_two(n: usize) -> u8
+    ensures { λ r. ⌜ r ≡ power 8 285 2 n ⌝ }
+{
+    let mut r: u8 = 1;
+    let mut i: usize = 0;
+    while i < n {
+        r = double(r);
+        i += 1;
+    }
+    r
+}
+
+// The sum of all bytes of u.
+pub fn sum(u: &[u8]) -> u8
+    ensures { λ r. ⌜ r ≡ sumBelow (length (now (u .entry))) (λ i. getD (now (u .entry)) i 0) ⌝ }
+{
+    let mut r: u8 = 0;
+    let mut i: usize = 0;
+    while i < u.len() {
+        r = r ^ u[i];
         i += 1;
     }
     r

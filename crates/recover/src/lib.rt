@@ -50,9 +50,10 @@ pub fn recover(m: usize, w: usize, c: usize, word: &mut [u8], marks: &mut [u8]) 
     }
     let n = word.len();
     let mut found = [0u8; 240];
-    if !attempt(m, w, c, word, marks, &mut found[..n]) {
+    let done = attempt(m, w, c, word, marks, &mut found[..n]);
+    buffers::clear_if(done, marks);
+    if !done {
         return Answer::Refused(9);
     }
-    buffers::clear(marks);
     Answer::Done
 }

@@ -1,3 +1,4 @@
+pub mod Flat
 pub mod Elimination
 pub mod Rows
 pub mod Steps

@@ -3,7 +3,7 @@ use mathlib.Core.Path.{_≡_, refl, sym, ap, ap₂, _∙_, subst}
 use mathlib.Core.Bool.{cond}
 use mathlib.Core.List.{List, [], _∷_}
 use Prim.Native.Nat.{ℕ, zero, suc, _+_, _-_, _^_, _≤_, _<_}
-use native.Mathlib.Nat.{add-zero}
+use native.Mathlib.Nat.{add-zero, suc-inj}
 use native.Mathlib.Decide.{ℕ-discrete}
 use native.Mathlib.Omega.{arith}
 use borrow.Author.Tests.{eq-eqb, ne-eqb, lt-ltb, le-ltb}
@@ -32,6 +32,17 @@ module _ (k m : ℕ) where
   scaled-at f [] c = sym (product-zero k m f)
   scaled-at f (x ∷ xs) zero = refl
   scaled-at f (x ∷ xs) (suc c) = scaled-at f xs c
+
+  pub length-scaled : (f : ℕ) (xs : List ℕ) → length (scaled k m f xs) ≡ length xs
+  unfolding scaled
+  length-scaled f [] = refl
+  length-scaled f (x ∷ xs) = ap suc (length-scaled f xs)
+
+  pub length-added : (f : ℕ) (xs ys : List ℕ) → length ys ≡ length xs → length (added k m f xs ys) ≡ length xs
+  unfolding added
+  length-added f [] ys h = length-scaled f ys ∙ h
+  length-added f (x ∷ xs) [] h = refl
+  length-added f (x ∷ xs) (y ∷ ys) h = ap suc (length-added f xs ys (suc-inj h))
 
   pub added-at : (f : ℕ) (xs ys : List ℕ) (c : ℕ) → getD (added k m f xs ys) c 0 ≡ getD xs c 0 ⊕ product k m f (getD ys c 0)
   unfolding added

@@ -23,8 +23,7 @@ pub fn local_zero(part: &[u8], c: usize) -> bool
     }
     let mut e: usize = 0;
     while e < c {
-        let row = coefficients::power_row(e);
-        if gf256::dot(part, &row) != 0 {
+        if coefficients::power_sum(part, e) != 0 {
             return false;
         }
         e += 1;
@@ -39,8 +38,7 @@ pub fn group_first(part: &[u8], c: usize) -> u8
     if c == 0 {
         return 0;
     }
-    let row = coefficients::first_row(c - 1);
-    gf256::dot(part, &row)
+    coefficients::first_sum(part, c - 1)
 }
 
 // The part of group g of the second sum across, from its stretch: 2^g stands before the group's sum.
@@ -53,8 +51,10 @@ pub fn group_second(part: &[u8], c: usize, g: usize) -> u8
     if 14 < g {
         return 0;
     }
-    let row = coefficients::second_row(c - 1);
-    gf256::shifted_product(gf256::power(2, g), gf256::dot(part, &row))
+    gf256::shifted_product(
+        gf256::power_of_two(g),
+        coefficients::second_sum(part, c - 1),
+    )
 }
 
 // The two sums across, of a good shape and a word of its length.

@@ -1,28 +1,30 @@
-use mathlib.Core.Path.{sym}
-use Prim.Native.Nat.{_≤_}
-use native.Mathlib.Omega.{arith}
-use lib.ListN.{List·getD-eq-default}
-use Rattle.coefficients.specs.Rows.{powerRows, noRow, any-default}
-use mathlib.Core.List.{[]}
+use mathlib.Core.Path.{refl}
 use borrow.Author.Needs.{needs}
+use Rattle.coefficients.specs.Rows.{powerRows}
+use Rattle.coefficients.proofs.Laws.{chosen, none-chosen}
 use Rattle.coefficients.proofs.power_row.Statement.{statement}
 use Rattle.coefficients.proofs.power_row.Tie as tie
-use Rattle.coefficients.proofs.power_row.Reads as reads
-use Rattle.coefficients.proofs.power_row.Lts as lts
-
-mul-result : tie.Need-mul-result
-mul-result c = search needs
-
-array-copy-out-result : tie.Need-array-copy-out-result
-array-copy-out-result c = search needs
 
 returns : tie.Need-returns
 unfolding powerRows
-returns c = any-default powerRows (c .before .before .args .e) [] noRow (omega arith)
+returns c = chosen powerRows (c .before .args .e) 0 (c .match .keys1)
 
 returns-2 : tie.Need-returns-2
 unfolding powerRows
-returns-2 c = let h : 4 ≤ c .before .args .e = omega arith in sym (List·getD-eq-default powerRows noRow h)
+returns-2 c = chosen powerRows (c .before .args .e) 1 (c .match .keys2)
+
+returns-3 : tie.Need-returns-3
+unfolding powerRows
+returns-3 c = chosen powerRows (c .before .args .e) 2 (c .match .keys3)
+
+returns-4 : tie.Need-returns-4
+unfolding powerRows
+returns-4 c = chosen powerRows (c .before .args .e) 3 (c .match .keys4)
+
+returns-5 : tie.Need-returns-5
+unfolding powerRows
+returns-5 c =
+    let r = c .match .rest in none-chosen powerRows (c .before .args .e) refl (r .0 .0 .0 .1) (r .0 .0 .1) (r .0 .1) (r .1)
 
 pub power-row-spec : {M : Type 1} → statement M
-power-row-spec = tie.close (tie.spec mul-result array-copy-out-result returns returns-2)
+power-row-spec = tie.close (tie.spec returns returns-2 returns-3 returns-4 returns-5)

@@ -10,12 +10,6 @@ use Rattle.recover.specs.Attempt.{accepted, service-refused, service-eig
 use borrow.Author.Needs.{needs}
 use Rattle.recover.proofs.recover.Statement.{statement}
 use Rattle.recover.proofs.recover.Tie as tie
-use Rattle.recover.proofs.recover.Reads as reads
-use Rattle.recover.proofs.recover.Lts as lts
-use Rattle.buffers.proofs.clear.Reads as clear-reads
-use Rattle.marks.proofs.excess_of.Reads as excess-of-reads
-use Rattle.recover.proofs.attempt.Reads as attempt-reads
-use Rattle.recover.proofs.refusal.Reads as refusal-reads
 
 refusal-requires : tie.Need-refusal-requires
 refusal-requires c κs = search needs
@@ -70,6 +64,9 @@ attempt-requires c κs =
     let A = accepted (a .args .m) (a .args .w) (a .args .c) (a .args .word .now) (a .args .marks .now) (r .refusal .result) (r .refusal .ensures) (omega arith) in
     (A .good, (A .word-size, (A .marks-size, sym (slice-aggregate-attempt c) ∙ A .word-size)))
 
+clear-if-requires : tie.Need-clear-if-requires
+clear-if-requires c κs = search needs
+
 same-length-5 : tie.Need-same-length-5
 same-length-5 c = search needs
 
@@ -78,7 +75,8 @@ same-length-6 c = search needs
 
 returns-3 : tie.Need-returns-3
 returns-3 c =
-    let t = c .before .before .before .before in
+    let cl = c .before .before .before in
+    let t = cl .before .before .before .before .before in
     let x = t .before .before .before .before .before in
     let r = x .before .before .before in
     let k = r .before .before .before .before in
@@ -86,12 +84,10 @@ returns-3 c =
     let A = accepted (a .args .m) (a .args .w) (a .args .c) (a .args .word .now) (a .args .marks .now) (r .refusal .result) (r .refusal .ensures) (omega arith) in
     let h = x .excess-of .ensures (A .good) (A .marks-size) in
     let low : excess (a .args .m) (a .args .w) (a .args .c) (a .args .marks .now) ≤ 2 = rw (← h) (t .before .before .before .before .if2 .left) in
-    let F = t .attempt .ensures .failed (not-true _ (c .if3 .taken)) in
+    let n = not-true _ (c .if3 .taken) in
+    let F = t .attempt .ensures .failed n in
     let e = service-nine (a .args .m) (a .args .w) (a .args .c) (a .args .word .now) (a .args .marks .now) A (λ p. k .slice-known .given p .fits) low (F .1 low) in
-    (ap (λ o. answerAt (o .number)) (sym e), (F .0 ∙ ap (λ o. o .word) (sym e), ap (λ o. o .marks) (sym e)))
-
-clear-requires : tie.Need-clear-requires
-clear-requires c κs = search needs
+    (ap (λ o. answerAt (o .number)) (sym e), (F .0 ∙ ap (λ o. o .word) (sym e), cl .clear-if .ensures .1 n ∙ ap (λ o. o .marks) (sym e)))
 
 same-length-7 : tie.Need-same-length-7
 same-length-7 c = search needs
@@ -101,9 +97,8 @@ same-length-8 c = search needs
 
 returns-4 : tie.Need-returns-4
 returns-4 c =
-    let cl = c .before .before in
-    let f = cl .before .before in
-    let t = f .before .before .before .before in
+    let cl = c .before .before .before in
+    let t = cl .before .before .before .before .before in
     let x = t .before .before .before .before .before in
     let r = x .before .before .before in
     let k = r .before .before .before .before in
@@ -111,8 +106,9 @@ returns-4 c =
     let A = accepted (a .args .m) (a .args .w) (a .args .c) (a .args .word .now) (a .args .marks .now) (r .refusal .result) (r .refusal .ensures) (omega arith) in
     let h = x .excess-of .ensures (A .good) (A .marks-size) in
     let low : excess (a .args .m) (a .args .w) (a .args .c) (a .args .marks .now) ≤ 2 = rw (← h) (t .before .before .before .before .if2 .left) in
-    let e = service-done (a .args .m) (a .args .w) (a .args .c) (a .args .word .now) (a .args .marks .now) A (λ p. k .slice-known .given p .fits) _ low (t .attempt .ensures .done (not-false _ (f .if3 .left))) in
-    (ap (λ o. answerAt (o .number)) (sym e), (ap (λ o. o .word) (sym e), cl .clear .ensures ∙ ap (λ o. o .marks) (sym e)))
+    let y = not-false _ (c .if3 .left) in
+    let e = service-done (a .args .m) (a .args .w) (a .args .c) (a .args .word .now) (a .args .marks .now) A (λ p. k .slice-known .given p .fits) _ low (t .attempt .ensures .done y) in
+    (ap (λ o. answerAt (o .number)) (sym e), (ap (λ o. o .word) (sym e), cl .clear-if .ensures .0 y ∙ ap (λ o. o .marks) (sym e)))
 
 pub recover-spec : {M : Type 1} → statement M
 recover-spec =
@@ -129,10 +125,10 @@ recover-spec =
     array-borrow-prefix-found
     slice-aggregate-attempt
     attempt-requires
+    clear-if-requires
     same-length-5
     same-length-6
     returns-3
-    clear-requires
     same-length-7
     same-length-8
     returns-4)

@@ -1,37 +1,38 @@
 use mathlib.Core.Path.{_≡_}
-use mathlib.Core.List.{_++_}
-use Prim.Native.Nat.{_≤_, _<_, _-_}
+use mathlib.Core.List.{List, _++_}
+use Prim.Native.Nat.{ℕ, _≤_, _<_, _-_}
 use native.Mathlib.Omega.{arith}
 use lib.ListN.{length, getD, take, drop, length-set}
-use mir.Syntax.{w8}
 use borrow.Author.Needs.{needs}
 use Rattle.gf256.specs.Tables.{tables-product}
 use Rattle.solve.specs.Elimination.{added}
-use Rattle.solve.proofs.Arrays.{array-small}
 use Rattle.solve.proofs.Laws.{added-step, added-end}
 use Rattle.solve.proofs.add.Statement.{statement}
 use Rattle.solve.proofs.add.Tie as tie
+use Rattle.solve.proofs.add.Reads as reads
+use Rattle.solve.proofs.add.Lts as lts
+use Rattle.gf256.proofs.product_in.Reads as product-in-reads
 
 abbrev Inv-loop : tie.InvT-loop
-Inv-loop p l f b x₀ c₀ x c = (c ≤ 5) × (length x ≡ 5) × (length b ≡ 5) × (take c x ++ added 8 285 f (drop c x) (drop c b) ≡ added 8 285 f x₀ b)
+Inv-loop p l row₀ b f c₀ row c = (c ≤ length row₀) × (length row ≡ length row₀) × (take c row ++ added 8 285 f (drop c row) (drop c b) ≡ added 8 285 f row₀ b)
 
 abbrev μ-loop : tie.MeasureT-loop
-μ-loop p l f b x₀ c₀ x c = 5 - c
+μ-loop p l row₀ b f c₀ row c = length row₀ - c
 
 loop-holds : tie.Need-loop-holds Inv-loop μ-loop
 loop-holds c = search needs
 
-array-read-x : tie.Need-array-read-x Inv-loop μ-loop
-array-read-x c = omega arith
+slice-read-row : tie.Need-slice-read-row Inv-loop μ-loop
+slice-read-row c = omega arith
 
-array-read-product-in : tie.Need-array-read-product-in Inv-loop μ-loop
-array-read-product-in c = omega arith
+shared-slice-read-product-in : tie.Need-shared-slice-read-product-in Inv-loop μ-loop
+shared-slice-read-product-in c = omega arith
 
 product-in-requires : tie.Need-product-in-requires Inv-loop μ-loop
 product-in-requires c κs = search needs
 
-array-write-x : tie.Need-array-write-x Inv-loop μ-loop
-array-write-x c = omega arith
+slice-write-row : tie.Need-slice-write-row Inv-loop μ-loop
+slice-write-row c = omega arith
 
 add-c : tie.Need-add-c Inv-loop μ-loop
 add-c c = omega arith
@@ -41,18 +42,23 @@ loop-less c = omega arith
 
 loop-again : tie.Need-loop-again Inv-loop μ-loop
 loop-again c =
-    let s = c .before .before in
-    let b : getD (s .before .args .t4) (s .loop .c) 0 < 256 = array-small w8 5 (s .before .args .t4) _ (s .before .good .1 .1 .1 .0) (s .loop .c) in (
-      omega arith,
-      simp length-set (omega arith),
-      omega arith,
-      cc (added-step 8 285 (s .before .args .f) (s .loop .x) (s .before .args .t4) (s .loop .c) (c .product-in .result) (omega arith) (omega arith) (cc (tables-product (s .before .args .f) (getD (s .before .args .t4) (s .loop .c) 0) (omega arith) b))),
-    )
+    let s = c .before .before .before .before in
+    let a = s .before .before .before .args in
+    let x : List ℕ = s .loop .row in
+    let i : ℕ = s .loop .c in
+    let y : List ℕ = a .b .now in
+    let b : getD y i 0 < 256 = c .before .shared-slice-known2 .given i .fits in
+    let q = s .before .before .before .pre in
+    (omega arith, simp length-set (omega arith), cc (added-step 8 285 (a .f) x y i (c .product-in .result) (omega arith) (omega arith) (cc (tables-product (a .f) (getD y i 0) (omega arith) b))))
+
+same-length : tie.Need-same-length Inv-loop μ-loop
+same-length c = omega arith
 
 returns : tie.Need-returns Inv-loop μ-loop
 returns c =
     let s = c .before in
-    cc (added-end 8 285 (s .before .args .f) (s .loop .x) (s .before .args .t4) (s .loop .c) (omega arith) (omega arith))
+    let a = s .before .before .before .args in
+    cc (added-end 8 285 (a .f) (s .loop .row) (a .b .now) (s .loop .c) (omega arith) (omega arith))
 
 pub add-spec : {M : Type 1} → statement M
 add-spec =
@@ -61,11 +67,12 @@ add-spec =
     Inv-loop
     μ-loop
     loop-holds
-    array-read-x
-    array-read-product-in
+    slice-read-row
+    shared-slice-read-product-in
     product-in-requires
-    array-write-x
+    slice-write-row
     add-c
     loop-less
     loop-again
+    same-length
     returns)

@@ -1,23 +1,39 @@
-use mathlib.Core.Path.{_≡_, sym}
-use Prim.Native.Nat.{_≤_, _-_}
+use mathlib.Core.Path.{_≡_, _∙_}
+use Prim.Native.Nat.{ℕ, _-_, _≤_}
 use native.Mathlib.Omega.{arith}
+use lib.ListN.{length}
 use borrow.Author.Needs.{needs}
 use Rattle.solve.specs.Elimination.{cleared}
-use Rattle.solve.proofs.Laws.{clear-none, clear-next}
+use Rattle.solve.specs.Flat.{rowsOf}
+use Rattle.solve.proofs.Laws.{clear-none, clear-pivot, clear-next}
 use Rattle.solve.proofs.clear.Statement.{statement}
 use Rattle.solve.proofs.clear.Tie as tie
+use Rattle.solve.proofs.clear.Reads as reads
+use Rattle.solve.proofs.clear.Lts as lts
+use Rattle.solve.proofs.clear_row.Reads as clear-row-reads
+use Rattle.solve.proofs.row_at.Reads as row-at-reads
 
 abbrev Inv-loop : tie.InvT-loop
-Inv-loop p l j t x₀ i₀ x i = (i ≤ t) × (x ≡ cleared 8 285 x₀ j i)
+Inv-loop p l x₀ j t b i₀ x i = (i ≤ t) × (length x ≡ 20) × (rowsOf x ≡ cleared 8 285 (rowsOf x₀) j i)
 
 abbrev μ-loop : tie.MeasureT-loop
-μ-loop p l j t x₀ i₀ x i = t - i
+μ-loop p l x₀ j t b i₀ x i = t - i
+
+row-at-requires : tie.Need-row-at-requires Inv-loop μ-loop
+row-at-requires c κs = search needs
 
 loop-holds : tie.Need-loop-holds Inv-loop μ-loop
-loop-holds c = (omega arith, sym (clear-none 8 285 _ _))
+loop-holds c = (omega arith, omega arith, clear-none 8 285 _ _)
+
+slice-aggregate-clear-row : tie.Need-slice-aggregate-clear-row Inv-loop μ-loop
+slice-aggregate-clear-row c = search needs
 
 clear-row-requires : tie.Need-clear-row-requires Inv-loop μ-loop
-clear-row-requires c κs = let q = c .before .before .pre in (q .0, (q .1 .0, (omega arith, omega arith)))
+clear-row-requires c κs =
+    let s = c .before .before .before in
+    let r = s .before in
+    let a = r .before .before .before in
+    (a .pre .0, (a .pre .1 .0, ((omega arith, omega arith, omega arith), r .row-at .ensures ∙ clear-pivot 8 285 (rowsOf (a .args .x .now)) (a .args .j) (rowsOf (s .loop .x)) (s .loop .i) (s .loop .inv .2))))
 
 add-i : tie.Need-add-i Inv-loop μ-loop
 add-i c = omega arith
@@ -27,15 +43,32 @@ loop-less c = omega arith
 
 loop-again : tie.Need-loop-again Inv-loop μ-loop
 loop-again c =
-    let s = c .before .before in (omega arith, cc (clear-next 8 285 (s .before .args .rows) (s .before .args .j) (s .loop .i)))
+    let r = c .before .before in
+    let s = r .before .before .before .before in
+    let a = s .before .before .before .before .args in
+    (omega arith, search needs, r .clear-row .ensures ∙ clear-next 8 285 (rowsOf (a .x .now)) (a .j) (rowsOf (s .loop .x)) (s .loop .i) (s .loop .inv .2))
+
+same-length : tie.Need-same-length Inv-loop μ-loop
+same-length c = omega arith
 
 returns : tie.Need-returns Inv-loop μ-loop
 returns c =
     let s = c .before in
-    let e : s .loop .i ≡ s .before .args .t = omega arith in
+    let e : s .loop .i ≡ s .before .before .before .before .args .t = omega arith in
     cc
 
 pub clear-spec : {M : Type 1} → statement M
 clear-spec =
     tie.close
-    (tie.spec Inv-loop μ-loop loop-holds clear-row-requires add-i loop-less loop-again returns)
+    (tie.spec
+    Inv-loop
+    μ-loop
+    row-at-requires
+    loop-holds
+    slice-aggregate-clear-row
+    clear-row-requires
+    add-i
+    loop-less
+    loop-again
+    same-length
+    returns)

@@ -1,39 +1,61 @@
-use Rattle.solve.proofs.Laws.{row-skip, row-add}
+use mathlib.Core.Path.{_≡_, sym, ap, _∙_}
+use mathlib.Core.List.{List}
+use Prim.Native.Nat.{ℕ}
+use native.Mathlib.Omega.{arith}
+use lib.ListN.{length}
+use Rattle.code.specs.Stretch.{stretch-length}
+use Rattle.groups.specs.Lent.{stretch-lent, with-lent}
+use Rattle.solve.specs.Flat.{rowsOf, row-long}
+use Rattle.solve.proofs.Laws.{row-skip, clear-part}
 use borrow.Author.Needs.{needs}
 use Rattle.solve.proofs.clear_row.Statement.{statement}
 use Rattle.solve.proofs.clear_row.Tie as tie
+use Rattle.solve.proofs.clear_row.Reads as reads
+use Rattle.solve.proofs.clear_row.Lts as lts
+use Rattle.solve.proofs.add.Reads as add-reads
 
 returns : tie.Need-returns
-returns c = row-skip 8 285 (c .before .args .rows) (c .before .args .j) (c .before .args .i) (c .if1 .taken)
+returns c = row-skip 8 285 _ _ _ (c .if1 .taken)
 
 mul-a : tie.Need-mul-a
 mul-a c = search needs
 
-array-copy-out-a : tie.Need-array-copy-out-a
-array-copy-out-a c = search needs
+add-e : tie.Need-add-e
+add-e c = search needs
 
-mul-b : tie.Need-mul-b
-mul-b c = search needs
+add-f : tie.Need-add-f
+add-f c = search needs
 
-array-copy-out-b : tie.Need-array-copy-out-b
-array-copy-out-b c = search needs
+slice-read-f : tie.Need-slice-read-f
+slice-read-f c = search needs
 
-array-read-add : tie.Need-array-read-add
-array-read-add c = search needs
+sub-add : tie.Need-sub-add
+sub-add c = search needs
+
+part-add-start : tie.Need-part-add-start
+part-add-start c = search needs
+
+part-add-end : tie.Need-part-add-end
+part-add-end c = search needs
 
 add-requires : tie.Need-add-requires
-add-requires c κs = search needs
+add-requires c κs =
+    let a = c .before .before .before .before .before in
+    let x : List ℕ = a .args .x .now in
+    (a .pre .0, (a .pre .1 .0, ap length (a .pre .1 .1 .1) ∙ row-long x (omega arith) (a .args .j) (omega arith) ∙ sym (ap length (stretch-lent 5 (a .args .i) x) ∙ stretch-length 5 (a .args .i) x (omega arith))))
 
-mul-x : tie.Need-mul-x
-mul-x c = search needs
-
-array-set-from-x : tie.Need-array-set-from-x
-array-set-from-x c = search needs
+same-length : tie.Need-same-length
+same-length c = search needs
 
 returns-2 : tie.Need-returns-2
 returns-2 c =
-    let s = c .before .before .before in
-    cc (row-add 8 285 (s .before .args .rows) (s .before .args .j) (s .before .args .i) (s .if1 .left))
+    let s = c .before .before in
+    let t = s .before .before .before in
+    let a = t .before .before .before in
+    let x : List ℕ = a .args .x .now in
+    let i : ℕ = a .args .i in
+    ap rowsOf (with-lent 5 i x (s .add .last .1 .1 .0))
+    ∙ clear-part 8 285 x (omega arith) i (omega arith) _ (a .args .j) (omega arith) (t .if1 .left) (rw (stretch-lent 5 i x, a .pre .1 .1 .1) at (s .add .ensures))
 
 pub clear-row-spec : {M : Type 1} → statement M
 clear-row-spec =
@@ -41,11 +63,12 @@ clear-row-spec =
     (tie.spec
     returns
     mul-a
-    array-copy-out-a
-    mul-b
-    array-copy-out-b
-    array-read-add
+    add-e
+    add-f
+    slice-read-f
+    sub-add
+    part-add-start
+    part-add-end
     add-requires
-    mul-x
-    array-set-from-x
+    same-length
     returns-2)

@@ -1,64 +1,66 @@
-use mathlib.Core.Path.{_≡_, sym}
-use Prim.Native.Nat.{_≤_, _-_}
+use mathlib.Core.Path.{ap₂, _∙_}
+use Rattle.solve.specs.Elimination.{eliminated}
 use native.Mathlib.Omega.{arith}
 use borrow.Author.Needs.{needs}
-use Rattle.solve.specs.Elimination.{eliminatedTo, eliminated}
-use Rattle.solve.proofs.Laws.{eliminate-none, eliminate-next}
 use Rattle.solve.proofs.eliminate.Statement.{statement}
 use Rattle.solve.proofs.eliminate.Tie as tie
+use Rattle.solve.proofs.eliminate.Reads as reads
+use Rattle.solve.proofs.eliminate.Lts as lts
+use Rattle.gf256.proofs.tables.logs.Reads as logs-reads
+use Rattle.gf256.proofs.tables.powers.Reads as powers-reads
+use Rattle.solve.proofs.at_most_4.Reads as at-most-4-reads
+use Rattle.solve.proofs.eliminate_columns.Reads as eliminate-columns-reads
+use Rattle.solve.proofs.lay.Reads as lay-reads
+use Rattle.solve.proofs.rows_at.Reads as rows-at-reads
 
-abbrev Inv-loop : tie.InvT-loop
-Inv-loop t p l n x₀ j₀ x j = (j ≤ n) × (x ≡ eliminatedTo 8 285 x₀ n j)
-
-abbrev μ-loop : tie.MeasureT-loop
-μ-loop t p l n x₀ j₀ x j = n - j
-
-powers-requires : tie.Need-powers-requires Inv-loop μ-loop
+powers-requires : tie.Need-powers-requires
 powers-requires c κs = search needs
 
-logs-requires : tie.Need-logs-requires Inv-loop μ-loop
+logs-requires : tie.Need-logs-requires
 logs-requires c κs = search needs
 
-at-most-4-requires : tie.Need-at-most-4-requires Inv-loop μ-loop
+at-most-4-requires : tie.Need-at-most-4-requires
 at-most-4-requires c κs = search needs
 
-loop-holds : tie.Need-loop-holds Inv-loop μ-loop
-loop-holds c = (omega arith, sym (eliminate-none 8 285 _ _))
+slice-aggregate-lay : tie.Need-slice-aggregate-lay
+slice-aggregate-lay c = search needs
 
-eliminate-column-requires : tie.Need-eliminate-column-requires Inv-loop μ-loop
-eliminate-column-requires c κs =
-    let n = c .before .before .before .before in
-    let four = n .at-most-4 .ensures in (n .before .before .powers .ensures, (n .before .logs .ensures, (omega arith, omega arith)))
+lay-requires : tie.Need-lay-requires
+lay-requires c κs = search needs
 
-add-j : tie.Need-add-j Inv-loop μ-loop
-add-j c = omega arith
+slice-aggregate-eliminate-columns : tie.Need-slice-aggregate-eliminate-columns
+slice-aggregate-eliminate-columns c = search needs
 
-loop-less : tie.Need-loop-less Inv-loop μ-loop
-loop-less c = omega arith
+eliminate-columns-requires : tie.Need-eliminate-columns-requires
+eliminate-columns-requires c κs =
+    let l = c .before .before .before .before in
+    let n = l .before .before in
+    let four = n .at-most-4 .ensures in
+    (n .before .before .powers .ensures, (n .before .logs .ensures, (search needs, omega arith)))
 
-loop-again : tie.Need-loop-again Inv-loop μ-loop
-loop-again c =
-    let s = c .before .before .before .before in (omega arith, cc (eliminate-next 8 285 (s .before .before .before .before .args .rows) (s .before .at-most-4 .result) (s .loop .j)))
+slice-aggregate-rows-at : tie.Need-slice-aggregate-rows-at
+slice-aggregate-rows-at c = search needs
 
-returns : tie.Need-returns Inv-loop μ-loop
-unfolding eliminated
+rows-at-requires : tie.Need-rows-at-requires
+rows-at-requires c κs = search needs
+
+returns : tie.Need-returns
 returns c =
-    let s = c .before in
-    let e : s .loop .j ≡ s .before .at-most-4 .result = omega arith in
-    cc (s .before .at-most-4 .ensures)
+    let k = c .before .before .before in
+    let l = k .before .before .before .before .before in
+    c .rows-at .ensures ∙ k .eliminate-columns .ensures ∙ ap₂ (eliminated 8 285) (l .lay .ensures) (l .before .before .at-most-4 .ensures)
 
 pub eliminate-spec : {M : Type 1} → statement M
 eliminate-spec =
     tie.close
     (tie.spec
-    Inv-loop
-    μ-loop
     powers-requires
     logs-requires
     at-most-4-requires
-    loop-holds
-    eliminate-column-requires
-    add-j
-    loop-less
-    loop-again
+    slice-aggregate-lay
+    lay-requires
+    slice-aggregate-eliminate-columns
+    eliminate-columns-requires
+    slice-aggregate-rows-at
+    rows-at-requires
     returns)

@@ -1,13 +1,72 @@
-use Rattle.solve.proofs.Laws.{added-zeros}
+use mathlib.Core.Path.{_≡_}
+use mathlib.Core.List.{List, _++_}
+use Prim.Native.Nat.{ℕ, _≤_, _<_, _-_}
+use native.Mathlib.Omega.{arith}
+use lib.ListN.{length, getD, take, drop, length-set}
 use borrow.Author.Needs.{needs}
+use Rattle.gf256.specs.Tables.{tables-product}
+use Rattle.solve.specs.Elimination.{scaled}
+use Rattle.solve.proofs.Laws.{scaled-step, scaled-end}
 use Rattle.solve.proofs.scale.Statement.{statement}
 use Rattle.solve.proofs.scale.Tie as tie
+use Rattle.solve.proofs.scale.Reads as reads
+use Rattle.solve.proofs.scale.Lts as lts
+use Rattle.gf256.proofs.product_in.Reads as product-in-reads
 
-add-requires : tie.Need-add-requires
-add-requires c κs = search needs
+abbrev Inv-loop : tie.InvT-loop
+Inv-loop p l row₀ f c₀ row c = (c ≤ length row₀) × (length row ≡ length row₀) × (take c row ++ scaled 8 285 f (drop c row) ≡ scaled 8 285 f row₀)
 
-returns : tie.Need-returns
-returns c = cc (added-zeros 8 285 5 (c .before .args .f) (c .before .args .row) (search needs))
+abbrev μ-loop : tie.MeasureT-loop
+μ-loop p l row₀ f c₀ row c = length row₀ - c
+
+loop-holds : tie.Need-loop-holds Inv-loop μ-loop
+loop-holds c = search needs
+
+slice-read-product-in : tie.Need-slice-read-product-in Inv-loop μ-loop
+slice-read-product-in c = omega arith
+
+product-in-requires : tie.Need-product-in-requires Inv-loop μ-loop
+product-in-requires c κs = search needs
+
+slice-write-row : tie.Need-slice-write-row Inv-loop μ-loop
+slice-write-row c = omega arith
+
+add-c : tie.Need-add-c Inv-loop μ-loop
+add-c c = omega arith
+
+loop-less : tie.Need-loop-less Inv-loop μ-loop
+loop-less c = omega arith
+
+loop-again : tie.Need-loop-again Inv-loop μ-loop
+loop-again c =
+    let s = c .before .before .before in
+    let a = s .before .before .args in
+    let x : List ℕ = s .loop .row in
+    let i : ℕ = s .loop .c in
+    let b : getD x i 0 < 256 = c .before .slice-known2 .given i .fits in
+    let q = s .before .before .pre in
+    (omega arith, simp length-set (omega arith), cc (scaled-step 8 285 (a .f) x i (c .product-in .result) (omega arith) (cc (tables-product (a .f) (getD x i 0) (omega arith) b))))
+
+same-length : tie.Need-same-length Inv-loop μ-loop
+same-length c = omega arith
+
+returns : tie.Need-returns Inv-loop μ-loop
+returns c =
+    let s = c .before in
+    cc (scaled-end 8 285 (s .before .before .args .f) (s .loop .row) (s .loop .c) (omega arith))
 
 pub scale-spec : {M : Type 1} → statement M
-scale-spec = tie.close (tie.spec add-requires returns)
+scale-spec =
+    tie.close
+    (tie.spec
+    Inv-loop
+    μ-loop
+    loop-holds
+    slice-read-product-in
+    product-in-requires
+    slice-write-row
+    add-c
+    loop-less
+    loop-again
+    same-length
+    returns)

@@ -23,23 +23,17 @@ returns c = λ _ few. absurd (omega arith)
 loop-holds : tie.Need-loop-holds Inv-loop μ-loop
 loop-holds c = (omega arith, λ _. below-none _)
 
-power-row-requires : tie.Need-power-row-requires Inv-loop μ-loop
-power-row-requires c κs = search needs
-
-slice-aggregate-dot : tie.Need-slice-aggregate-dot Inv-loop μ-loop
-slice-aggregate-dot c = search needs
-
-dot-requires : tie.Need-dot-requires Inv-loop μ-loop
-dot-requires c κs = search needs
+power-sum-requires : tie.Need-power-sum-requires Inv-loop μ-loop
+power-sum-requires c κs = search needs
 
 returns-2 : tie.Need-returns-2 Inv-loop μ-loop
 returns-2 c =
-    let s = c .before .before .before .before .before in
+    let s = c .before .before .before in
     let a = s .before .before .before .args in
     let p = a .part .now in
     λ narrow few.
     let z = power-group p narrow (s .loop .e) (omega arith) in
-    let e : c .before .dot .result ≡ localSum bytes (length p) p 0 (s .loop .e) = cc in
+    let e : c .before .power-sum .result ≡ localSum bytes (length p) p 0 (s .loop .e) = cc in
     sym (is-false _ (λ t. c .if2 .taken (e ∙ local-zero bytes (length p) (a .c) p 0 t (s .loop .e) (omega arith))))
 
 add-e : tie.Need-add-e Inv-loop μ-loop
@@ -50,7 +44,7 @@ loop-less c = omega arith
 
 loop-again : tie.Need-loop-again Inv-loop μ-loop
 loop-again c =
-    let s = c .before .before .before .before .before in
+    let s = c .before .before .before in
     let p = s .before .before .before .args .part .now in (
       omega arith,
       λ narrow.
@@ -73,9 +67,7 @@ local-zero-spec =
     μ-loop
     returns
     loop-holds
-    power-row-requires
-    slice-aggregate-dot
-    dot-requires
+    power-sum-requires
     returns-2
     add-e
     loop-less

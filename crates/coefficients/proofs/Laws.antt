@@ -1,0 +1,29 @@
+-- A row that is chosen by its number, and the row of ones.
+use mathlib.Core.Path.{_≡_, sym, ap, _∙_}
+use mathlib.Core.List.{List}
+use Prim.Native.Nat.{ℕ, _<_, _≤_}
+use native.Mathlib.Omega.{arith}
+use lib.Dec.{lit<}
+use lib.ListN.{length, getD, List·getD-eq-default}
+use Rattle.binary_field.specs.Product.{product, product-one}
+use Rattle.binary_field.specs.Power.{power-zero}
+use Rattle.binary_field.specs.Sum.{sumBelow, sum-ext, innerProduct}
+use Rattle.code.specs.Edition.{bytes}
+use Rattle.coefficients.specs.Rows.{powerRows, noRow, power-at}
+
+module _ (rows : List (List ℕ)) (e : ℕ) where
+  pub chosen : (k : ℕ) → e ≡ k → getD rows k noRow ≡ getD rows e noRow
+  chosen k h = sym (ap (λ n. getD rows n noRow) h)
+
+  pub none-chosen : length rows ≡ 4 → ¬ (e ≡ 0) → ¬ (e ≡ 1) → ¬ (e ≡ 2) → ¬ (e ≡ 3) → noRow ≡ getD rows e noRow
+  none-chosen l a b c d = let h : length rows ≤ e = omega arith in sym (List·getD-eq-default rows noRow h)
+
+-- the power 0 of every locator is 1
+pub ones-sum : (u : List ℕ) → ((i : ℕ) → getD u i 0 < 256) → length u ≤ 16
+    → sumBelow (length u) (λ i. getD u i 0) ≡ innerProduct 8 285 (length u) u (getD powerRows 0 noRow)
+unfolding innerProduct
+ones-sum u small h =
+    sum-ext (length u) _ _
+    (λ i l.
+    sym (product-one 8 285 (lit< tt) (getD u i 0) (small i))
+    ∙ ap (product 8 285 (getD u i 0)) (sym (power-at 0 i (lit< tt) (omega arith) ∙ power-zero 8 285 (bytes .locator i))))
