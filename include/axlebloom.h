@@ -3,9 +3,11 @@
  * A word is m groups of w bytes, group after group, n = m*w bytes in all. Each group has c local checks, and two checks more go across
  * all groups. Marks are n bytes, 1 for a lost byte and 0 for one that is present.
  *
- * Every function answers whatever it is given. A length stands beside every pointer and is tested. A result is 0 for done, or the number
- * of a refusal; on a refusal nothing that was lent is changed. No function keeps anything between calls or allocates memory; two threads
- * may call any of them at once on buffers of their own. Buffers of one call must not overlap. A pointer whose length is 0 may be null.
+ * Every function answers whatever it is given. A length stands beside every pointer to a row of bytes or of group numbers and is tested.
+ * A result is 0 for done, or the number of a refusal; on a refusal nothing that was lent is changed. No function keeps anything between
+ * calls or allocates memory; two threads may call any of them at once on buffers and desks of their own. What is lent to one call must not
+ * overlap. A pointer whose length is 0 may be null. A pointer to a desk, a handle or a count has no length and must point to one; what it
+ * points to may hold anything.
  */
 #ifndef AXLEBLOOM_H
 #define AXLEBLOOM_H
@@ -17,7 +19,7 @@
 extern "C" {
 #endif
 
-/* Refusals: the lowest number that applies is given. */
+/* Refusals: the lowest number that applies is given. Only with a desk 31 comes before all others, and with a handle 12, 5, 13, 9 follow. */
 enum {
   AXLEBLOOM_DONE = 0,
   AXLEBLOOM_GROUPS = 1,        /* m is not 1 to 15 */
@@ -28,7 +30,12 @@ enum {
   AXLEBLOOM_MARK = 6,          /* a mark is neither 0 nor 1 */
   AXLEBLOOM_GROUP_NUMBER = 7,  /* no such group */
   AXLEBLOOM_UNDETERMINED = 8,  /* too much is lost: the present bytes fit more than one codeword; find another disk */
-  AXLEBLOOM_CONTRADICTORY = 9  /* the present bytes fit no codeword: one of them is wrong; nothing was written */
+  AXLEBLOOM_CONTRADICTORY = 9, /* the present bytes fit no codeword: one of them is wrong; nothing was written */
+  AXLEBLOOM_ALL_ISSUED = 10,   /* this desk has issued all its 65535 handles; start a fresh one */
+  AXLEBLOOM_DESK_FULL = 11,    /* all eight jobs of the desk are open; close one */
+  AXLEBLOOM_NOT_OPEN = 12,     /* no open job of this desk has that handle: it was closed, or this desk never gave it */
+  AXLEBLOOM_SERVED_OUT = 13,   /* this job has served 4294967295 words; close it and open it again */
+  AXLEBLOOM_UNSOUND = 31       /* the desk's bytes were changed by something else, or never made fresh; start a fresh one */
 };
 
 /* Whether the shape is good: 0, or 1 to 4. */
@@ -61,6 +68,58 @@ uint8_t axlebloom_recover(size_t m, size_t w, size_t c, uint8_t *word, size_t n,
  * are those of axlebloom_recover at once. Where it is refused, repairs that were done before stay done. */
 uint8_t axlebloom_repair_then_recover(size_t m, size_t w, size_t c, uint8_t *word, size_t n, uint8_t *marks, size_t marks_n,
                                       const size_t *groups, size_t count);
+
+/* The desk: up to eight open recovery jobs, each for words that lose the same places. The caller holds the record and lends it to every
+ * call. It may be copied, and saved as bytes; a copy that is lent again counts as the desk it was then. Only the functions below should
+ * write to it: all but axlebloom_fresh first test it, and refuse it by 31 if it can't be what they left. */
+struct axlebloom_job {
+  uint8_t taken;      /* 1, or 0 for a free slot */
+  uint8_t m, w, c;    /* the shape */
+  uint32_t served;    /* words served since the job was opened */
+  uint64_t handle;    /* 8u+s in slot s, if this was the u-th job opened */
+  uint8_t marks[240]; /* the n marks, and 0 past them */
+};
+
+struct axlebloom_desk {
+  uint64_t t; /* handles issued, at most 65535 */
+  struct axlebloom_job jobs[8];
+};
+
+/* The library was compiled for this layout. */
+#ifdef __cplusplus
+#define AXLEBLOOM_HOLDS(fact) static_assert(fact, #fact)
+#else
+#define AXLEBLOOM_HOLDS(fact) _Static_assert(fact, #fact)
+#endif
+AXLEBLOOM_HOLDS(sizeof(struct axlebloom_job) == 256);
+AXLEBLOOM_HOLDS(offsetof(struct axlebloom_job, taken) == 0);
+AXLEBLOOM_HOLDS(offsetof(struct axlebloom_job, m) == 1);
+AXLEBLOOM_HOLDS(offsetof(struct axlebloom_job, w) == 2);
+AXLEBLOOM_HOLDS(offsetof(struct axlebloom_job, c) == 3);
+AXLEBLOOM_HOLDS(offsetof(struct axlebloom_job, served) == 4);
+AXLEBLOOM_HOLDS(offsetof(struct axlebloom_job, handle) == 8);
+AXLEBLOOM_HOLDS(offsetof(struct axlebloom_job, marks) == 16);
+AXLEBLOOM_HOLDS(sizeof(struct axlebloom_desk) == 2056);
+AXLEBLOOM_HOLDS(offsetof(struct axlebloom_desk, t) == 0);
+AXLEBLOOM_HOLDS(offsetof(struct axlebloom_desk, jobs) == 8);
+#undef AXLEBLOOM_HOLDS
+
+/* Makes the desk a fresh one, whatever it held: no handle issued, every slot free, every byte 0. Never refused. */
+void axlebloom_fresh(struct axlebloom_desk *desk);
+
+/* Opens a job in the lowest free slot, with copies of the shape and of the n marks, and writes its handle. From one fresh to the next a
+ * desk gives no handle twice, and never 0 to 7. Refused by 1 to 6, 8, 10, 11 and 31; desk and handle are then unchanged. */
+uint8_t axlebloom_open(struct axlebloom_desk *desk, size_t m, size_t w, size_t c, const uint8_t *marks, size_t n, uint64_t *handle);
+
+/* Mends a word by the job's marks, which stay, and adds one to its served count. Refused by 5, 9, 12, 13 and 31; desk and word are then
+ * unchanged. */
+uint8_t axlebloom_serve(struct axlebloom_desk *desk, uint64_t handle, uint8_t *word, size_t n);
+
+/* Writes the job's served count. Refused by 12 and 31; served is then unchanged. */
+uint8_t axlebloom_read(const struct axlebloom_desk *desk, uint64_t handle, uint32_t *served);
+
+/* Closes the job: its slot is free at once, and all its bytes are 0. Refused by 12 and 31; the desk is then unchanged. */
+uint8_t axlebloom_close(struct axlebloom_desk *desk, uint64_t handle);
 
 #ifdef __cplusplus
 }

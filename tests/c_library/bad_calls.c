@@ -25,6 +25,194 @@ static void expect(const char *what, int expected, int number, int odd, uint8_t 
   fill();
 }
 
+/* ---- desks */
+
+enum { OPEN, SERVE, READ, CLOSE, CALLS };
+
+/* all that is lent to a call on a desk, and the same with a sound one */
+static struct lent {
+  struct axlebloom_desk desk;
+  uint8_t word[240], marks[240];
+  uint64_t handle;
+  uint32_t served;
+} lent, sound;
+
+static uint64_t state = 1;
+
+static uint64_t next(void) {
+  state ^= state << 13, state ^= state >> 7, state ^= state << 17;
+  return state >> 8;
+}
+
+static int rarely(void) { return next() % 32 == 0; }
+
+static void wrong(const char *what, int call, int number) {
+  printf("%s, call %d: %d\n", what, call, number);
+  failures++;
+}
+
+static uint8_t make(int call, size_t m, size_t w, size_t c, uint64_t handle, size_t n) {
+  switch (call) {
+  case OPEN: return axlebloom_open(&lent.desk, m, w, c, n ? lent.marks : NULL, n, &lent.handle);
+  case SERVE: return axlebloom_serve(&lent.desk, handle, n ? lent.word : NULL, n);
+  case READ: return axlebloom_read(&lent.desk, handle, &lent.served);
+  default: return axlebloom_close(&lent.desk, handle);
+  }
+}
+
+/* The answer of a call: a number that the header lists for it, and if that is not 0, no byte that was lent has changed. */
+static uint8_t answer(const char *what, int call, size_t m, size_t w, size_t c, uint64_t handle, size_t n) {
+  static const uint8_t listed[CALLS][11] = {{0, 1, 2, 3, 4, 5, 6, 8, 10, 11, 31}, {0, 5, 9, 12, 13, 31}, {0, 12, 31}, {0, 12, 31}};
+  struct lent before;
+  memcpy(&before, &lent, sizeof lent);
+  uint8_t number = make(call, m, w, c, handle, n);
+  calls++;
+  if (!memchr(listed[call], number, sizeof listed[call])) wrong(what, call, number);
+  if ((number || call == READ) && memcmp(&before.desk, &lent.desk, sizeof lent.desk)) wrong("the desk has changed", call, number);
+  if (number && memcmp(&before, &lent, sizeof lent)) wrong("a lent byte has changed", call, number);
+  return number;
+}
+
+/* with the shape 15, 16, 4 and all its places */
+static void expect_of_desk(const char *what, int expected, int call, uint64_t handle) {
+  uint8_t number = answer(what, call, 15, 16, 4, handle, 240);
+  if (number != expected) wrong(what, call, number);
+}
+
+/* what the requirements call a sound desk, by the library's own judgement of marks */
+static int is_sound(const struct axlebloom_desk *desk) {
+  uint64_t issued[8] = {0};
+  for (unsigned s = 0; s < 8; s++) {
+    const struct axlebloom_job *job = &desk->jobs[s];
+    if (job->taken == 0) continue;
+    size_t n = (size_t)job->m * job->w;
+    issued[s] = job->handle / 8;
+    if (job->taken != 1 || n > 240 || axlebloom_judge(job->m, job->w, job->c, job->marks, n)) return 0;
+    if (job->handle % 8 != s || issued[s] < 1 || issued[s] > desk->t) return 0;
+    for (unsigned r = 0; r < s; r++) if (issued[r] == issued[s]) return 0;
+  }
+  return desk->t <= 65535;
+}
+
+/* jobs 1 to 6 are opened in slots 0 to 5, and job 3 is closed; the word is a codeword, of zeroes */
+static void make_sound(void) {
+  memset(&lent, 0, sizeof lent);
+  for (uint64_t s = 0; s < 6; s++) {
+    lent.marks[s] = 1;
+    expect_of_desk("opening", 0, OPEN, 0);
+    if (lent.handle != 8 * (s + 1) + s) wrong("handle", OPEN, (int)lent.handle);
+  }
+  expect_of_desk("closing", 0, CLOSE, 26);
+  memcpy(&sound, &lent, sizeof lent);
+}
+
+static void lend_sound(void) { memcpy(&lent, &sound, sizeof lent); }
+
+/* a desk that may be sound, as no calls would leave it */
+static void lend_likely(void) {
+  lent.desk.t = rarely() ? 65536 : 65533 + next() % 3;
+  for (unsigned s = 0; s < 8; s++) {
+    struct axlebloom_job *job = &lent.desk.jobs[s];
+    job->taken = rarely() ? 2 : next() % 4 != 0;
+    job->m = rarely() ? 16 : 1 + next() % 15;
+    job->w = rarely() ? 17 : 6 + next() % 11;
+    job->c = 1 + next() % 4;
+    job->handle = 8 * (1 + next() % (rarely() ? 70000 : 65530)) + (rarely() ? next() % 8 : s);
+    for (int i = 0; i < 240; i++) job->marks[i] = rarely();
+  }
+  memset(lent.marks, 0, sizeof lent.marks);
+}
+
+/* each call, good or bad otherwise, is refused 31 exactly if the desk is not sound */
+static void all_calls(const char *what) {
+  struct lent before;
+  memcpy(&before, &lent, sizeof lent);
+  int expected = !is_sound(&lent.desk);
+  for (int call = 0; call < CALLS; call++) {
+    const struct axlebloom_job *job = &lent.desk.jobs[next() % 8];
+    int good = next() % 2;
+    size_t m = good ? 15 : next() % 17, w = good ? 16 : next() % 18, c = good ? 4 : next() % 6;
+    size_t n = call == SERVE && good ? (size_t)job->m * job->w % 241 : good ? 240 : next() % 241;
+    uint8_t number = answer(what, call, m, w, c, good ? job->handle : next() % 64, n);
+    if ((number == 31) != expected) wrong(expected ? "a desk that is not sound" : "a sound desk", call, number);
+    memcpy(&lent, &before, sizeof lent);
+  }
+}
+
+static void random_desks(void) {
+  for (int turn = 0; turn < 20000; turn++) {
+    for (size_t i = 0; i < sizeof lent; i++) ((uint8_t *)&lent)[i] = (uint8_t)next();
+    all_calls("random bytes");
+    lend_likely();
+    all_calls("likely fields");
+    lend_sound();
+    for (uint64_t i = next() % 4; i; i--) ((uint8_t *)&lent.desk)[next() % sizeof lent.desk] ^= (uint8_t)(1u << next() % 8);
+    all_calls("a bit or three changed");
+  }
+}
+
+#define BROKEN(change)                                                                                \
+  do {                                                                                                \
+    lend_sound();                                                                                     \
+    change;                                                                                           \
+    for (int call = 0; call < CALLS; call++) expect_of_desk(#change, 31, call, 8);                    \
+    if (answer(#change, OPEN, 0, 0, 0, 0, 0) != 31) wrong("another number comes before 31", OPEN, 0); \
+  } while (0)
+
+static void broken_desks(void) {
+  struct axlebloom_desk *desk = &lent.desk;
+  BROKEN(desk->jobs[0].taken = 2);
+  BROKEN(desk->jobs[0].taken = 255);
+  BROKEN(desk->jobs[7].taken = 1);
+  BROKEN(desk->jobs[0].m = 0);
+  BROKEN(desk->jobs[0].m = 16);
+  BROKEN(desk->jobs[0].w = 5);
+  BROKEN(desk->jobs[0].w = 17);
+  BROKEN(desk->jobs[0].c = 0);
+  BROKEN(desk->jobs[0].c = 5);
+  BROKEN(desk->jobs[5].marks[0] = 2);
+  BROKEN(desk->jobs[5].marks[239] = 255);
+  BROKEN(memset(desk->jobs[0].marks, 1, 7));
+  BROKEN(desk->jobs[0].handle = desk->jobs[1].handle);
+  BROKEN(desk->jobs[0].handle = 8 + 1);
+  BROKEN(desk->jobs[0].handle = 0);
+  BROKEN(desk->jobs[0].handle = 8 * 7);
+  BROKEN(desk->jobs[0].handle = (uint64_t)-8);
+  BROKEN(desk->jobs[0].handle = 8 * 2);
+  BROKEN(desk->t = 5);
+  BROKEN(desk->t = 65536);
+  BROKEN(desk->t = (uint64_t)-1);
+}
+
+static void sound_desks(void) {
+  /* never issued, closed, of another slot or another issue */
+  const uint64_t handles[] = {0, 1, 7, (uint64_t)-1, (uint64_t)-8, 26, 9, 16, 8 * 7, 8 * 7 + 2, 8 * 65535, (1ull << 32) + 8};
+  lend_sound();
+  for (size_t i = 0; i < sizeof handles / sizeof *handles; i++) {
+    for (int call = SERVE; call < CALLS; call++) expect_of_desk("a handle that is not open", 12, call, handles[i]);
+  }
+  if (answer("null marks", OPEN, 15, 16, 4, 0, 0) != 5) wrong("null marks", OPEN, 0);
+  if (answer("null word", SERVE, 15, 16, 4, 8, 0) != 5) wrong("null word", SERVE, 0);
+  lent.word[9] = 1;
+  expect_of_desk("a wrong byte", 9, SERVE, 8);
+  lent.desk.jobs[0].served = UINT32_MAX;
+  expect_of_desk("served out", 13, SERVE, 8);
+  lent.desk.jobs[0].served--, lent.word[9] = 0;
+  expect_of_desk("the last serve", 0, SERVE, 8);
+  expect_of_desk("read after it", 0, READ, 8);
+  if (lent.served != UINT32_MAX) wrong("served", READ, (int)lent.served);
+  lent.desk.t = 65534;
+  expect_of_desk("the last issue", 0, OPEN, 0);
+  expect_of_desk("all issued", 10, OPEN, 0);
+  lend_sound();
+  for (int i = 0; i < 3; i++) expect_of_desk("slots 2, 6 and 7", 0, OPEN, 0);
+  expect_of_desk("a ninth job", 11, OPEN, 0);
+  if (answer("a ninth job, m 0", OPEN, 0, 16, 4, 0, 240) != 1) wrong("11 comes before 1", OPEN, 0);
+  expect_of_desk("a job closed", 0, CLOSE, 8);
+  expect_of_desk("the eighth again", 0, OPEN, 0);
+  expect_of_desk("its handle", 0, CLOSE, 8 * 10);
+}
+
 int main(void) {
   const size_t most = (size_t)-1;
   fill();
@@ -54,6 +242,10 @@ int main(void) {
   size_t list[] = {0, most, 14, 14, 15};
   expect("repairs on a wrong word", 9, axlebloom_repair_then_recover(15, 16, 4, word, 240, marks, 240, list, 5), -1, 0);
   expect("repairs of none", 9, axlebloom_repair_then_recover(15, 16, 4, word, 240, marks, 240, NULL, 0), -1, 0);
+  make_sound();
+  random_desks();
+  broken_desks();
+  sound_desks();
   printf("bad calls: %d made, %d failures\n", calls, failures);
   return failures != 0;
 }

@@ -1,0 +1,66 @@
+-- What the desk's calls give to C: a number, and what the lent desk, word, handle and served count hold then.
+use mathlib.Core.Path.{_≡_, refl, sym, ap, _∙_}
+use mathlib.Core.List.{List}
+use Prim.Native.Nat.{ℕ, zero, suc}
+use Rattle.desk.specs.declared.Desk.{Desk}
+use Rattle.desk.specs.declared.Opened.{Opened}
+use Rattle.desk.specs.declared.Counted.{Counted}
+use Rattle.desk.specs.Calls.{Opening, OpenGives, openedAt, openedNumber, Reading, ReadGives, countedAt, countedNumber, Closing, Serving}
+
+-- "On every refusal all lent buffers [..] stay as they were": what a lent number holds at the end
+abbrev pub keptUnlessDone : ℕ → ℕ → ℕ → ℕ
+keptUnlessDone zero written lent = written
+keptUnlessDone (suc r) written lent = lent
+
+-- what Open gives: the number, the desk, and the handle where the caller lends a place for it
+pub record OpensNumber (o : Opening) (lent : ℕ) (desk : Desk) (handle number : ℕ) : Type 0 where
+  pub number-is : number ≡ o .number
+  pub desk-is : desk ≡ o .desk
+  pub handle-is : handle ≡ keptUnlessDone (o .number) (o .handle) lent
+
+-- what Read gives: the number, and the served count where the caller lends a place for it
+pub record ReadsNumber (o : Reading) (lent served number : ℕ) : Type 0 where
+  pub number-is : number ≡ o .number
+  pub served-is : served ≡ keptUnlessDone (o .number) (o .served) lent
+
+-- what Close gives: the number and the desk
+pub record ClosesNumber (o : Closing) (desk : Desk) (number : ℕ) : Type 0 where
+  pub number-is : number ≡ o .number
+  pub desk-is : desk ≡ o .desk
+
+-- what Serve gives: the number, the word and the desk
+pub record ServesNumber (o : Serving) (word : List ℕ) (desk : Desk) (number : ℕ) : Type 0 where
+  pub number-is : number ≡ o .number
+  pub word-is : word ≡ o .word
+  pub desk-is : desk ≡ o .desk
+
+-- the handle of an answer, or what was lent
+abbrev pub handleOr : Opened → ℕ → ℕ
+handleOr (Opened.Handle handle) lent = handle
+handleOr (Opened.Refused r) lent = lent
+
+handle-or : (r handle lent : ℕ) → handleOr (openedAt r handle) lent ≡ keptUnlessDone r handle lent
+handle-or zero handle lent = refl
+handle-or (suc r) handle lent = refl
+
+pub opens-number : (o : Opening) (lent : ℕ) (desk : Desk) (answer known : Opened) → answer ≡ known → OpenGives o desk answer → OpensNumber o lent desk (handleOr known lent) (openedNumber known)
+opens-number o lent desk answer known k e = record {
+  number-is = ap openedNumber (sym k) ∙ e .number-is;
+  desk-is = e .desk-is;
+  handle-is = ap (λ a. handleOr a lent) (sym k ∙ e .answer-is) ∙ handle-or (o .number) (o .handle) lent;
+}
+
+-- the served count of an answer, or what was lent
+abbrev pub servedOr : Counted → ℕ → ℕ
+servedOr (Counted.Served served) lent = served
+servedOr (Counted.Refused r) lent = lent
+
+served-or : (r served lent : ℕ) → servedOr (countedAt r served) lent ≡ keptUnlessDone r served lent
+served-or zero served lent = refl
+served-or (suc r) served lent = refl
+
+pub reads-number : (o : Reading) (lent : ℕ) (answer known : Counted) → answer ≡ known → ReadGives o answer → ReadsNumber o lent (servedOr known lent) (countedNumber known)
+reads-number o lent answer known k e = record {
+  number-is = ap countedNumber (sym k) ∙ e .number-is;
+  served-is = ap (λ a. servedOr a lent) (sym k ∙ e .answer-is) ∙ served-or (o .number) (o .served) lent;
+}
