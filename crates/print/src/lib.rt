@@ -1,0 +1,117 @@
+// Output lines.
+ghost use mathlib.Core.Path.{_≡_};
+ghost use mathlib.Core.List.{[], _∷_};
+ghost use Prim.Native.Nat.{_+_, _*_, _≤_, _<_};
+ghost use lib.ListN.{length};
+ghost use Rattle.text.specs.Decimal.{decimal};
+ghost use Rattle.text.specs.Lines.{cells, lineOf, okLine, refusedLine, wordLine};
+ghost use Rattle.print.specs.Written.{written};
+ghost use Rattle.print.specs.Holds.{Holds};
+
+// An output line with its line feed, at the start of a row of bytes with zeros after it.
+pub struct Line {
+    pub bytes: [u8; 1024],
+    pub length: usize,
+}
+
+// Writes a text at the start of a buffer, and gives the position after it.
+fn put_name(out: &mut [u8], name: &[u8]) -> usize
+    requires { ⌜ length (now name) ≤ length (now out) ⌝ }
+    ensures next { λ r. ⌜ r ≡ length (now (name .entry)) ⌝ }
+    ensures out { λ _. ⌜ now (out .exit) ≡ written (now (out .entry)) 0 (now (name .entry)) ⌝ }
+{
+    let mut i: usize = 0;
+    while i < name.len() {
+        out[i] = name[i];
+        i += 1;
+    }
+    i
+}
+
+// Writes a tab and a number at a position, and gives the position after them.
+fn put_number(out: &mut [u8], at: usize, x: u8) -> usize
+    requires { ⌜ at + 4 ≤ length (now out) ⌝ }
+    ensures next { λ r. ⌜ r ≡ at + length (9 ∷ decimal x) ⌝ }
+    ensures out { λ _. ⌜ now (out .exit) ≡ written (now (out .entry)) at (9 ∷ decimal x) ⌝ }
+{
+    out[at] = b'\t';
+    if x < 10 {
+        out[at + 1] = b'0' + x;
+        return at + 2;
+    }
+    if x < 100 {
+        out[at + 1] = b'0' + x / 10;
+        out[at + 2] = b'0' + x % 10;
+        return at + 3;
+    }
+    out[at + 1] = b'0' + x / 100;
+    out[at + 2] = b'0' + x / 10 % 10;
+    out[at + 3] = b'0' + x % 10;
+    at + 4
+}
+
+// Writes numbers from a position on, each after a tab, and gives the position after them.
+fn put_numbers(out: &mut [u8], at: usize, numbers: &[u8]) -> usize
+    requires { ⌜ at + 4 * length (now numbers) ≤ length (now out) ⌝ }
+    ensures next { λ r. ⌜ r ≡ at + length (cells (now (numbers .entry))) ⌝ }
+    ensures out { λ _. ⌜ now (out .exit) ≡ written (now (out .entry)) at (cells (now (numbers .entry))) ⌝ }
+{
+    let mut next = at;
+    let mut i: usize = 0;
+    while i < numbers.len() {
+        next = put_number(out, next, numbers[i]);
+        i += 1;
+    }
+    next
+}
+
+// Writes a line at the start of a buffer, and gives its length.
+fn put_line(out: &mut [u8], name: &[u8], numbers: &[u8]) -> usize
+    requires { ⌜ length (now name) + 4 * length (now numbers) < length (now out) ⌝ }
+    ensures size { λ r. ⌜ r ≡ length (lineOf (now (name .entry)) (now (numbers .entry))) ⌝ }
+    ensures most { λ r. ⌜ r ≤ length (now (out .entry)) ⌝ }
+    ensures out { λ _. ⌜ now (out .exit) ≡ written (now (out .entry)) 0 (lineOf (now (name .entry)) (now (numbers .entry))) ⌝ }
+{
+    let at = put_name(out, name);
+    let end = put_numbers(out, at, numbers);
+    out[end] = b'\n';
+    end + 1
+}
+
+// The line of a name and its numbers.
+fn line_of(name: &[u8], numbers: &[u8]) -> Line
+    requires { ⌜ length (now name) + 4 * length (now numbers) < 1024 ⌝ }
+    ensures { λ r. ⌜ Holds r (lineOf (now (name .entry)) (now (numbers .entry))) ⌝ }
+{
+    let mut bytes = [0u8; 1024];
+    let length = put_line(&mut bytes, name, numbers);
+    Line { bytes, length }
+}
+
+// A refusal and its number.
+pub fn refused(r: u8) -> Line
+    ensures { λ made. ⌜ Holds made (refusedLine r) ⌝ }
+{
+    line_of(b"refused", &[r])
+}
+
+// The answer to a shape: n and k.
+pub fn ok(n: u8, k: u8) -> Line
+    ensures { λ made. ⌜ Holds made (okLine n k) ⌝ }
+{
+    line_of(b"ok", &[n, k])
+}
+
+// A word. One of more than 240 bytes, which no shape has, gives the empty line, without a line feed.
+pub fn word(word: &[u8]) -> Line
+    ensures whole { λ made. ⌜ (length (now (word .entry)) ≤ 240 → Holds made (wordLine (now (word .entry)))) ⌝ }
+    ensures none { λ made. ⌜ (240 < length (now (word .entry)) → Holds made []) ⌝ }
+{
+    if 240 < word.len() {
+        return Line {
+            bytes: [0u8; 1024],
+            length: 0,
+        };
+    }
+    line_of(b"word", word)
+}

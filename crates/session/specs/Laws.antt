@@ -1,0 +1,120 @@
+-- The laws by which each turn is met.
+use mathlib.Core.Path.{_≡_, refl, ap}
+use mathlib.Core.List.{List}
+use Prim.Native.Nat.{ℕ, zero, suc, _≤_}
+use native.Mathlib.Omega.{arith}
+use lib.ListN.{length}
+use Rattle.code.specs.Answer.{Outcome}
+use Rattle.shape.specs.declared.Answer.{Answer}
+use Rattle.shape.specs.declared.Described.{Described}
+use Rattle.shape.specs.Answers.{answerAt}
+use Rattle.shape.specs.Refusals.{orElse-zero}
+use Rattle.shape.specs.Shapes.{placeCount, dataCount, sureCount, shapeRefusal, bufferRefusal, describedOf, describedAt}
+use Rattle.shape.specs.Laws.{Unshaped, good-of-refusal, good-of-word, good-of-buffers, buffers-unshaped, places-most, data-and-checks}
+use Rattle.recover.specs.Service.{recoverOf, recoverRefusal, unlessBefore}
+use Rattle.encode.specs.Service.{encodeOf, encodedWord, encodedBuffer}
+use Rattle.text.specs.Lines.{okLine, wordLine}
+use Rattle.session.specs.declared.Reply.{Reply}
+use Rattle.session.specs.Turn.{Turn, turn, turnUnless, refusedTurn, shapeTurn, dataTurn, wordTurn}
+use Rattle.session.specs.Replies.{Replies}
+
+-- the answer of a service
+done : (x : ℕ) → answerAt x ≡ Answer.Done → x ≡ 0
+done zero e = refl
+done (suc x) e = let z : _≡_ {A = ℕ} 0 1 = cc in absurd (omega arith)
+
+turn-refused : (x r : ℕ) (t : Turn) (m w c : ℕ) → answerAt x ≡ Answer.Refused r → turnUnless x t m w c ≡ refusedTurn r m w c
+turn-refused zero r t m w c e = let z : _≡_ {A = ℕ} 0 1 = cc in absurd (omega arith)
+turn-refused (suc x) r t m w c e = let q : suc x ≡ r = cc in ap (λ n. refusedTurn n m w c) q
+
+-- the figures of a shape, or its refusal
+unshaped : (a b d r : ℕ) → describedOf a b d ≡ Described.Refused r → Unshaped r a b d
+unfolding describedOf
+unshaped a b d r = go (shapeRefusal a b d) refl
+  where
+    go : (p : ℕ) → shapeRefusal a b d ≡ p → describedAt p (placeCount a b) (dataCount a b d) (sureCount d) ≡ Described.Refused r → Unshaped r a b d
+    go zero e h = let z : _≡_ {A = ℕ} 0 1 = cc in absurd (omega arith)
+    go (suc p) e h = record { less = p; number = cc; refusal = e }
+
+pub figures : (a b d n k sure : ℕ) → describedOf a b d ≡ Described.Figures n k sure
+    → (shapeRefusal a b d ≡ 0) × (n ≡ placeCount a b) × (k ≡ dataCount a b d)
+unfolding describedOf
+figures a b d n k sure = go (shapeRefusal a b d) refl
+  where
+    go : (p : ℕ) → shapeRefusal a b d ≡ p → describedAt p (placeCount a b) (dataCount a b d) (sureCount d) ≡ Described.Figures n k sure
+        → (shapeRefusal a b d ≡ 0) × (n ≡ placeCount a b) × (k ≡ dataCount a b d)
+    go zero e h = (e, (cc), (cc))
+    go (suc p) e h = let z : _≡_ {A = ℕ} 0 1 = cc in absurd (omega arith)
+
+pub figures-most : (a b d n k sure : ℕ) → describedOf a b d ≡ Described.Figures n k sure → (n ≤ 240) × (k ≤ 240)
+figures-most a b d n k sure e =
+    let f = figures a b d n k sure e in
+    let g = good-of-refusal a b d (f .0) in
+    let p = places-most g in
+    let q = data-and-checks g in
+    (omega arith, omega arith)
+
+-- shapes
+module _ (a b d m w c : ℕ) (reply : Reply) where
+  pub shape-refused : (r : ℕ) → describedOf a b d ≡ Described.Refused r → Replies reply (refusedTurn r m w c) → Replies reply (shapeTurn a b d m w c)
+  unfolding shapeTurn
+  shape-refused r e h = let u = unshaped a b d r e in rw (u .refusal, ← u .number) h
+
+  pub shape-done : (n k sure : ℕ) → describedOf a b d ≡ Described.Figures n k sure → Replies reply (turn (okLine n k) a b d)
+      → Replies reply (shapeTurn a b d m w c)
+  unfolding shapeTurn
+  shape-done n k sure e h = let f = figures a b d n k sure e in rw (f .0, ← f .1, ← f .2) h
+
+-- data
+pub data-most : (bytes word : List ℕ) (m w c : ℕ) → encodeOf m w c bytes word ≡ Answer.Done → length word ≤ 240
+unfolding encodeOf
+data-most bytes word m w c e =
+    let g = good-of-buffers m w c (length word) (length bytes) (done _ e) in
+    let p = places-most (g .0) in
+    omega arith
+
+module _ (bytes : List ℕ) (m w c : ℕ) (reply : Reply) where
+  pub data-unshaped : (r : ℕ) → describedOf m w c ≡ Described.Refused r → Replies reply (refusedTurn r m w c) → Replies reply (dataTurn bytes m w c)
+  unfolding dataTurn
+  data-unshaped r e h =
+      let u = unshaped m w c r e in rw (buffers-unshaped m w c (placeCount m w) (length bytes) r u, u .number) (rw (← u .number) h)
+
+  module _ (word : List ℕ) (l : length word ≡ placeCount m w) where
+    pub data-refused : (r : ℕ) → encodeOf m w c bytes word ≡ Answer.Refused r → Replies reply (refusedTurn r m w c) → Replies reply (dataTurn bytes m w c)
+    unfolding dataTurn encodeOf
+    data-refused r e h =
+        let q : answerAt (bufferRefusal m w c (placeCount m w) (length bytes)) ≡ Answer.Refused r = rw l at e in
+        rw (turn-refused _ r _ m w c q) h
+
+    pub data-done : (after : List ℕ) → encodeOf m w c bytes word ≡ Answer.Done → after ≡ encodedBuffer m w c bytes word → Replies reply (turn (wordLine after) m w c)
+        → Replies reply (dataTurn bytes m w c)
+    unfolding dataTurn encodeOf encodedBuffer
+    data-done after e q h =
+        let z : bufferRefusal m w c (length word) (length bytes) ≡ 0 = done _ e in
+        let z₂ : bufferRefusal m w c (placeCount m w) (length bytes) ≡ 0 = rw l at z in
+        let q₂ : after ≡ encodedWord m w c bytes = rw z at q in
+        rw (z₂, ← q₂) h
+
+-- words
+none-before : (r : ℕ) (o : Outcome) (word marks : List ℕ) → (unlessBefore r o word marks) .number ≡ 0 → r ≡ 0
+none-before zero o word marks e = refl
+none-before (suc r) o word marks e = e
+
+pub word-most : (word marks : List ℕ) (m w c : ℕ) → answerAt ((recoverOf m w c word marks) .number) ≡ Answer.Done → length word ≤ 240
+unfolding recoverOf recoverRefusal
+word-most word marks m w c e =
+    let z = none-before (recoverRefusal m w c word marks) _ word marks (done _ e) in
+    let g = good-of-word m w c (length word) (orElse-zero _ _ z .0) in
+    let p = places-most (g .0) in
+    omega arith
+
+module _ (word marks : List ℕ) (m w c : ℕ) (reply : Reply) where
+  pub word-refused : (r : ℕ) → answerAt ((recoverOf m w c word marks) .number) ≡ Answer.Refused r → Replies reply (refusedTurn r m w c)
+      → Replies reply (wordTurn word marks m w c)
+  unfolding wordTurn
+  word-refused r e h = rw (turn-refused _ r _ m w c e) h
+
+  pub word-done : (after : List ℕ) → answerAt ((recoverOf m w c word marks) .number) ≡ Answer.Done → after ≡ (recoverOf m w c word marks) .word
+      → Replies reply (turn (wordLine after) m w c) → Replies reply (wordTurn word marks m w c)
+  unfolding wordTurn
+  word-done after e q h = let z : (recoverOf m w c word marks) .number ≡ 0 = done _ e in rw (z, ← q) h

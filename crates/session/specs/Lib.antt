@@ -1,0 +1,4 @@
+pub mod Turn
+pub mod Replies
+pub mod Laws
+pub mod Lines

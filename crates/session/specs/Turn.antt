@@ -1,0 +1,59 @@
+-- What the program answers to a line.
+use mathlib.Core.Bool.{cond}
+use mathlib.Core.List.{List}
+use Prim.Native.Nat.{ℕ, zero, suc}
+use lib.Dec.{eqb}
+use lib.ListN.{length, getD}
+use Rattle.code.specs.Answer.{Outcome}
+use Rattle.shape.specs.Shapes.{placeCount, dataCount, shapeRefusal, bufferRefusal}
+use Rattle.recover.specs.Service.{recoverOf}
+use Rattle.encode.specs.Service.{encodedWord}
+use Rattle.text.specs.Records.{lineKind, lineBytes, lineMarks}
+use Rattle.text.specs.Lines.{okLine, refusedLine, wordLine}
+
+-- An output line and the shape then in force; m 0 stands for no shape yet.
+pub record Turn : Type 0 where
+  pub output : List ℕ
+  pub m : ℕ
+  pub w : ℕ
+  pub c : ℕ
+
+-- a line, and the shape m, w, c in force
+abbrev pub turn : List ℕ → ℕ → ℕ → ℕ → Turn
+turn line m w c = record { output = line; m = m; w = w; c = c }
+
+-- a refusal leaves the shape in force
+abbrev pub refusedTurn : ℕ → ℕ → ℕ → ℕ → Turn
+refusedTurn r m w c = turn (refusedLine r) m w c
+
+-- a turn, unless a refusal, 0 for none, comes before it
+abbrev pub turnUnless : ℕ → Turn → ℕ → ℕ → ℕ → Turn
+turnUnless zero t m w c = t
+turnUnless (suc r) t m w c = refusedTurn (suc r) m w c
+
+-- "A shape is answered ok, n, k". "A refused shape leaves the earlier one in force."
+unfoldable pub shapeTurn : ℕ → ℕ → ℕ → ℕ → ℕ → ℕ → Turn
+shapeTurn a b d m w c = turnUnless (shapeRefusal a b d) (turn (okLine (placeCount a b) (dataCount a b d)) a b d) m w c
+
+-- "data and word by a word line": data are encoded. "A wrong count of bytes, none included: 5."
+unfoldable pub dataTurn : List ℕ → ℕ → ℕ → ℕ → Turn
+dataTurn bytes m w c = turnUnless (bufferRefusal m w c (placeCount m w) (length bytes)) (turn (wordLine (encodedWord m w c bytes)) m w c) m w c
+
+-- and a word is recovered
+abbrev pub recoveredTurn : Outcome → ℕ → ℕ → ℕ → Turn
+recoveredTurn o m w c = turnUnless (o .number) (turn (wordLine (o .word)) m w c) m w c
+
+unfoldable pub wordTurn : List ℕ → List ℕ → ℕ → ℕ → ℕ → Turn
+wordTurn bytes marks m w c = recoveredTurn (recoverOf m w c bytes marks) m w c
+
+-- the turn of a record of this kind, with its bytes and marks. "in the program 14 and then 15 come before 1 to 9"
+unfoldable pub recordTurn : ℕ → List ℕ → List ℕ → ℕ → ℕ → ℕ → Turn
+recordTurn kind bytes marks m w c =
+    cond (eqb kind 0) (refusedTurn 14 m w c)
+    (cond (eqb kind 1) (shapeTurn (getD bytes 0 0) (getD bytes 1 0) (getD bytes 2 0) m w c)
+    (cond (eqb m 0) (refusedTurn 15 m w c)
+    (cond (eqb kind 2) (dataTurn bytes m w c) (wordTurn bytes marks m w c))))
+
+-- "Each input line gives exactly one output line."
+unfoldable pub turnOf : List ℕ → ℕ → ℕ → ℕ → Turn
+turnOf line m w c = recordTurn (lineKind line) (lineBytes line) (lineMarks line) m w c

@@ -1,0 +1,9 @@
+pub mod Decimal
+pub mod Fields
+pub mod Records
+pub mod Lines
+pub mod Padded
+pub mod DecimalLaws
+pub mod FieldLaws
+pub mod RecordLaws
+pub mod ReadBack

@@ -1,0 +1,23 @@
+-- Output lines, each with its line feed, the byte 10. "A shape is answered ok, n, k; data and word by a word line."
+use mathlib.Core.List.{List, [], _∷_, _++_}
+use Prim.Native.Nat.{ℕ}
+use Rattle.text.specs.Decimal.{decimal}
+use Rattle.text.specs.Records.{wordName}
+
+-- numbers as fields, each after a tab
+unfoldable pub cells : List ℕ → List ℕ
+cells [] = []
+cells (x ∷ xs) = 9 ∷ (decimal x ++ cells xs)
+
+-- a line: its name and its numbers
+unfoldable pub lineOf : List ℕ → List ℕ → List ℕ
+lineOf name numbers = name ++ (cells numbers ++ (10 ∷ []))
+
+unfoldable pub okLine : ℕ → ℕ → List ℕ
+okLine n k = lineOf (111 ∷ 107 ∷ []) (n ∷ k ∷ [])
+
+unfoldable pub refusedLine : ℕ → List ℕ
+refusedLine r = lineOf (114 ∷ 101 ∷ 102 ∷ 117 ∷ 115 ∷ 101 ∷ 100 ∷ []) (r ∷ [])
+
+unfoldable pub wordLine : List ℕ → List ℕ
+wordLine word = lineOf wordName word
