@@ -2,7 +2,8 @@
 #include <stdint.h>
 #include <stdio.h>
 #include <stdlib.h>
-#include <time.h>
+
+#include "clock.h"
 
 uint8_t bench_dot_shifts(const uint8_t *u, size_t nu, const uint8_t *v, size_t nv);
 uint8_t bench_dot_tables(const uint8_t *u, size_t nu, const uint8_t *v, size_t nv);
@@ -32,12 +33,6 @@ static uint8_t c_dot_tables(const uint8_t *u, size_t nu, const uint8_t *v, size_
 }
 
 typedef uint8_t dot(const uint8_t *, size_t, const uint8_t *, size_t);
-
-static double now(void) {
-  struct timespec t;
-  clock_gettime(CLOCK_MONOTONIC, &t);
-  return t.tv_sec + t.tv_nsec * 1e-9;
-}
 
 enum { N = 4096, TURNS = 20000 };
 static uint8_t u[N], v[N];

@@ -15,11 +15,10 @@ use Rattle.binary_field.specs.Sum.{sum-ext}
 use Rattle.code.specs.Edition.{Edition, bytes, times}
 use Rattle.code.specs.Word.{groupSum, localSum, coefficient, twisted}
 use Rattle.code.specs.Marks.{lost, lostIn}
-use Rattle.code.specs.Stretch.{stretch, withStretch, stretch-at, stretch-length, with-length, with-inside, with-before, with-after, stretch-count, place-cases}
+use Rattle.code.specs.Stretch.{stretch, withStretch, stretch-at, stretch-length, with-length, with-inside, with-before, with-after, stretch-count, place-cases, own-place}
 use Rattle.code.specs.Combined.{combined}
 use Rattle.code.specs.Lone.{lone, lone-inside, lone-before, lone-after, lone-word}
 use Rattle.shape.specs.Shapes.{Good}
-use Rattle.fill.specs.Change.{first-place}
 use Rattle.fill.specs.Filled.{Filled}
 use Rattle.erasures.specs.Whole.{KeptAll}
 use Rattle.erasures.specs.Places.{FreePlaces, freeAt}
@@ -95,7 +94,7 @@ module _ (m w c g : ℕ) (good : Good m w c) (kept before xs part : List ℕ) (l
   sums i b e h = elim (ℕ-discrete i g) [
     | yes q ↦
         subst (λ n. e < lostIn w kept n → localSum bytes w (withStretch w g xs part) n e ≡ 0) (sym q)
-        (λ k. group-ext bytes w g 0 _ part _ (λ j d. with-inside w g xs room part part-size j d ∙ ap (λ n. getD part n 0) (sym (first-place w j))) ∙ own-zero e k) h
+        (λ k. group-ext bytes w g 0 _ part _ (λ j d. with-inside w g xs room part part-size j d ∙ ap (λ n. getD part n 0) (sym (own-place w j))) ∙ own-zero e k) h
     | no q ↦
         group-ext bytes w i i _ xs _
         (λ j d. with-before w g xs room part part-size (i * w + j)

@@ -224,6 +224,7 @@ fn rebuild(m: usize, w: usize, c: usize, word: &[u8], marks: &[u8], kept: &mut [
 pub fn candidate(m: usize, w: usize, c: usize, word: &[u8], marks: &[u8], out: &mut [u8])
     ensures { λ _. ⌜ (Good m w c → length (now (word .entry)) ≡ m * w → length (now (marks .entry)) ≡ m * w → length (now (out .entry)) ≡ m * w → IsCandidate m w c (now (marks .entry)) (now (word .entry)) (now (out .exit))) ⌝ }
     ensures { λ _. ⌜ length (now (out .exit)) ≡ length (now (out .entry)) ⌝ }
+    ensures { λ _. ⌜ ((Good m w c → length (now (word .entry)) ≡ m * w → length (now (marks .entry)) ≡ m * w → length (now (out .entry)) ≡ m * w → ⊥) → now (out .exit) ≡ now (out .entry)) ⌝ }
 {
     if shape::word_refusal(m, w, c, word.len()) != 0 {
         return;

@@ -2,7 +2,7 @@
 use mathlib.Core.Path.{_≡_, refl, sym, ap, _∙_, subst}
 use mathlib.Core.List.{List}
 use Prim.Native.Nat.{ℕ, suc, _+_, _*_, _<_, _≤_, _^_}
-use native.Mathlib.Nat.{zero-mul, zero-add, suc-mul, mul-le-mul-right}
+use native.Mathlib.Nat.{suc-mul, mul-le-mul-right}
 use native.Mathlib.Omega.{arith}
 use native.Mathlib.Decide.{decLt}
 use lib.ListN.{length, getD, length-replicate}
@@ -11,7 +11,7 @@ use Rattle.binary_field.specs.Sum.{sum-ext, sum-zero, sum-single}
 use Rattle.code.specs.Edition.{Edition, times}
 use Rattle.code.specs.Word.{groupSum, wordSum, Symbols}
 use Rattle.code.specs.Blank.{blank, blank-at}
-use Rattle.code.specs.Stretch.{withStretch, with-length, with-inside, with-before, with-after, place-cases}
+use Rattle.code.specs.Stretch.{withStretch, with-length, with-inside, with-before, with-after, place-cases, own-place}
 
 -- the word of m groups with part in group g and 0 elsewhere
 abbrev pub lone : ℕ → ℕ → ℕ → List ℕ → List ℕ
@@ -52,7 +52,7 @@ module _ (m w g : ℕ) (part : List ℕ) (l : g < m) (size : length part ≡ w) 
   module _ (E : Edition) where
     pub lone-own : (h : ℕ → ℕ) → groupSum E w (lone m w g part) g h ≡ groupSum E w part 0 h
     unfolding groupSum
-    lone-own h = sum-ext w _ _ (λ j k. ap (λ b. times E b (h j)) (lone-inside j k ∙ ap (λ n. getD part n 0) (sym (ap (λ n. n + j) (zero-mul w) ∙ zero-add j))))
+    lone-own h = sum-ext w _ _ (λ j k. ap (λ b. times E b (h j)) (lone-inside j k ∙ ap (λ n. getD part n 0) (sym (own-place w j))))
 
     pub lone-zero : (i : ℕ) → ¬ (i ≡ g) → (h : ℕ → ℕ) → groupSum E w (lone m w g part) i h ≡ 0
     unfolding groupSum

@@ -1,9 +1,8 @@
 -- Repair of one group by its own equations, on its stretch of the word and the marks.
-use mathlib.Core.Path.{_≡_, refl, sym, ap, _∙_, subst}
+use mathlib.Core.Path.{_≡_, refl, sym, _∙_, subst}
 use mathlib.Core.Bool.{Bool, true, false}
 use mathlib.Core.List.{List}
 use Prim.Native.Nat.{ℕ, _+_, _*_, _<_, _≤_, _^_}
-use native.Mathlib.Nat.{zero-mul, zero-add}
 use borrow.Author.Tests.{lt-ltb, le-ltb, ltb-true, ltb-false}
 use lib.Dec.{ltb}
 use lib.ListN.{length, getD}
@@ -15,7 +14,7 @@ use Rattle.code.specs.Determined.{local-unique}
 use Rattle.code.specs.Filling.{Passing, filling-symbols}
 use Rattle.code.specs.Answer.{Outcome, refused, written, answered}
 use Rattle.code.specs.Answer as Answer
-use Rattle.code.specs.Stretch.{stretch, withStretch}
+use Rattle.code.specs.Stretch.{stretch, withStretch, own-place}
 
 -- "Repair group g: 8 exactly if more than c of its places are lost; else 9 exactly if no filling satisfies the group's own equations; else
 -- the only filling is written and that group's marks are cleared." On the group's stretch:
@@ -41,16 +40,13 @@ module _ (E : Edition) (S : Sound E) (w c : ℕ) (wide : 0 < w) (narrow : w ≤ 
   only-filling few y z Y Z =
       ext-getD 0 y z (Y .fills .size ∙ sym (Z .fills .size)) λ j l.
       let k : j < w = subst (λ n. j < n) (Y .fills .size ∙ s .size) l in
-      subst (λ n. getD y n 0 ≡ getD z n 0) (own j)
+      subst (λ n. getD y n 0 ≡ getD z n 0) (own-place w j)
       (local-unique E S w c 0 wide narrow marks y z (filling-symbols E w marks part y s (Y .fills) .each) (filling-symbols E w marks part z s (Z .fills) .each)
       (λ e h. local-zero E w c y 0 (Y .passes) e h ∙ sym (local-zero E w c z 0 (Z .passes) e h))
       (λ i h e. present y Y i h e ∙ sym (present z Z i h e)) few j k)
     where
-      own : (j : ℕ) → 0 * w + j ≡ j
-      own j = ap (λ n. n + j) (zero-mul w) ∙ zero-add j
-
       present : (x : List ℕ) → Satisfies E w c marks part x → (i : ℕ) → i < w → lost marks (0 * w + i) ≡ false → getD x (0 * w + i) 0 ≡ getD part (0 * w + i) 0
-      present x X i h e = X .fills .present (0 * w + i) (subst (λ n. n < length part) (sym (own i)) (subst (λ n. i < n) (sym (s .size)) h)) e
+      present x X i h e = X .fills .present (0 * w + i) (subst (λ n. n < length part) (sym (own-place w i)) (subst (λ n. i < n) (sym (s .size)) h)) e
 
   only-small : ltb c (lostIn w marks 0) ≡ false → (y z : List ℕ) → Satisfies E w c marks part y → Satisfies E w c marks part z → y ≡ z
   only-small e = only-filling (ltb-false c (lostIn w marks 0) e)

@@ -90,10 +90,11 @@ module _ (w g : ℕ) (xs : List ℕ) where
           ∙ getD-append-add (take (g * w) xs) (part ++ drop (suc g * w) xs) (length part + (p - suc g * w)) 0
           ∙ getD-append-add part (drop (suc g * w) xs) (p - suc g * w) 0 ∙ getD-drop (suc g * w) xs (p - suc g * w) 0 ∙ ap (λ n. getD xs n 0) d′
 
--- sums and counts of a group are those of its stretch
-own-place : (w j : ℕ) → 0 * w + j ≡ j
+-- place j of a stretch by itself, as its only group has it
+pub own-place : (w j : ℕ) → 0 * w + j ≡ j
 own-place w j = ap (λ n. n + j) (zero-mul w) ∙ zero-add j
 
+-- sums and counts of a group are those of its stretch
 pub stretch-sum : (E : Edition) (w g : ℕ) (word : List ℕ) (h : ℕ → ℕ) → groupSum E w (stretch w g word) 0 h ≡ groupSum E w word g h
 unfolding groupSum
 stretch-sum E w g word h =

@@ -3,12 +3,12 @@ use mathlib.Core.Path.{_≡_, refl, sym, ap, _∙_}
 use mathlib.Core.Bool.{Bool, true, false, not, _&&_}
 use mathlib.Core.List.{List, [], _∷_}
 use Prim.Native.Nat.{ℕ, zero, suc, _+_, _-_, _≤_, min}
-use native.Mathlib.Nat.{zero-mul, zero-add}
 use native.Mathlib.Omega.{arith}
 use lib.Dec.{eqb}
 use lib.ListN.{length}
 use Rattle.counting.specs.Count.{one, countBelow, total-none, total-first, total-ext}
 use Rattle.code.specs.Marks.{lost, lostIn}
+use Rattle.code.specs.Stretch.{own-place}
 
 -- a place that is lost and not kept
 abbrev pub free : List ℕ → List ℕ → ℕ → Bool
@@ -78,7 +78,7 @@ enough c (x ∷ xs) (suc j) e f = let l = enough (c - one (eqb x 1)) xs j e f in
 
 count-in : (w : ℕ) (marks : List ℕ) → lostIn w marks 0 ≡ countBelow w (lost marks)
 unfolding lostIn
-count-in w marks = total-ext w _ _ (λ j l. ap (λ n. one (lost marks n)) (ap (λ n. n + j) (zero-mul w) ∙ zero-add j))
+count-in w marks = total-ext w _ _ (λ j l. ap (λ n. one (lost marks n)) (own-place w j))
 
 pub kept-count : (c : ℕ) (marks : List ℕ) → lostIn (length marks) (keptOf c marks) 0 ≡ min c (lostIn (length marks) marks 0)
 unfolding lostCount

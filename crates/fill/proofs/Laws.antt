@@ -15,11 +15,11 @@ use Rattle.binary_field.specs.Sum.{sumBelow, innerProduct, sum-ext}
 use Rattle.code.specs.Edition.{bytes, bytes-sound, times, raised}
 use Rattle.code.specs.Word.{groupSum, localSum}
 use Rattle.code.specs.Marks.{lost, lostIn}
+use Rattle.code.specs.Stretch.{own-place}
 use Rattle.coefficients.specs.Rows.{powerRows, noRow, power-at}
 use Rattle.solve.specs.Elimination.{entry, eliminated}
 use Rattle.solve.specs.Steps.{System}
 use Rattle.solve.specs.Bytes.{solution}
-use Rattle.fill.specs.Change.{first-place}
 use Rattle.fill.specs.Positions.{Positions}
 use Rattle.fill.specs.Placed.{placed, length-placed, placed-other, placed-at, placed-sum}
 use Rattle.fill.specs.Equations.{Equations, independent}
@@ -37,7 +37,7 @@ each-set P xs i v d h f p j l = elim (ℕ-discrete j i) [
 module _ (marks : List ℕ) where
   pub lost-below : (w : ℕ) → countBelow w (lost marks) ≡ lostIn w marks 0
   unfolding lostIn
-  lost-below w = total-ext w _ _ (λ j _. ap (λ p. one (lost marks p)) (sym (first-place w j)))
+  lost-below w = total-ext w _ _ (λ j _. ap (λ p. one (lost marks p)) (sym (own-place w j)))
 
   pub count-next : (i : ℕ) (b : Bool) → lost marks i ≡ b → countBelow (i + 1) (lost marks) ≡ countBelow i (lost marks) + one b
   count-next i b e = ap (λ n. countBelow n (lost marks)) (add-one i) ∙ total-suc i _ ∙ ap (λ b. countBelow i (lost marks) + one b) e
@@ -67,7 +67,7 @@ pub syndrome : (part : List ℕ) (e : ℕ) → e < 4 → length part ≤ 16
     → innerProduct 8 285 (length part) part (getD powerRows e noRow) ≡ localSum bytes (length part) part 0 e
 unfolding innerProduct groupSum
 syndrome part e h l =
-    sum-ext (length part) _ _ (λ j b. ap₂ (product 8 285) (ap (λ p. getD part p 0) (sym (first-place (length part) j))) (power-at e j h (omega arith)))
+    sum-ext (length part) _ _ (λ j b. ap₂ (product 8 285) (ap (λ p. getD part p 0) (sym (own-place (length part) j))) (power-at e j h (omega arith)))
 
 -- ---- the lost places filled
 -- more than four are lost

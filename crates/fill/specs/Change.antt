@@ -2,25 +2,20 @@
 use mathlib.Core.Path.{_≡_, sym, ap, _∙_}
 use mathlib.Core.List.{List}
 use Prim.Native.Nat.{ℕ, _+_, _*_, _<_}
-use native.Mathlib.Nat.{zero-mul, zero-add}
 use native.Mathlib.Omega.{arith}
 use lib.ListN.{length, getD, set}
 use lib.Seq.{getD-set-same, getD-set-other}
 use Rattle.binary_field.specs.Xor.{_⊕_, ⊕-self, ⊕-self-left}
 use Rattle.binary_field.specs.Product.{add-product}
-use Rattle.binary_field.specs.Sum.{sumBelow, sum-add}
+use Rattle.binary_field.specs.Sum.{sumBelow, sum-add, sum-single}
 use Rattle.code.specs.Edition.{Edition, times, raised}
 use Rattle.code.specs.Word.{groupSum, localSum}
-use Rattle.solve.specs.Kernel.{sum-single}
+use Rattle.code.specs.Stretch.{own-place}
 
 pub sum-change : (n p : ℕ) (f g : ℕ → ℕ) → p < n → ((i : ℕ) → i < n → (i ≡ p → ⊥) → f i ≡ g i) → sumBelow n g ≡ sumBelow n f ⊕ (f p ⊕ g p)
 sum-change n p f g h same =
     sym (⊕-self-left (sumBelow n f) (sumBelow n g))
     ∙ ap (λ s. sumBelow n f ⊕ s) (sym (sum-add n f g) ∙ sum-single n p _ h (λ i l d. ap (λ a. a ⊕ g i) (same i l d) ∙ ⊕-self (g i)))
-
--- the place j of the first group
-pub first-place : (w j : ℕ) → 0 * w + j ≡ j
-first-place w j = ap (λ a. a + j) (zero-mul w) ∙ zero-add j
 
 module _ (E : Edition) (w : ℕ) (xs : List ℕ) where
   -- the place p of group g gets the symbol v
@@ -35,4 +30,4 @@ module _ (E : Edition) (w : ℕ) (xs : List ℕ) where
 
   pub local-set : (p v e : ℕ) → p < w → p < length xs
       → localSum E w (set xs p v) 0 e ≡ localSum E w xs 0 e ⊕ times E (getD xs p 0 ⊕ v) (raised E (E .locator p) e)
-  local-set p v e l b = rw (first-place w p) at (group-set 0 p v (λ j. raised E (E .locator j) e) l (rw (first-place w p) b))
+  local-set p v e l b = rw (own-place w p) at (group-set 0 p v (λ j. raised E (E .locator j) e) l (rw (own-place w p) b))

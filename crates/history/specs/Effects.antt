@@ -15,6 +15,7 @@ use Rattle.judge.specs.Answer.{judgedNumberOf}
 use Rattle.desk.specs.declared.Job.{Job}
 use Rattle.desk.specs.declared.Desk.{Desk}
 use Rattle.desk.specs.Desks.{freshDesk, emptyJob, noJob, jobAt, isFree, isTaken, issueOf, slotOf, isIssued, isGood, isSoundSlot, isSound, isOpen}
+use Rattle.desk.specs.Meaning.{open-held}
 use Rattle.desk.specs.Calls.{handleRefusal, pick, freeFrom, freeSlot, newHandle, newJob, servedOnce}
 use Rattle.desk.specs.Laws.{Sound, sound-parts, false-of, judged-marked}
 use Rattle.history.specs.Put.{and-of, and-to, taken-of, slot-of-free, slot-of-taken, issued-of, issued-to, unique-of, once-of, put, put-same, put-other}
@@ -60,45 +61,28 @@ fresh-sound = record {
 abbrev pub holdsHandle : Job → ℕ → Bool
 holdsHandle job h = isTaken job && eqb (job .handle) h
 
--- what an open handle knows
-pub record Held (desk : Desk) (h : ℕ) : Type 0 where
-  pub issue : isIssued (desk .t) (issueOf h) ≡ true
-  pub taken : isTaken (jobAt desk (slotOf h)) ≡ true
-  pub handle : jobAt desk (slotOf h) .handle ≡ h
-
-pub held-of : (desk : Desk) (h : ℕ) → isOpen desk h ≡ true → Held desk h
-unfolding isOpen
-held-of desk h e =
-    let p = and-of (isIssued (desk .t) (issueOf h) && isTaken (jobAt desk (slotOf h))) (eqb (jobAt desk (slotOf h) .handle) h) e in
-    let q = and-of (isIssued (desk .t) (issueOf h)) (isTaken (jobAt desk (slotOf h))) (p .0) in
-    record { issue = q .0; taken = q .1; handle = eqb-true _ h (p .1) }
-
-pub open-of : (desk : Desk) (h : ℕ) → Held desk h → isOpen desk h ≡ true
-unfolding isOpen
-open-of desk h H =
-    and-to (isIssued (desk .t) (issueOf h) && isTaken (jobAt desk (slotOf h))) (eqb (jobAt desk (slotOf h) .handle) h)
-    (and-to (isIssued (desk .t) (issueOf h)) (isTaken (jobAt desk (slotOf h))) (H .issue) (H .taken)) (eq-eqb _ h (H .handle))
-
 -- two open handles of one slot are one
 pub one-slot : (desk : Desk) (g h : ℕ) → isOpen desk g ≡ true → isOpen desk h ≡ true → slotOf g ≡ slotOf h → g ≡ h
-one-slot desk g h a b e = sym (held-of desk g a .handle) ∙ ap (λ s. jobAt desk s .handle) e ∙ held-of desk h b .handle
+one-slot desk g h a b e = sym (open-held desk g a .held) ∙ ap (λ s. jobAt desk s .handle) e ∙ open-held desk h b .held
 
 -- "A handle is open exactly if a taken slot holds it": on a sound desk the slot alone decides
-pub open-held : (desk : Desk) → Sound desk → (h : ℕ) → isOpen desk h ≡ holdsHandle (jobAt desk (slotOf h)) h
-open-held desk S h = bool-same _ _
-    (λ e. let H = held-of desk h e in and-to (isTaken (jobAt desk (slotOf h))) (eqb (jobAt desk (slotOf h) .handle) h) (H .taken) (eq-eqb _ h (H .handle)))
+pub open-by-slot : (desk : Desk) → Sound desk → (h : ℕ) → isOpen desk h ≡ holdsHandle (jobAt desk (slotOf h)) h
+unfolding isOpen
+open-by-slot desk S h = bool-same _ _
+    (λ e. let H = open-held desk h e in and-to (isTaken (jobAt desk (slotOf h))) (eqb (jobAt desk (slotOf h) .handle) h) (H .taken) (eq-eqb _ h (H .held)))
     (λ e.
     let p = and-of (isTaken (jobAt desk (slotOf h))) (eqb (jobAt desk (slotOf h) .handle) h) e in
     let T = taken-of (desk .t) (slotOf h) (jobAt desk (slotOf h)) (S .slots (slotOf h) (slot-below h)) (p .0) in
-    let k = eqb-true _ h (p .1) in
-    open-of desk h (record { issue = subst (λ x. isIssued (desk .t) (issueOf x) ≡ true) k (T .issue); taken = p .0; handle = k }))
+    let i = subst (λ x. isIssued (desk .t) (issueOf x) ≡ true) (eqb-true _ h (p .1)) (T .issue) in
+    and-to (isIssued (desk .t) (issueOf h) && isTaken (jobAt desk (slotOf h))) (eqb (jobAt desk (slotOf h) .handle) h)
+    (and-to (isIssued (desk .t) (issueOf h)) (isTaken (jobAt desk (slotOf h))) i (p .0)) (p .1))
 
 module _ (desk : Desk) (size : length (desk .jobs) ≡ 8) (S : Sound desk) (t s : ℕ) (l : s < 8) (job : Job) (S′ : Sound (put desk t s job)) (h : ℕ) where
   pub open-here : slotOf h ≡ s → isOpen (put desk t s job) h ≡ holdsHandle job h
-  open-here e = open-held (put desk t s job) S′ h ∙ ap (λ j. holdsHandle j h) (ap (jobAt (put desk t s job)) e ∙ put-same desk size t s l job)
+  open-here e = open-by-slot (put desk t s job) S′ h ∙ ap (λ j. holdsHandle j h) (ap (jobAt (put desk t s job)) e ∙ put-same desk size t s l job)
 
   pub open-there : (slotOf h ≡ s → ⊥) → isOpen (put desk t s job) h ≡ isOpen desk h
-  open-there n = open-held (put desk t s job) S′ h ∙ ap (λ j. holdsHandle j h) (put-other desk size t s l job (slotOf h) n) ∙ sym (open-held desk S h)
+  open-there n = open-by-slot (put desk t s job) S′ h ∙ ap (λ j. holdsHandle j h) (put-other desk size t s l job (slotOf h) n) ∙ sym (open-by-slot desk S h)
 
 -- ---- Open
 
@@ -176,7 +160,7 @@ module _ (m w c : ℕ) (marks : List ℕ) (desk : Desk) (size : length (desk .jo
   opened-open h = elim (ℕ-discrete (slotOf h) (freeSlot desk)) [
     | yes e ↦ (
         let before : isOpen desk h ≡ false =
-        open-held desk S h ∙ ap (λ s. isTaken (jobAt desk s) && eqb (jobAt desk (slotOf h) .handle) h) e
+        open-by-slot desk S h ∙ ap (λ s. isTaken (jobAt desk s) && eqb (jobAt desk (slotOf h) .handle) h) e
         ∙ ap (λ b. b && eqb (jobAt desk (slotOf h) .handle) h) (free-slot desk size room) in
         open-here desk size S (desk .t + 1) (freeSlot desk) room job opened-sound h e
         ∙ ap (λ b. b && eqb (job .handle) h) job-taken
@@ -196,7 +180,7 @@ module _ (m w c : ℕ) (marks : List ℕ) (desk : Desk) (size : length (desk .jo
   pub opened-job : (h : ℕ) → isOpen desk h ≡ true → jobAt opened (slotOf h) ≡ jobAt desk (slotOf h)
   opened-job h o =
       put-other desk size (desk .t + 1) (freeSlot desk) room job (slotOf h)
-      (λ e. true≢false (sym (held-of desk h o .taken) ∙ ap (λ s. isTaken (jobAt desk s)) e ∙ free-slot desk size room))
+      (λ e. true≢false (sym (open-held desk h o .taken) ∙ ap (λ s. isTaken (jobAt desk s)) e ∙ free-slot desk size room))
 
 -- ---- Close and Serve
 
@@ -210,7 +194,7 @@ handle-parts h desk e =
 pub handle-refusal : (h : ℕ) (desk : Desk) → isSound desk ≡ true → handleRefusal h desk ≡ refuse 12 (not (holdsHandle (jobAt desk (slotOf h)) h))
 unfolding handleRefusal
 handle-refusal h desk s =
-    ap (λ b. refuse 31 (not b) orElse refuse 12 (not (isOpen desk h))) s ∙ ap (λ b. refuse 12 (not b)) (open-held desk (sound-parts desk s) h)
+    ap (λ b. refuse 31 (not b) orElse refuse 12 (not (isOpen desk h))) s ∙ ap (λ b. refuse 12 (not b)) (open-by-slot desk (sound-parts desk s) h)
 
 pub handle-done : (h : ℕ) (desk : Desk) → isSound desk ≡ true → isOpen desk h ≡ true → handleRefusal h desk ≡ 0
 unfolding handleRefusal
@@ -265,7 +249,7 @@ module _ (desk : Desk) (size : length (desk .jobs) ≡ 8) (S : Sound desk) (H : 
     | yes e ↦
         open-here desk size S (desk .t) (slotOf H) (slot-below H) (servedOnce (jobAt desk (slotOf H))) served-sound h e
         ∙ ap (λ s. holdsHandle (jobAt desk s) h) (sym e)
-        ∙ sym (open-held desk S h)
+        ∙ sym (open-by-slot desk S h)
     | no n ↦ open-there desk size S (desk .t) (slotOf H) (slot-below H) (servedOnce (jobAt desk (slotOf H))) served-sound h n
   ]
 

@@ -14,7 +14,7 @@ use Rattle.desk.specs.Laws.{sound-parts, sound-of}
 use Rattle.desk.specs.CallLaws.{open-parts}
 use Rattle.history.specs.History.{Call, Fresh, Open, Serve, Read, Close, step, after}
 use Rattle.history.specs.Put.{and-of}
-use Rattle.history.specs.Effects.{holdsHandle, open-held, opened-open, opened-new, opened-job, other-job, handle-parts}
+use Rattle.history.specs.Effects.{holdsHandle, open-by-slot, opened-open, opened-new, opened-job, other-job, handle-parts}
 use Rattle.history.specs.Sound.{Fit, serve-parts, fit-step, fit-all}
 use Rattle.history.specs.Alone.{Alike, alone}
 
@@ -60,9 +60,9 @@ module _ (h : ℕ) (desk : Desk) (F : Fit desk) (o : isOpen desk h ≡ true) whe
 
   still-open : (call : Call) → isOther h call ≡ true → isOpen (step call desk .desk) h ≡ true
   still-open call e =
-      open-held (step call desk .desk) (fit-step desk F call .sound) h
+      open-by-slot (step call desk .desk) (fit-step desk F call .sound) h
       ∙ ap (λ j. holdsHandle j h) (other-step call e)
-      ∙ sym (open-held desk (F .sound) h)
+      ∙ sym (open-by-slot desk (F .sound) h)
       ∙ o
 
 pub others : (h : ℕ) (calls : List Call) (desk : Desk) → Fit desk → isOpen desk h ≡ true → areOthers h calls ≡ true

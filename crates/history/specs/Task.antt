@@ -17,7 +17,7 @@ use Rattle.desk.specs.Laws.{judged-marked}
 use Rattle.desk.specs.CallLaws.{open-parts}
 use Rattle.history.specs.History.{Call, Fresh, Open, Serve, Read, Close, step, after}
 use Rattle.history.specs.Put.{and-of, put-other}
-use Rattle.history.specs.Effects.{slot-below, holdsHandle, open-held, served-job}
+use Rattle.history.specs.Effects.{slot-below, holdsHandle, open-by-slot, served-job}
 use Rattle.history.specs.Sound.{Fit, serve-parts, fit-step}
 use Rattle.history.specs.Others.{other-than, open-other, close-other, Given, given}
 
@@ -59,9 +59,9 @@ module _ (h : ℕ) (desk : Desk) (F : Fit desk) (o : isOpen desk h ≡ true) whe
 
   still-open : (call : Call) → isKeeping h call ≡ true → isOpen (step call desk .desk) h ≡ true
   still-open call e =
-      open-held (step call desk .desk) (fit-step desk F call .sound) h
+      open-by-slot (step call desk .desk) (fit-step desk F call .sound) h
       ∙ ap (λ j. holdsHandle j h) (task-step call e)
-      ∙ sym (open-held desk (F .sound) h)
+      ∙ sym (open-by-slot desk (F .sound) h)
       ∙ o
 
 pub task-stays : (h : ℕ) (calls : List Call) (desk : Desk) → Fit desk → isOpen desk h ≡ true → areKeeping h calls ≡ true

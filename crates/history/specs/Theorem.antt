@@ -22,7 +22,7 @@ use Rattle.history.specs.History.{Call, Fresh, Open, Serve, Read, Close,
 use Rattle.history.specs.History.{tally, times, isDistinct, isLive, servesOf}
 use Rattle.history.specs.Sound.{serve-parts}
 use Rattle.history.specs.Put.{and-of, and-to, put-size}
-use Rattle.history.specs.Effects.{slot-below, fresh-size, fresh-zero, fresh-free, fresh-sound, empty-not, holdsHandle, open-held, opened, opened-sound}
+use Rattle.history.specs.Effects.{slot-below, fresh-size, fresh-zero, fresh-free, fresh-sound, empty-not, holdsHandle, open-by-slot, opened, opened-sound}
 use Rattle.history.specs.Effects.{opened-open, opened-new, opened-job, new-issue, handle-parts, handle-done, closed, closed-sound, closed-open, other-job}
 use Rattle.history.specs.Effects.{served, served-sound, served-open, served-job}
 
@@ -45,7 +45,7 @@ pub record Kept (desk : Desk) (ledger : Ledger) : Type 0 where
 
 fresh-shut : (h : ℕ) → isOpen freshDesk h ≡ false
 fresh-shut h =
-    open-held freshDesk fresh-sound h
+    open-by-slot freshDesk fresh-sound h
     ∙ ap (λ j. holdsHandle j h) (fresh-free (slotOf h) (slot-below h))
     ∙ ap (λ b. b && eqb (emptyJob .handle) h) empty-not
 

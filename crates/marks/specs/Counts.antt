@@ -3,19 +3,18 @@ use mathlib.Core.Path.{_≡_, sym, ap, ap₂, _∙_}
 use mathlib.Core.Bool.{Bool}
 use mathlib.Core.List.{List}
 use Prim.Native.Nat.{ℕ, _+_, _-_, _*_, _<_, _≤_}
-use native.Mathlib.Nat.{zero-mul, zero-add}
 use native.Mathlib.Numerals.{add-one}
 use lib.ListN.{length, take, drop}
 use Rattle.counting.specs.Count.{totalBelow, countBelow, one, total-none, total-suc, total-ext, count-le}
 use Rattle.code.specs.Marks.{lost, lostIn, groupExcess, excess}
-use Rattle.code.specs.Stretch.{stretch-count}
+use Rattle.code.specs.Stretch.{own-place, stretch-count}
 use Rattle.groups.specs.Lent.{Lent, part-stretch, part-length}
 
 -- the places of one group's stretch, counted
 pub lost-whole : (part : List ℕ) → countBelow (length part) (lost part) ≡ lostIn (length part) part 0
 unfolding lostIn
 lost-whole part =
-    total-ext (length part) _ _ (λ j _. ap (λ n. one (lost part n)) (sym (ap (λ n. n + j) (zero-mul (length part)) ∙ zero-add j)))
+    total-ext (length part) _ _ (λ j _. ap (λ n. one (lost part n)) (sym (own-place (length part) j)))
 
 pub lost-most : (w : ℕ) (marks : List ℕ) (g : ℕ) → lostIn w marks g ≤ w
 unfolding lostIn

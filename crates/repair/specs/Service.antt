@@ -2,15 +2,18 @@
 -- satisfy them all.
 use mathlib.Core.Path.{_≡_, refl, sym, ap, ap₂, _∙_, subst}
 use mathlib.Core.Bool.{Bool, true, false, not}
-use mathlib.Core.List.{List}
-use Prim.Native.Nat.{ℕ, zero, suc, _+_, _*_, _<_, _≤_}
-use native.Mathlib.Nat.{zero-mul, zero-add, le-refl}
+use mathlib.Core.List.{List, _++_}
+use Prim.Native.Nat.{ℕ, zero, suc, _+_, _-_, _*_, _<_, _≤_}
+use native.Mathlib.Nat.{le-refl}
 use native.Mathlib.Omega.{arith}
 use borrow.Author.Tests.{lt-ltb, le-ltb}
 use lib.Dec.{T, ltb}
-use lib.ListN.{length, getD}
+use lib.ListN.{length, getD, take, drop}
 use lib.Seq.{ext-getD}
 use Rattle.shape.specs.Refusals.{refuse, _orElse_}
+use Rattle.shape.specs.Answers.{answerAt}
+use Rattle.groups.specs.Lent.{Lent, part-stretch, part-length, with-lent}
+use Rattle.recover.specs.Attempt.{Accepted}
 use Rattle.recover.specs.Service.{unlessBefore, unless-before, recoverRefusal}
 use Rattle.code.specs.Edition.{bytes, bytes-sound}
 use Rattle.code.specs.Word.{isLocal, localSum, local-zero, Symbols}
@@ -19,7 +22,7 @@ use Rattle.code.specs.Answer.{Outcome, refused}
 use Rattle.code.specs.Determined.{local-unique}
 use Rattle.code.specs.Filling.{filling-symbols}
 use Rattle.code.specs.Repair.{repaired, repairedGroup, Satisfies}
-use Rattle.code.specs.Stretch.{stretch, withStretch}
+use Rattle.code.specs.Stretch.{stretch, withStretch, own-place}
 use Rattle.marks.specs.Refusal.{orElse-first}
 use Rattle.fill.specs.Filled.{Filled}
 
@@ -54,19 +57,16 @@ module _ (w c : ℕ) (wide : 0 < w) (narrow : w ≤ 16) (few-checks : c ≤ 4) (
       subst (λ n. (e : ℕ) → e < lostIn n marks 0 → localSum bytes n x 0 e ≡ 0) size
       (F .zero (subst (λ n. n ≤ 16) (sym size) narrow) (marks-size ∙ sym size) (subst (λ n. lostIn n marks 0 ≤ 4) (sym size) (omega arith)))
 
-  own : (j : ℕ) → 0 * w + j ≡ j
-  own j = ap (λ n. n + j) (zero-mul w) ∙ zero-add j
-
   -- a filling that satisfies the equations is this one
   only : (y : List ℕ) → Satisfies bytes w c marks part y → x ≡ y
   only y Y =
       ext-getD 0 x y (F .size ∙ sym (Y .fills .size)) λ j l.
       let k : j < w = subst (λ n. j < n) x-size l in
-      subst (λ n. getD x n 0 ≡ getD y n 0) (own j)
+      subst (λ n. getD x n 0 ≡ getD y n 0) (own-place w j)
       (local-unique bytes bytes-sound w (lostIn w marks 0) 0 wide narrow marks x y x-small
       (filling-symbols bytes w marks part y (record { size = size; each = part-small }) (Y .fills) .each)
       (λ e h. first-sums e h ∙ sym (local-zero bytes w c y 0 (Y .passes) e (omega arith)))
-      (λ i h e. F .present (0 * w + i) e ∙ sym (Y .fills .present (0 * w + i) (subst (λ n. n < length part) (sym (own i)) (subst (λ n. i < n) (sym size) h)) e))
+      (λ i h e. F .present (0 * w + i) e ∙ sym (Y .fills .present (0 * w + i) (subst (λ n. n < length part) (sym (own-place w i)) (subst (λ n. i < n) (sym size) h)) e))
       (le-refl (lostIn w marks 0)) j k)
 
   pub part-done : (after : List ℕ) → zero-sums ≡ true → (length x ≡ length part → after ≡ x) → PartAttempt w c marks part after true
@@ -98,17 +98,32 @@ pub refused-seven : (m w c g : ℕ) (word marks : List ℕ) → recoverRefusal m
 unfolding repairRefusal
 refused-seven m w c g word marks z h = sym (ap₂ (λ q b. q orElse refuse 7 (not b)) z (le-ltb g m h))
 
--- the stretch that is lent, and what its repair leaves, in the whole word and marks
-pub service-part : (m w c g : ℕ) (word marks part held : List ℕ) → recoverRefusal m w c word marks ≡ 0 → g < m
-    → part ≡ stretch w g word → held ≡ stretch w g marks → length part ≡ w
-    → repairOf m w c g word marks
-    ≡ record {
-      number = (repaired bytes (length part) c part held) .number;
-      word = withStretch w g word ((repaired bytes (length part) c part held) .word);
-      marks = withStretch w g marks ((repaired bytes (length part) c part held) .marks);
-    }
-unfolding repairOf repairRefusal
-service-part m w c g word marks part held z l p q size =
-    ap₂ (λ r b. unlessBefore (r orElse refuse 7 (not b)) (repairedGroup bytes w c g word marks) word marks) z (lt-ltb g m l)
-    ∙ ap (λ (o : Outcome). record { number = o .number; word = withStretch w g word (o .word); marks = withStretch w g marks (o .marks) })
-    (sym (ap (λ n. repaired bytes n c part held) size ∙ ap₂ (repaired bytes w c) p q))
+-- of a call that is accepted: the part of word and marks that is lent, and what its repair leaves, in the whole word and marks
+module _ (m w c g : ℕ) (word marks : List ℕ) (A : Accepted m w c word marks) (l : g < m) where
+  abbrev lentOf : List ℕ → List ℕ
+  lentOf xs = take (g * w + w - g * w) (drop (g * w) xs)
+
+  abbrev putBack : List ℕ → List ℕ → List ℕ
+  putBack xs part = take (g * w) xs ++ (part ++ drop (g * w + w - g * w) (drop (g * w) xs))
+
+  abbrev left : Outcome
+  left = repaired bytes (length (lentOf word)) c (lentOf word) (lentOf marks)
+
+  abbrev inWhole : Outcome → Outcome
+  inWhole o = record { number = o .number; word = withStretch w g word (o .word); marks = withStretch w g marks (o .marks) }
+
+  whole : repairOf m w c g word marks ≡ inWhole left
+  unfolding repairOf repairRefusal
+  whole =
+      let L : Lent m w c word = record { good = A .good; size = A .word-size } in
+      let M : Lent m w c marks = record { good = A .good; size = A .marks-size } in
+      ap₂ (λ r b. unlessBefore (r orElse refuse 7 (not b)) (repairedGroup bytes w c g word marks) word marks) (A .refusal) (lt-ltb g m l)
+      ∙ ap inWhole (sym (ap (λ n. repaired bytes n c (lentOf word) (lentOf marks)) (part-length L g l refl) ∙ ap₂ (repaired bytes w c) (part-stretch L g l refl) (part-stretch M g l refl)))
+
+  pub service-lent : (r : ℕ) (part held : List ℕ) → r ≡ left .number → part ≡ left .word → held ≡ left .marks
+      → (answerAt r ≡ answerAt ((repairOf m w c g word marks) .number))
+      × ((putBack word part ≡ (repairOf m w c g word marks) .word) × (putBack marks held ≡ (repairOf m w c g word marks) .marks))
+  service-lent r part held n p h = (
+    ap answerAt n ∙ ap (λ o. answerAt (o .number)) (sym whole),
+    (with-lent w g word part ∙ ap (withStretch w g word) p ∙ ap (λ o. o .word) (sym whole), with-lent w g marks held ∙ ap (withStretch w g marks) h ∙ ap (λ o. o .marks) (sym whole)),
+  )

@@ -2,16 +2,16 @@
 use mathlib.Core.Path.{_≡_, refl, sym, ap, ap₂, _∙_}
 use mathlib.Core.Bool.{cond}
 use mathlib.Core.List.{List}
-use Prim.Native.Nat.{ℕ, zero, suc, _^_, _≤_, _<_}
+use Prim.Native.Nat.{ℕ, _^_, _≤_, _<_}
 use native.Mathlib.Nat.{mod-eq-of-lt}
 use native.Mathlib.Decide.{ℕ-discrete, decLt}
 use native.Mathlib.Omega.{arith}
 use borrow.Author.Tests.{lt-ltb, le-ltb}
 use lib.Dec.{ltb}
 use lib.Pow.{pow-pos, pow-lt}
-use Rattle.binary_field.specs.Xor.{_⊕_, ⊕-zero-l, ⊕-zero-r, ⊕-lt, ⊕-self}
+use Rattle.binary_field.specs.Xor.{_⊕_, ⊕-zero-l, ⊕-lt, ⊕-self}
 use Rattle.binary_field.specs.Product.{product, product-add, product-zero, zero-product, product-one, one-product}
-use Rattle.binary_field.specs.Sum.{sumBelow, sum-suc, sum-ext, sum-zero, sum-add}
+use Rattle.binary_field.specs.Sum.{sumBelow, sum-ext, sum-add, sum-single}
 use Rattle.solve.specs.Elimination.{entry}
 use Rattle.solve.specs.Steps.{System, identity, identity-same, identity-other, Reduced}
 
@@ -22,15 +22,6 @@ Kernel k m M t x = (e : ℕ) → e < t → sumBelow t (λ i. product k m (entry 
 -- only for x = 0
 abbrev pub TrivialKernel : ℕ → ℕ → List (List ℕ) → ℕ → Type 0
 TrivialKernel k m M t = (x : ℕ → ℕ) → ((i : ℕ) → x i < 2 ^ k) → Kernel k m M t x → (i : ℕ) → i < t → x i ≡ 0
-
--- a sum with one term
-pub sum-single : (n e : ℕ) (f : ℕ → ℕ) → e < n → ((i : ℕ) → i < n → (i ≡ e → ⊥) → f i ≡ 0) → sumBelow n f ≡ f e
-sum-single zero e f h z = absurd (omega arith)
-sum-single (suc n) e f h z = go (sum-single n e f) (ℕ-discrete e n)
-  where
-    go : (e < n → ((i : ℕ) → i < n → (i ≡ e → ⊥) → f i ≡ 0) → sumBelow n f ≡ f e) → Dec (e ≡ n) → sumBelow (suc n) f ≡ f e
-    go ih (yes q) = sum-suc n f ∙ ap₂ _⊕_ (sum-zero n f (λ i l. z i (omega arith) (omega arith))) (ap f (sym q)) ∙ ⊕-zero-l (f e)
-    go ih (no q) = sum-suc n f ∙ ap₂ _⊕_ (ih (omega arith) (λ i l w. z i (omega arith) w)) (z n (omega arith) (λ w. q (sym w))) ∙ ⊕-zero-r (f e)
 
 -- the entries of column j in the rows above j
 above : List (List ℕ) → ℕ → ℕ → ℕ

@@ -3,7 +3,6 @@ use mathlib.Core.Path.{_≡_, refl, sym, ap, ap₂, _∙_}
 use mathlib.Core.Bool.{Bool, true, false}
 use mathlib.Core.List.{List}
 use Prim.Native.Nat.{ℕ, suc, _+_, _-_, _*_, _<_, _≤_}
-use native.Mathlib.Nat.{zero-mul, zero-add}
 use native.Mathlib.Numerals.{add-one}
 use native.Mathlib.Omega.{arith}
 use lib.Bits.{bitXor}
@@ -15,7 +14,7 @@ use Rattle.binary_field.specs.Product.{product-left-comm}
 use Rattle.binary_field.specs.Sum.{innerProduct, sum-none, sum-suc, sum-ext, sum-scale}
 use Rattle.code.specs.Edition.{Edition, bytes, times, raised}
 use Rattle.code.specs.Word.{groupSum, localSum, wordSum, coefficient, twisted, isLocal}
-use Rattle.code.specs.Stretch.{stretch-sum}
+use Rattle.code.specs.Stretch.{own-place, stretch-sum}
 use Rattle.groups.specs.Lent.{Lent, part-stretch, part-length}
 use Rattle.coefficients.specs.Rows.{powerRows, firstRows, secondRows, noRow, power-at, first-at, second-at}
 
@@ -31,7 +30,7 @@ inner-group : (part row : List ℕ) (h : ℕ → ℕ) → length part ≤ 16 →
 unfolding innerProduct groupSum
 inner-group part row h narrow same =
     sum-ext (length part) _ _
-    (λ j l. ap₂ (times bytes) (ap (λ n. getD part n 0) (sym (ap (λ n. n + j) (zero-mul (length part)) ∙ zero-add j))) (same j (omega arith)))
+    (λ j l. ap₂ (times bytes) (ap (λ n. getD part n 0) (sym (own-place (length part) j))) (same j (omega arith)))
 
 -- the factor 2^g of a group stands before its sum
 twisted-group : (E : Edition) (w c g : ℕ) (part : List ℕ)

@@ -14,7 +14,7 @@ returns : tie.Need-returns
 returns c =
     let r = c .before in
     let a = r .before .before .before .before .args in
-    (λ G e _ _. absurd (c .if1 .taken (r .word-refusal .ensures ∙ word-of-good (a .m) (a .w) (a .c) (length (a .word .now)) G e)), refl)
+    (λ G e _ _. absurd (c .if1 .taken (r .word-refusal .ensures ∙ word-of-good (a .m) (a .w) (a .c) (length (a .word .now)) G e)), (refl, λ _. refl))
 
 -- past the first test the shape is good, and the word has its length
 shaped : (t : tie.Else1) → let a = t .before .before .before .before .before .args in Lent (a .m) (a .w) (a .c) (a .word .now)
@@ -24,10 +24,10 @@ shaped t =
     lent (a .m) (a .w) (a .c) (a .word .now) (sym (r .word-refusal .ensures) ∙ t .if1 .left)
 
 returns-2 : tie.Need-returns-2
-returns-2 c = (λ _ e f _. absurd (c .if2 .taken (f ∙ sym e)), refl)
+returns-2 c = (λ _ e f _. absurd (c .if2 .taken (f ∙ sym e)), (refl, λ _. refl))
 
 returns-3 : tie.Need-returns-3
-returns-3 c = (λ _ e _ f. absurd (c .if3 .taken (f ∙ sym e)), refl)
+returns-3 c = (λ _ e _ f. absurd (c .if3 .taken (f ∙ sym e)), (refl, λ _. refl))
 
 array-borrow-prefix-kept : tie.Need-array-borrow-prefix-kept
 array-borrow-prefix-kept c =
@@ -54,7 +54,9 @@ same-length : tie.Need-same-length
 same-length c = search needs
 
 returns-4 : tie.Need-returns-4
-returns-4 c = search needs
+returns-4 c =
+    let L = shaped (c .before .before .before .before .before .before .before .before) in
+    (search needs, (search needs, λ k. absurd (k (L .good) (L .size) (omega arith) (omega arith))))
 
 pub candidate-spec : {M : Type 1} → statement M
 candidate-spec =

@@ -23,8 +23,7 @@ returns-4 c = chosen powerRows (c .before .args .e) 3 (c .match .keys4)
 
 returns-5 : tie.Need-returns-5
 unfolding powerRows
-returns-5 c =
-    let r = c .match .rest in none-chosen powerRows (c .before .args .e) refl (r .0 .0 .0 .1) (r .0 .0 .1) (r .0 .1) (r .1)
+returns-5 c = none-chosen powerRows (c .before .args .e) refl (c .match .rest)
 
 pub power-row-spec : {M : Type 1} → statement M
 power-row-spec = tie.close (tie.spec returns returns-2 returns-3 returns-4 returns-5)

@@ -1,9 +1,7 @@
-use mathlib.Core.Path.{refl, ap, _∙_}
-use lib.ListN.{length}
+use mathlib.Core.Path.{refl}
 use borrow.Author.Needs.{needs}
-use Rattle.binary_field.specs.Sum.{innerProduct}
 use Rattle.coefficients.specs.Rows.{powerRows}
-use Rattle.coefficients.proofs.Laws.{chosen, none-chosen}
+use Rattle.coefficients.proofs.Laws.{sum-chosen, sum-none}
 use Rattle.coefficients.proofs.power_sum.Statement.{statement}
 use Rattle.coefficients.proofs.power_sum.Tie as tie
 
@@ -36,34 +34,23 @@ dot-requires-4 c κs = search needs
 
 returns : tie.Need-returns
 unfolding powerRows
-returns c =
-    let a = c .before .before .before .args in
-    c .plain-sum .ensures ∙ ap (innerProduct 8 285 (length (a .part .now)) (a .part .now)) (chosen powerRows (a .e) 0 (c .before .match .keys1))
+returns c = let a = c .before .before .before .args in sum-chosen powerRows (a .e) (a .part .now) 0 (c .plain-sum .ensures) (c .before .match .keys1)
 
 returns-2 : tie.Need-returns-2
 unfolding powerRows
-returns-2 c =
-    let a = c .before .before .before .before .args in
-    c .dot .ensures ∙ ap (innerProduct 8 285 (length (a .part .now)) (a .part .now)) (chosen powerRows (a .e) 1 (c .before .before .match .keys2))
+returns-2 c = let a = c .before .before .before .before .args in sum-chosen powerRows (a .e) (a .part .now) 1 (c .dot .ensures) (c .before .before .match .keys2)
 
 returns-3 : tie.Need-returns-3
 unfolding powerRows
-returns-3 c =
-    let a = c .before .before .before .before .args in
-    c .dot2 .ensures ∙ ap (innerProduct 8 285 (length (a .part .now)) (a .part .now)) (chosen powerRows (a .e) 2 (c .before .before .match .keys3))
+returns-3 c = let a = c .before .before .before .before .args in sum-chosen powerRows (a .e) (a .part .now) 2 (c .dot2 .ensures) (c .before .before .match .keys3)
 
 returns-4 : tie.Need-returns-4
 unfolding powerRows
-returns-4 c =
-    let a = c .before .before .before .before .args in
-    c .dot3 .ensures ∙ ap (innerProduct 8 285 (length (a .part .now)) (a .part .now)) (chosen powerRows (a .e) 3 (c .before .before .match .keys4))
+returns-4 c = let a = c .before .before .before .before .args in sum-chosen powerRows (a .e) (a .part .now) 3 (c .dot3 .ensures) (c .before .before .match .keys4)
 
 returns-5 : tie.Need-returns-5
 unfolding powerRows
-returns-5 c =
-    let a = c .before .before .before .before .args in
-    let r = c .before .before .match .rest in
-    c .dot4 .ensures ∙ ap (innerProduct 8 285 (length (a .part .now)) (a .part .now)) (none-chosen powerRows (a .e) refl (r .0 .0 .0 .1) (r .0 .0 .1) (r .0 .1) (r .1))
+returns-5 c = let a = c .before .before .before .before .args in sum-none powerRows (a .e) (a .part .now) refl (c .dot4 .ensures) (c .before .before .match .rest)
 
 pub power-sum-spec : {M : Type 1} → statement M
 power-sum-spec =

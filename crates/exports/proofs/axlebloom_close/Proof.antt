@@ -43,7 +43,7 @@ use Rattle.desk.specs.Calls.{closeOf}
 use Rattle.exports.specs.DeskCalls.{ClosesNumber}
 use Rattle.desk.specs.declared.Desk.{Desk}
 use Rattle.exports.specs.declared.Numbered.{Numbered}
-use Rattle.exports.proofs.Walks.{by-walk, val, IsNumber}
+use Rattle.desk.proofs.Walks.{by-walk, hand-over, val, IsNumber}
 use Rattle.desk.proofs.Desk as T
 use Rattle.desk.proofs.Desk.Laws as T′
 use Rattle.exports.proofs.Numbered as R
@@ -67,10 +67,6 @@ stayed = (stay-ref (0 ∷ []) tt (plain (λ _. T.the-row)), (stay-none (λ _. u6
 abbrev Close : {M : Type 1} (𝓤 : URA M) (H : Heap 𝓤) (A : Atoms 𝓤) (mem : Memory → SProp 𝓤) (run : Routine → Fun 𝓤) → Contract 𝓤
 Close 𝓤 H A mem run = tripleOf 𝓤 H A close.signature (close.spec 𝓤 H A mem run)
 
-close-gives : {M : Type 1} (𝓤 : URA M) (H : Heap 𝓤) (A : Atoms 𝓤) (mem : Memory → SProp 𝓤) (run : Routine → Fun 𝓤) (h : Desk) (n : ℕ) (r : Numbered)
-    → ent 𝓤 (ensured 𝓤 H A close.ended (close.clauses 𝓤 H A mem run) tt (h, (n, tt)) tt r) (fact 𝓤 (ClosesNumber (closeOf n h) (r .desk) (r .number)))
-close-gives 𝓤 H A mem run h n r = exE 𝓤 _ (λ ws. snd∗ 𝓤 (sem 𝓤 H A (lasts close.ended tt (h, (n, tt)) ws)) (fact 𝓤 (ClosesNumber (closeOf n h) (r .desk) (r .number))))
-
 module _ {M : Type 1} (𝓤 : URA M) (H : Heap 𝓤) (A : Atoms 𝓤) (W : Given 𝓤 H A) (at-mem : Memory → SProp 𝓤) (run : Routine → Fun 𝓤) (κ : Lft) (q : Share) (b o : ℕ) (γ : GName) (h : Desk) (n : ℕ) where
   abbrev x : Arg
   x = (record { ptr = (b, o); name = γ; now = h }, (n, tt))
@@ -93,10 +89,6 @@ module _ {M : Type 1} (𝓤 : URA M) (H : Heap 𝓤) (A : Atoms 𝓤) (W : Given
   abbrev to-close : Close 𝓤 H A at-mem run .Ghost
   to-close = ((tt, tt, tt, (h, (n, tt)), (val h ∷ [], (vint w64 n ∷ [], tt))), tt)
 
-  goes-close : ent 𝓤 (sep 𝓤 (sem 𝓤 H A (T.the-row .own h (val h ∷ []))) (sem 𝓤 H A (u64 .own n (vint w64 n ∷ [])))) (Close 𝓤 H A at-mem run .pre to-close)
-  goes-close =
-      qed W (‵ (T.the-row .own h (val h ∷ [])) ∷ ‵ (u64 .own n (vint w64 n ∷ [])) ∷ []) ∵ nothing ! $ move ! (2 ∷ 0 ∷ []) $ join ! $ move ! (1 ∷ 0 ∷ []) $ join ! $ nothing ! $ join ! $ frame ! $ done !
-
   module _ (C : Calls 𝓤 H) (Λ : Loops 𝓤 H) (fm : FmC 𝓤 H (W .laws) C) (known : Triple 𝓤 (C #exports·close-number) (Close 𝓤 H A at-mem run)) where
     walk : ent 𝓤 (onEntry 𝓤 H A axlebloom-close.signature (κ, tt) (q, tt) x at) (WpFn 𝓤 H C Λ code.function (vptr b o ∷ vint w64 n ∷ []) Post)
     walk =
@@ -110,10 +102,10 @@ module _ {M : Type 1} (𝓤 : URA M) (H : Heap 𝓤) (A : Atoms 𝓤) (W : Given
         -- [the desk's cell; what it owns; the open borrow; obs; auth; _4; …; _3; …; _2; …; _1; …; room for _0; …]
         assigns ! (of-opd ! (load ! (from ! (hop ! (look ! 11 refl) (stop !))) (look-raw ! 0 refl))) (from ! (stop !)) (init ! 7 refl (LL.lawful T.the-type T′.the-laws 𝓤 H A W .typed h _ is .0)) $
         owned ! u64 (Is u64) (uint-makes 𝓤 H A W w64) n _ (refl, gn .1) $ owned ! T.the-row (Is T.the-row) (LL.makes T.the-type T′.the-plain 𝓤 H A) h _ is $
-        use2 W (raw (Close 𝓤 H A at-mem run .pre to-close)) goes-close $
+        use2 W (raw (Close 𝓤 H A at-mem run .pre to-close)) (hand-over W h n) $
         calls-at ! fm (Close 𝓤 H A at-mem run) known to-close (and-then ! (load ! (from ! (stop !)) (look ! 8 refl)) (and-then ! (load ! (from ! (stop !)) (look ! 10 refl)) (no-more !))) (λ v.
         use1 W (later (some (λ (r : Numbered). (‵ ftrue ⊛ ‵ (R.the-row .own r (v ∷ []))) ⊛ raw (ensured 𝓤 H A close.ended (close.clauses 𝓤 H A at-mem run) tt (h, (n, tt)) tt r)))) (id⊢ 𝓤 _) $ await ! tt $ pick ! (λ r.
-        split ! $ move ! (1 ∷ []) $ use1 W (raw (fact 𝓤 (ClosesNumber (closeOf n h) (r .desk) (r .number)))) (close-gives 𝓤 H A at-mem run h n r) $ heard ! (ClosesNumber (closeOf n h) (r .desk) (r .number)) (λ e. split ! $ drop ! $
+        split ! $ move ! (1 ∷ []) $ use1 W (raw (fact 𝓤 (ClosesNumber (closeOf n h) (r .desk) (r .number)))) (exE 𝓤 _ (λ ws. snd∗ 𝓤 (sem 𝓤 H A (lasts close.ended tt (h, (n, tt)) ws)) _)) $ heard ! (ClosesNumber (closeOf n h) (r .desk) (r .number)) (λ e. split ! $ drop ! $
         peeks ! R.the-row (Is R.the-row) (shows 𝓤 H A R.the-row) r (v ∷ []) (λ are.
         -- [what r owns; the desk's cell; what it owns; the open borrow; obs; auth; _4; …; _3; …; _2; …; _1; …; room for _0; …]
         land ! (from ! (stop !)) (init ! 6 refl (LL.lawful R.the-type R′.the-laws 𝓤 H A W .typed r _ are .0)) $

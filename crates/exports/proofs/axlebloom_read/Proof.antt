@@ -39,7 +39,7 @@ use denote.Exit.{yes}
 use Rattle.desk.specs.Calls.{readOf}
 use Rattle.exports.specs.DeskCalls.{ReadsNumber}
 use Rattle.desk.specs.declared.Desk.{Desk}
-use Rattle.exports.proofs.Walks.{by-walk, val, IsDesk}
+use Rattle.desk.proofs.Walks.{by-walk, val, IsDesk}
 use Rattle.desk.proofs.Desk as T
 use Rattle.desk.proofs.Desk.Laws as T′
 use Rattle.exports.proofs.read_number as read

@@ -45,7 +45,7 @@ use Rattle.desk.specs.Calls.{serveOf}
 use Rattle.exports.specs.DeskCalls.{ServesNumber}
 use Rattle.desk.specs.declared.Desk.{Desk}
 use Rattle.exports.specs.declared.Numbered.{Numbered}
-use Rattle.exports.proofs.Walks.{by-walk, val, IsDesk, IsNumber}
+use Rattle.desk.proofs.Walks.{by-walk, val, IsDesk, IsNumber}
 use Rattle.desk.proofs.Desk as T
 use Rattle.desk.proofs.Desk.Laws as T′
 use Rattle.exports.proofs.Numbered as R

@@ -45,12 +45,7 @@ slice-write-word-2 : tie.Need-slice-write-word-2 Inv-loop μ-loop
 slice-write-word-2 c = omega arith
 
 add-i : tie.Need-add-i Inv-loop μ-loop
-add-i c =
-    let s = c .before .before .before .before in
-    let a = s .before .before .before .args in
-    let k = c .before .before .is-check in
-    let o = ap length (others-data (isCheck (a .m) (a .w) (a .c)) (s .loop .p) (length (a .word .now)) (omega arith) (sym (k .ensures) ∙ c .before .if1 .left)) in
-    omega arith
+add-i c = omega (arith, shared-slice-read-word c)
 
 add-p : tie.Need-add-p Inv-loop μ-loop
 add-p c = omega arith

@@ -6,7 +6,7 @@ use lib.Seq.{length-take-le}
 use Rattle.shape.specs.Answers.{answerAt, answer-refused}
 use Rattle.shape.specs.Laws.{places-most}
 use Rattle.code.specs.Marks.{excess}
-use Rattle.recover.specs.Attempt.{accepted, service-refused, service-eight, service-nine, service-done}
+use Rattle.recover.specs.Attempt.{Accepted, accepted, service-refused, service-eight, service-nine, service-done}
 use borrow.Author.Needs.{needs}
 use Rattle.recover.proofs.recover.Statement.{statement}
 use Rattle.recover.proofs.recover.Tie as tie
@@ -27,6 +27,13 @@ returns c =
     let e = service-refused (a .args .m) (a .args .w) (a .args .c) (a .args .word .now) (a .args .marks .now) (r .refusal .result) (r .refusal .ensures) (c .if1 .taken) in
     (sym (answer-refused (r .refusal .result) (c .if1 .taken)) ∙ ap (λ o. answerAt (o .number)) (sym e), (ap (λ o. o .word) (sym e), ap (λ o. o .marks) (sym e)))
 
+-- past the first test the shape is good, and word and marks have its length
+fair : (t : tie.Else1) → let a = t .before .before .before .before .before .before .args in Accepted (a .m) (a .w) (a .c) (a .word .now) (a .marks .now)
+fair t =
+    let r = t .before in
+    let a = r .before .before .before .before .before .args in
+    accepted (a .m) (a .w) (a .c) (a .word .now) (a .marks .now) (r .refusal .result) (r .refusal .ensures) (omega arith)
+
 excess-of-requires : tie.Need-excess-of-requires
 excess-of-requires c κs = search needs
 
@@ -39,19 +46,23 @@ same-length-4 c = search needs
 returns-2 : tie.Need-returns-2
 returns-2 c =
     let x = c .before in
-    let r = x .before .before .before in
-    let k = r .before .before .before .before in
-    let a = k .before in
-    let A = accepted (a .args .m) (a .args .w) (a .args .c) (a .args .word .now) (a .args .marks .now) (r .refusal .result) (r .refusal .ensures) (omega arith) in
-    let h = x .excess-of .ensures (A .good) (A .marks-size) in
-    let e = service-eight (a .args .m) (a .args .w) (a .args .c) (a .args .word .now) (a .args .marks .now) A (λ p. k .slice-known .given p .fits) (rw (← h) (c .if2 .taken)) in
+    let t = x .before .before in
+    let k = t .before .before .before .before .before in
+    let a = k .before .args in
+    let h = x .excess-of .ensures (fair t .good) (fair t .marks-size) in
+    let e = service-eight (a .m) (a .w) (a .c) (a .word .now) (a .marks .now) (fair t) (λ p. k .slice-known .given p .fits) (rw (← h) (c .if2 .taken)) in
     (ap (λ o. answerAt (o .number)) (sym e), (ap (λ o. o .word) (sym e), ap (λ o. o .marks) (sym e)))
+
+-- past the second test the excess is at most two
+low : (t : tie.Else2) → let a = t .before .before .before .before .before .before .before .before .before .args in excess (a .m) (a .w) (a .c) (a .marks .now) ≤ 2
+low t =
+    let A = fair (t .before .before .before) in
+    let h = t .before .excess-of .ensures (A .good) (A .marks-size) in
+    rw (← h) (t .if2 .left)
 
 array-borrow-prefix-found : tie.Need-array-borrow-prefix-found
 array-borrow-prefix-found c =
-    let r = c .before .before .before .before .before .before in
-    let a = r .before .before .before .before .before in
-    let A = accepted (a .args .m) (a .args .w) (a .args .c) (a .args .word .now) (a .args .marks .now) (r .refusal .result) (r .refusal .ensures) (omega arith) in
+    let A = fair (c .before .before .before .before .before) in
     rw (A .word-size) (places-most (A .good))
 
 slice-aggregate-attempt : tie.Need-slice-aggregate-attempt
@@ -59,9 +70,7 @@ slice-aggregate-attempt c = sym (length-take-le _ _ (array-borrow-prefix-found (
 
 attempt-requires : tie.Need-attempt-requires
 attempt-requires c κs =
-    let r = c .before .before .before .before .before .before .before in
-    let a = r .before .before .before .before .before in
-    let A = accepted (a .args .m) (a .args .w) (a .args .c) (a .args .word .now) (a .args .marks .now) (r .refusal .result) (r .refusal .ensures) (omega arith) in
+    let A = fair (c .before .before .before .before .before .before) in
     (A .good, (A .word-size, (A .marks-size, sym (slice-aggregate-attempt c) ∙ A .word-size)))
 
 clear-if-requires : tie.Need-clear-if-requires
@@ -77,16 +86,13 @@ returns-3 : tie.Need-returns-3
 returns-3 c =
     let cl = c .before .before .before in
     let t = cl .before .before .before .before .before in
-    let x = t .before .before .before .before .before in
-    let r = x .before .before .before in
-    let k = r .before .before .before .before in
-    let a = k .before in
-    let A = accepted (a .args .m) (a .args .w) (a .args .c) (a .args .word .now) (a .args .marks .now) (r .refusal .result) (r .refusal .ensures) (omega arith) in
-    let h = x .excess-of .ensures (A .good) (A .marks-size) in
-    let low : excess (a .args .m) (a .args .w) (a .args .c) (a .args .marks .now) ≤ 2 = rw (← h) (t .before .before .before .before .if2 .left) in
+    let u = t .before .before .before .before in
+    let k = u .before .before .before .before .before .before .before .before in
+    let a = k .before .args in
+    let A = fair (u .before .before .before) in
     let n = not-true _ (c .if3 .taken) in
     let F = t .attempt .ensures .failed n in
-    let e = service-nine (a .args .m) (a .args .w) (a .args .c) (a .args .word .now) (a .args .marks .now) A (λ p. k .slice-known .given p .fits) low (F .1 low) in
+    let e = service-nine (a .m) (a .w) (a .c) (a .word .now) (a .marks .now) A (λ p. k .slice-known .given p .fits) (low u) (F .1 (low u)) in
     (ap (λ o. answerAt (o .number)) (sym e), (F .0 ∙ ap (λ o. o .word) (sym e), cl .clear-if .ensures .1 n ∙ ap (λ o. o .marks) (sym e)))
 
 same-length-7 : tie.Need-same-length-7
@@ -99,15 +105,12 @@ returns-4 : tie.Need-returns-4
 returns-4 c =
     let cl = c .before .before .before in
     let t = cl .before .before .before .before .before in
-    let x = t .before .before .before .before .before in
-    let r = x .before .before .before in
-    let k = r .before .before .before .before in
-    let a = k .before in
-    let A = accepted (a .args .m) (a .args .w) (a .args .c) (a .args .word .now) (a .args .marks .now) (r .refusal .result) (r .refusal .ensures) (omega arith) in
-    let h = x .excess-of .ensures (A .good) (A .marks-size) in
-    let low : excess (a .args .m) (a .args .w) (a .args .c) (a .args .marks .now) ≤ 2 = rw (← h) (t .before .before .before .before .if2 .left) in
+    let u = t .before .before .before .before in
+    let k = u .before .before .before .before .before .before .before .before in
+    let a = k .before .args in
+    let A = fair (u .before .before .before) in
     let y = not-false _ (c .if3 .left) in
-    let e = service-done (a .args .m) (a .args .w) (a .args .c) (a .args .word .now) (a .args .marks .now) A (λ p. k .slice-known .given p .fits) _ low (t .attempt .ensures .done y) in
+    let e = service-done (a .m) (a .w) (a .c) (a .word .now) (a .marks .now) A (λ p. k .slice-known .given p .fits) _ (low u) (t .attempt .ensures .done y) in
     (ap (λ o. answerAt (o .number)) (sym e), (ap (λ o. o .word) (sym e), cl .clear-if .ensures .0 y ∙ ap (λ o. o .marks) (sym e)))
 
 pub recover-spec : {M : Type 1} → statement M

@@ -1,12 +1,12 @@
 use mathlib.Core.Path.{_≡_, refl, sym, ap, _∙_}
-use Prim.Native.Nat.{_<_}
+use Prim.Native.Nat.{_<_, _≤_, _+_, _*_}
 use native.Mathlib.Omega.{arith}
+use lib.ListN.{length}
 use Rattle.shape.specs.Answers.{answerAt, answer-refused}
 use Rattle.shape.specs.Laws.{places-most}
-use Rattle.code.specs.Stretch.{withStretch}
-use Rattle.groups.specs.Lent.{Lent, end-fits, part-stretch, part-length, part-narrow, with-lent}
-use Rattle.recover.specs.Attempt.{accepted}
-use Rattle.repair.specs.Service.{service-refused, refused-early, refused-seven, service-part}
+use Rattle.groups.specs.Lent.{Lent, end-fits, part-length, part-narrow}
+use Rattle.recover.specs.Attempt.{Accepted, accepted}
+use Rattle.repair.specs.Service.{service-refused, refused-early, refused-seven, service-lent}
 use borrow.Author.Needs.{needs}
 use Rattle.repair.proofs.repair.Statement.{statement}
 use Rattle.repair.proofs.repair.Tie as tie
@@ -33,6 +33,13 @@ returns c =
     (refused-early (a .m) (a .w) (a .c) (a .g) (a .word .now) (a .marks .now) n (r .refusal .ensures) (c .if1 .taken)) (c .if1 .taken) in
     (sym (answer-refused n (c .if1 .taken)) ∙ ap (λ o. answerAt (o .number)) (sym e), (ap (λ o. o .word) (sym e), ap (λ o. o .marks) (sym e)))
 
+-- past the first test the shape is good, and word and marks have its length
+fair : (t : tie.Else1) → let a = t .before .before .before .before .before .before .args in Accepted (a .m) (a .w) (a .c) (a .word .now) (a .marks .now)
+fair t =
+    let r = t .before in
+    let a = r .before .before .before .before .before .args in
+    accepted (a .m) (a .w) (a .c) (a .word .now) (a .marks .now) (r .refusal .result) (r .refusal .ensures) (omega arith)
+
 same-length-3 : tie.Need-same-length-3
 same-length-3 c = search needs
 
@@ -41,26 +48,24 @@ same-length-4 c = search needs
 
 returns-2 : tie.Need-returns-2
 returns-2 c =
-    let r = c .before .before in
-    let a = r .before .before .before .before .before .args in
-    let A = accepted (a .m) (a .w) (a .c) (a .word .now) (a .marks .now) (r .refusal .result) (r .refusal .ensures) (omega arith) in
+    let t = c .before in
+    let a = t .before .before .before .before .before .before .args in
     let e = service-refused (a .m) (a .w) (a .c) (a .g) (a .word .now) (a .marks .now) 7
-    (refused-seven (a .m) (a .w) (a .c) (a .g) (a .word .now) (a .marks .now) (A .refusal) (c .if2 .taken)) (λ z. omega arith) in
+    (refused-seven (a .m) (a .w) (a .c) (a .g) (a .word .now) (a .marks .now) (fair t .refusal) (c .if2 .taken)) (λ z. omega arith) in
     (ap (λ o. answerAt (o .number)) (sym e), (ap (λ o. o .word) (sym e), ap (λ o. o .marks) (sym e)))
 
+-- past the second test the group's part lies within the word, and within the marks
+fits : (t : tie.Else2) → let a = t .before .before .before .before .before .before .before .args in (a .g * a .w + a .w ≤ length (a .word .now)) × (a .g * a .w + a .w ≤ length (a .marks .now))
+fits t =
+    let a = t .before .before .before .before .before .before .before .args in
+    let A = fair (t .before) in
+    (end-fits {xs = a .word .now} (record { good = A .good; size = A .word-size }) (a .g) (omega arith), end-fits {xs = a .marks .now} (record { good = A .good; size = A .marks-size }) (a .g) (omega arith))
+
 mul-a : tie.Need-mul-a
-mul-a c =
-    let r = c .before .before in
-    let a = r .before .before .before .before .before .args in
-    let A = accepted (a .m) (a .w) (a .c) (a .word .now) (a .marks .now) (r .refusal .result) (r .refusal .ensures) (omega arith) in
-    omega (arith, places-most (A .good), end-fits {xs = a .word .now} (record { good = A .good; size = A .word-size }) (a .g) (omega arith))
+mul-a c = omega (arith, places-most (fair (c .before) .good), fair (c .before) .word-size, fits c .0)
 
 add-e : tie.Need-add-e
-add-e c =
-    let r = c .before .before in
-    let a = r .before .before .before .before .before .args in
-    let A = accepted (a .m) (a .w) (a .c) (a .word .now) (a .marks .now) (r .refusal .result) (r .refusal .ensures) (omega arith) in
-    omega (arith, places-most (A .good), end-fits {xs = a .word .now} (record { good = A .good; size = A .word-size }) (a .g) (omega arith))
+add-e c = omega (arith, places-most (fair (c .before) .good), fair (c .before) .word-size, fits c .0)
 
 sub-repair-part : tie.Need-sub-repair-part
 sub-repair-part c = search needs
@@ -69,11 +74,7 @@ part-repair-part-start : tie.Need-part-repair-part-start
 part-repair-part-start c = search needs
 
 part-repair-part-end : tie.Need-part-repair-part-end
-part-repair-part-end c =
-    let r = c .before .before in
-    let a = r .before .before .before .before .before .args in
-    let A = accepted (a .m) (a .w) (a .c) (a .word .now) (a .marks .now) (r .refusal .result) (r .refusal .ensures) (omega arith) in
-    omega (arith, end-fits {xs = a .word .now} (record { good = A .good; size = A .word-size }) (a .g) (omega arith))
+part-repair-part-end c = omega (arith, fits c .0)
 
 sub-repair-part-2 : tie.Need-sub-repair-part-2
 sub-repair-part-2 c = search needs
@@ -82,17 +83,13 @@ part-repair-part-start-2 : tie.Need-part-repair-part-start-2
 part-repair-part-start-2 c = search needs
 
 part-repair-part-end-2 : tie.Need-part-repair-part-end-2
-part-repair-part-end-2 c =
-    let r = c .before .before .before in
-    let a = r .before .before .before .before .before .args in
-    let A = accepted (a .m) (a .w) (a .c) (a .word .now) (a .marks .now) (r .refusal .result) (r .refusal .ensures) (omega arith) in
-    omega (arith, end-fits {xs = a .marks .now} (record { good = A .good; size = A .marks-size }) (a .g) (omega arith))
+part-repair-part-end-2 c = omega (arith, fits (c .before) .1)
 
 repair-part-requires : tie.Need-repair-part-requires
 repair-part-requires c κs =
-    let r = c .before .before .before .before in
-    let a = r .before .before .before .before .before .args in
-    let A = accepted (a .m) (a .w) (a .c) (a .word .now) (a .marks .now) (r .refusal .result) (r .refusal .ensures) (omega arith) in
+    let t = c .before .before .before in
+    let a = t .before .before .before .before .before .before .args in
+    let A = fair t in
     let L : Lent (a .m) (a .w) (a .c) (a .word .now) = record { good = A .good; size = A .word-size } in
     let M : Lent (a .m) (a .w) (a .c) (a .marks .now) = record { good = A .good; size = A .marks-size } in
     let l : a .g < a .m = omega arith in
@@ -110,21 +107,11 @@ same-length-6 c = search needs
 returns-3 : tie.Need-returns-3
 returns-3 c =
     let t = c .before .before .before .before .before in
-    let r = t .before .before .before .before .before in
-    let a = r .before .before .before .before .before .args in
-    let A = accepted (a .m) (a .w) (a .c) (a .word .now) (a .marks .now) (r .refusal .result) (r .refusal .ensures) (omega arith) in
-    let L : Lent (a .m) (a .w) (a .c) (a .word .now) = record { good = A .good; size = A .word-size } in
-    let M : Lent (a .m) (a .w) (a .c) (a .marks .now) = record { good = A .good; size = A .marks-size } in
-    let l : a .g < a .m = omega arith in
-    let e = service-part (a .m) (a .w) (a .c) (a .g) (a .word .now) (a .marks .now) _ _ (A .refusal) l
-    (part-stretch {xs = a .word .now} L (a .g) l refl) (part-stretch {xs = a .marks .now} M (a .g) l refl) (part-length {xs = a .word .now} L (a .g) l refl) in
-    let E = t .repair-part .ensures in (
-      sym (answer-refused (t .repair-part .result) (c .if3 .taken)) ∙ ap answerAt (E .0) ∙ ap (λ o. answerAt (o .number)) (sym e),
-      (
-        rw (with-lent) (ap (withStretch (a .w) (a .g) (a .word .now)) (E .1 .0) ∙ ap (λ o. o .word) (sym e)),
-        rw (with-lent) (ap (withStretch (a .w) (a .g) (a .marks .now)) (E .1 .1) ∙ ap (λ o. o .marks) (sym e)),
-      ),
-    )
+    let u = t .before .before .before .before in
+    let a = u .before .before .before .before .before .before .args in
+    let E = t .repair-part .ensures in
+    let S = service-lent (a .m) (a .w) (a .c) (a .g) (a .word .now) (a .marks .now) (fair u) (omega arith) _ _ _ (E .0) (E .1 .0) (E .1 .1) in
+    (sym (answer-refused (t .repair-part .result) (c .if3 .taken)) ∙ S .0, S .1)
 
 same-length-7 : tie.Need-same-length-7
 same-length-7 c = search needs
@@ -135,22 +122,12 @@ same-length-8 c = search needs
 returns-4 : tie.Need-returns-4
 returns-4 c =
     let t = c .before .before .before .before .before in
-    let r = t .before .before .before .before .before in
-    let a = r .before .before .before .before .before .args in
-    let A = accepted (a .m) (a .w) (a .c) (a .word .now) (a .marks .now) (r .refusal .result) (r .refusal .ensures) (omega arith) in
-    let L : Lent (a .m) (a .w) (a .c) (a .word .now) = record { good = A .good; size = A .word-size } in
-    let M : Lent (a .m) (a .w) (a .c) (a .marks .now) = record { good = A .good; size = A .marks-size } in
-    let l : a .g < a .m = omega arith in
-    let e = service-part (a .m) (a .w) (a .c) (a .g) (a .word .now) (a .marks .now) _ _ (A .refusal) l
-    (part-stretch {xs = a .word .now} L (a .g) l refl) (part-stretch {xs = a .marks .now} M (a .g) l refl) (part-length {xs = a .word .now} L (a .g) l refl) in
+    let u = t .before .before .before .before in
+    let a = u .before .before .before .before .before .before .args in
     let E = t .repair-part .ensures in
-    let z : t .repair-part .result ≡ 0 = omega arith in (
-      ap answerAt (sym z ∙ E .0) ∙ ap (λ o. answerAt (o .number)) (sym e),
-      (
-        rw (with-lent) (ap (withStretch (a .w) (a .g) (a .word .now)) (E .1 .0) ∙ ap (λ o. o .word) (sym e)),
-        rw (with-lent) (ap (withStretch (a .w) (a .g) (a .marks .now)) (E .1 .1) ∙ ap (λ o. o .marks) (sym e)),
-      ),
-    )
+    let S = service-lent (a .m) (a .w) (a .c) (a .g) (a .word .now) (a .marks .now) (fair u) (omega arith) _ _ _ (E .0) (E .1 .0) (E .1 .1) in
+    let z : t .repair-part .result ≡ 0 = omega arith in
+    (ap answerAt (sym z) ∙ S .0, S .1)
 
 pub repair-spec : {M : Type 1} → statement M
 repair-spec =

@@ -1,0 +1,127 @@
+//! The library through its exported functions, with the record of a desk laid out as in the header.
+
+mod c {
+    use super::Desk;
+    extern "C" {
+        pub fn axlebloom_describe(m: usize, w: usize, c: usize) -> u8;
+        pub fn axlebloom_places(m: usize, w: usize, c: usize) -> usize;
+        pub fn axlebloom_data(m: usize, w: usize, c: usize) -> usize;
+        pub fn axlebloom_sure(m: usize, w: usize, c: usize) -> usize;
+        pub fn axlebloom_encode(m: usize, w: usize, c: usize, d: *const u8, k: usize, x: *mut u8, n: usize) -> u8;
+        pub fn axlebloom_extract(m: usize, w: usize, c: usize, x: *const u8, n: usize, d: *mut u8, k: usize) -> u8;
+        pub fn axlebloom_check(m: usize, w: usize, c: usize, x: *const u8, n: usize) -> u8;
+        pub fn axlebloom_judge(m: usize, w: usize, c: usize, l: *const u8, n: usize) -> u8;
+        pub fn axlebloom_repair(m: usize, w: usize, c: usize, g: usize, x: *mut u8, n: usize, l: *mut u8, k: usize) -> u8;
+        pub fn axlebloom_recover(m: usize, w: usize, c: usize, x: *mut u8, n: usize, l: *mut u8, k: usize) -> u8;
+        pub fn axlebloom_repair_then_recover(
+            m: usize,
+            w: usize,
+            c: usize,
+            x: *mut u8,
+            n: usize,
+            l: *mut u8,
+            k: usize,
+            g: *const usize,
+            count: usize,
+        ) -> u8;
+        pub fn axlebloom_fresh(desk: *mut Desk);
+        pub fn axlebloom_open(desk: *mut Desk, m: usize, w: usize, c: usize, l: *const u8, n: usize, handle: *mut u64) -> u8;
+        pub fn axlebloom_serve(desk: *mut Desk, handle: u64, x: *mut u8, n: usize) -> u8;
+        pub fn axlebloom_read(desk: *const Desk, handle: u64, served: *mut u32) -> u8;
+        pub fn axlebloom_close(desk: *mut Desk, handle: u64) -> u8;
+    }
+}
+
+/// m, w and c.
+pub type Shape = (usize, usize, usize);
+
+pub fn describe(s: Shape) -> Result<(u64, u64, u64), u8> {
+    let figure = |f: unsafe extern "C" fn(usize, usize, usize) -> usize| unsafe { f(s.0, s.1, s.2) as u64 };
+    match unsafe { c::axlebloom_describe(s.0, s.1, s.2) } {
+        0 => Ok((figure(c::axlebloom_places), figure(c::axlebloom_data), figure(c::axlebloom_sure))),
+        number => Err(number),
+    }
+}
+
+pub fn encode(s: Shape, d: &[u8], x: &mut [u8]) -> u8 {
+    unsafe { c::axlebloom_encode(s.0, s.1, s.2, d.as_ptr(), d.len(), x.as_mut_ptr(), x.len()) }
+}
+
+pub fn extract(s: Shape, x: &[u8], d: &mut [u8]) -> u8 {
+    unsafe { c::axlebloom_extract(s.0, s.1, s.2, x.as_ptr(), x.len(), d.as_mut_ptr(), d.len()) }
+}
+
+pub fn check(s: Shape, x: &[u8]) -> u8 {
+    unsafe { c::axlebloom_check(s.0, s.1, s.2, x.as_ptr(), x.len()) }
+}
+
+pub fn judge(s: Shape, l: &[u8]) -> u8 {
+    unsafe { c::axlebloom_judge(s.0, s.1, s.2, l.as_ptr(), l.len()) }
+}
+
+pub fn repair(s: Shape, g: usize, x: &mut [u8], l: &mut [u8]) -> u8 {
+    unsafe { c::axlebloom_repair(s.0, s.1, s.2, g, x.as_mut_ptr(), x.len(), l.as_mut_ptr(), l.len()) }
+}
+
+pub fn recover(s: Shape, x: &mut [u8], l: &mut [u8]) -> u8 {
+    unsafe { c::axlebloom_recover(s.0, s.1, s.2, x.as_mut_ptr(), x.len(), l.as_mut_ptr(), l.len()) }
+}
+
+pub fn repair_then_recover(s: Shape, x: &mut [u8], l: &mut [u8], list: &[usize]) -> u8 {
+    let (n, k) = (x.len(), l.len());
+    unsafe { c::axlebloom_repair_then_recover(s.0, s.1, s.2, x.as_mut_ptr(), n, l.as_mut_ptr(), k, list.as_ptr(), list.len()) }
+}
+
+#[repr(C)]
+#[derive(Clone, Copy)]
+pub struct Job {
+    pub taken: u8,
+    pub m: u8,
+    pub w: u8,
+    pub c: u8,
+    pub served: u32,
+    pub handle: u64,
+    pub marks: [u8; 240],
+}
+
+#[repr(C)]
+#[derive(Clone, Copy)]
+pub struct Desk {
+    pub t: u64,
+    pub jobs: [Job; 8],
+}
+
+/// How many bytes the record of a desk has; there are none between its fields.
+pub const DESK_SIZE: usize = 2056;
+
+impl Desk {
+    /// A record that holds anything.
+    pub fn of_bytes(bytes: [u8; DESK_SIZE]) -> Desk {
+        unsafe { std::mem::transmute(bytes) }
+    }
+
+    /// Every byte of the record.
+    pub fn bytes(&self) -> [u8; DESK_SIZE] {
+        unsafe { std::mem::transmute(*self) }
+    }
+}
+
+pub fn fresh(desk: &mut Desk) {
+    unsafe { c::axlebloom_fresh(desk) }
+}
+
+pub fn open(desk: &mut Desk, s: Shape, l: &[u8], handle: &mut u64) -> u8 {
+    unsafe { c::axlebloom_open(desk, s.0, s.1, s.2, l.as_ptr(), l.len(), handle) }
+}
+
+pub fn serve(desk: &mut Desk, handle: u64, x: &mut [u8]) -> u8 {
+    unsafe { c::axlebloom_serve(desk, handle, x.as_mut_ptr(), x.len()) }
+}
+
+pub fn read(desk: &Desk, handle: u64, served: &mut u32) -> u8 {
+    unsafe { c::axlebloom_read(desk, handle, served) }
+}
+
+pub fn close(desk: &mut Desk, handle: u64) -> u8 {
+    unsafe { c::axlebloom_close(desk, handle) }
+}

@@ -1,0 +1,218 @@
+//! Calls of every service with one shape, word, row of marks and list of groups.
+
+use crate::library::{self, Shape};
+use crate::random::{bad_shape, codeword, damaged, figures, good_shape, marks, wide, Random};
+use crate::second;
+use crate::shrink::{row, shorter, zeroed, Case};
+
+#[derive(Clone)]
+pub struct Services {
+    shape: Shape,
+    data: Vec<u8>,
+    word: Vec<u8>,
+    marks: Vec<u8>,
+    list: Vec<usize>,
+}
+
+/// The numbers answered so far.
+type Seen<'a> = &'a mut Vec<u8>;
+
+/// Keeps the number that both gave; what else they left is compared with it.
+fn alike<T: PartialEq + std::fmt::Debug>(what: &str, ours: (u8, T), theirs: (u8, T), seen: Seen) -> Result<(), String> {
+    if ours != theirs {
+        return Err(format!("{what}\n  library        {ours:?}\n  second program {theirs:?}"));
+    }
+    seen.push(ours.0);
+    Ok(())
+}
+
+/// The number and the figures of a description.
+fn described(answer: Result<(u64, u64, u64), u8>) -> (u8, (u64, u64, u64)) {
+    match answer {
+        Ok(figures) => (0, figures),
+        Err(number) => (number, (0, 0, 0)),
+    }
+}
+
+/// Describe, Encode, Extract, Check and Judge.
+fn plain_services(case: &Services, seen: Seen) -> Result<(), String> {
+    let s = case.shape;
+    let (m, w, c) = wide(s);
+    alike("describe", described(library::describe(s)), described(second::describe(m, w, c)), seen)?;
+    let (mut x, mut y) = (case.word.clone(), case.word.clone());
+    let (a, b) = (library::encode(s, &case.data, &mut x), second::encode(m, w, c, &case.data, &mut y));
+    alike("encode", (a, x), (b, y), seen)?;
+    let (mut d, mut e) = (case.data.clone(), case.data.clone());
+    let (a, b) = (library::extract(s, &case.word, &mut d), second::extract(m, w, c, &case.word, &mut e));
+    alike("extract", (a, d), (b, e), seen)?;
+    let checked = match second::check(m, w, c, &case.word) {
+        Ok(yes) => 9 * u8::from(!yes),
+        Err(number) => number,
+    };
+    alike("check", (library::check(s, &case.word), ()), (checked, ()), seen)?;
+    alike("judge", (library::judge(s, &case.marks), ()), (second::judge(m, w, c, &case.marks), ()), seen)
+}
+
+/// Repair of each listed group, Recover, and the list of repairs with the recovery after it.
+fn repairs(case: &Services, seen: Seen) -> Result<(), String> {
+    let s = case.shape;
+    let (m, w, c) = wide(s);
+    let start = || (case.word.clone(), case.marks.clone());
+    for &g in &case.list {
+        let ((mut x, mut k), (mut y, mut l)) = (start(), start());
+        let (a, b) = (library::repair(s, g, &mut x, &mut k), second::repair(m, w, c, g as u64, &mut y, &mut l));
+        alike(&format!("repair of group {g}"), (a, (x, k)), (b, (y, l)), seen)?;
+    }
+    let ((mut x, mut k), (mut y, mut l)) = (start(), start());
+    let (a, b) = (library::recover(s, &mut x, &mut k), second::recover(m, w, c, &mut y, &mut l));
+    let at_once = (a, (x, k));
+    alike("recover", at_once.clone(), (b, (y, l)), seen)?;
+    let ((mut x, mut k), (mut y, mut l)) = (start(), start());
+    let a = library::repair_then_recover(s, &mut x, &mut k, &case.list);
+    for &g in &case.list {
+        second::repair(m, w, c, g as u64, &mut y, &mut l);
+    }
+    let b = second::recover(m, w, c, &mut y, &mut l);
+    let after = (a, (x, k));
+    alike("the repairs, then recover", after.clone(), (b, (y, l)), seen)?;
+    if after.0 != at_once.0 || a == 0 && after != at_once {
+        return Err(format!("the library's recovery\n  at once           {at_once:?}\n  after the repairs {after:?}"));
+    }
+    Ok(())
+}
+
+/// Random data and a word and marks of the shape's lengths, or of any if it is refused.
+fn of_shape(r: &mut Random, shape: Shape) -> Services {
+    let Some((_, k)) = figures(shape) else {
+        let (n, k) = (r.below(20), r.below(20));
+        return Services { shape, data: r.bytes(k), word: r.bytes(n), marks: vec![0; n], list: vec![0] };
+    };
+    let data = r.bytes(k);
+    let more = r.pick(&[0, 0, 1, 2, 2, 2, 3, 5]);
+    let marks = marks(r, shape, more);
+    let mut word = codeword(shape, &data);
+    if r.one_in(8) {
+        word = r.bytes(word.len());
+    }
+    word = damaged(r, &word, &marks);
+    let list = (0..r.below(6)).map(|_| r.below(shape.0 + 1)).collect();
+    Services { shape, data, word, marks, list }
+}
+
+impl Case for Services {
+    fn random(r: &mut Random) -> Services {
+        let shape = match r.below(10) {
+            0 => bad_shape(r, usize::MAX),
+            1 => good_shape(r, 15, 15),
+            _ => good_shape(r, 5, 6),
+        };
+        let mut case = of_shape(r, shape);
+        if !case.word.is_empty() && r.one_in(4) {
+            let p = r.below(case.word.len());
+            case.word[p] ^= 1 + r.below(255) as u8;
+        }
+        if !case.marks.is_empty() && r.one_in(16) {
+            let p = r.below(case.marks.len());
+            case.marks[p] = r.byte();
+        }
+        match r.below(40) {
+            0 => case.word.push(0),
+            1 => case.word.truncate(r.below(4)),
+            2 => case.marks.push(1),
+            3 => drop(case.marks.pop()),
+            4 => case.data.push(7),
+            5 => drop(case.data.pop()),
+            6 => case.list.push(r.number() as usize),
+            _ => (),
+        }
+        case
+    }
+
+    fn compare(&self) -> Result<Vec<u8>, String> {
+        let mut seen = Vec::new();
+        plain_services(self, &mut seen)?;
+        repairs(self, &mut seen)?;
+        Ok(seen)
+    }
+
+    fn smaller(&self) -> Box<dyn Iterator<Item = Services> + '_> {
+        let fewer = shorter(&self.list).map(|list| Services { list, ..self.clone() });
+        let present = zeroed(&self.marks).map(|marks| Services { marks, ..self.clone() });
+        let lost = [self.lost_bytes()].into_iter().filter(|word| *word != self.word);
+        let word = lost.chain(zeroed(&self.word)).map(|word| Services { word, ..self.clone() });
+        let data = zeroed(&self.data).map(|data| Services { data, ..self.clone() });
+        Box::new(fewer.chain(self.smaller_shapes()).chain(present).chain(data).chain(word))
+    }
+
+    fn show(&self) -> String {
+        let (m, w, c) = self.shape;
+        let (data, word, marks) = (row(&self.data), row(&self.word), row(&self.marks));
+        format!("shape m {m}, w {w}, c {c}\ndata   {data}\nword   {word}\nmarks  {marks}\ngroups {:?}", self.list)
+    }
+}
+
+impl Services {
+    /// The word with 0 in every present place.
+    fn lost_bytes(&self) -> Vec<u8> {
+        self.word.iter().enumerate().map(|(p, &byte)| if self.marks.get(p) == Some(&1) { byte } else { 0 }).collect()
+    }
+
+    /// The same with a group, a place of each group or a check less: the word cut, or the codeword of the data cut, or no word but 0.
+    fn smaller_shapes(&self) -> impl Iterator<Item = Services> + '_ {
+        let (m, w, c) = self.shape;
+        let less = [(m.wrapping_sub(1), w, c), (m, w.wrapping_sub(1), c), (m, w.wrapping_sub(1), c.wrapping_sub(1))];
+        let good = less.into_iter().filter(|&s| figures(s).is_some());
+        good.flat_map(|s| self.with_shape(s))
+    }
+
+    fn with_shape(&self, s: Shape) -> Vec<Services> {
+        let (Some((n, k)), Some((old_n, old_k))) = (figures(s), figures(self.shape)) else {
+            return Vec::new();
+        };
+        let (data, word) = (resized(&self.data, old_k, k), resized(&self.word, old_n, n));
+        let marks = places_kept(self.shape, s, &self.marks);
+        let list = self.list.iter().map(|&g| g.min(s.0)).collect();
+        let cut = Services { shape: s, data, word: word.clone(), marks, list };
+        let mut whole = cut.clone();
+        if cut.data.len() == k && word.len() == n {
+            whole.word = codeword(s, &cut.data);
+        }
+        let zero = Services { word: vec![0; word.len()], ..cut.clone() };
+        vec![zero, whole, cut]
+    }
+}
+
+/// As much longer or shorter than it should be as before.
+fn resized(bytes: &[u8], before: usize, after: usize) -> Vec<u8> {
+    let mut copy = bytes.to_vec();
+    copy.resize((bytes.len() + after).saturating_sub(before), 0);
+    copy
+}
+
+/// The marks of the places that are left, each in its group.
+fn places_kept(from: Shape, to: Shape, marks: &[u8]) -> Vec<u8> {
+    if marks.len() != from.0 * from.1 {
+        return resized(marks, from.0 * from.1, to.0 * to.1);
+    }
+    (0..to.0 * to.1).map(|p| marks[p / to.1 * from.1 + p % to.1]).collect()
+}
+
+/// Small shapes of which every loss pattern is compared.
+const PATTERN_SHAPES: [Shape; 6] = [(1, 4, 1), (2, 3, 1), (3, 3, 1), (2, 4, 2), (1, 6, 3), (2, 5, 2)];
+
+/// Every loss pattern of those shapes, on a codeword and on one with a byte changed; none past the last.
+pub fn pattern(index: u64) -> Option<Services> {
+    let mut left = index as usize / 2;
+    for shape in PATTERN_SHAPES {
+        let (n, k) = figures(shape).expect("a good shape");
+        if left < 1 << n {
+            let data: Vec<u8> = (0..k as u8).map(|i| i.wrapping_mul(37).wrapping_add(11)).collect();
+            let mut word = codeword(shape, &data);
+            word[left % n] ^= (index % 2) as u8;
+            let marks = (0..n).map(|p| (left >> p & 1) as u8).collect();
+            return Some(Services { shape, data, word, marks, list: vec![0, shape.0 - 1, 0] });
+        }
+        left -= 1 << n;
+    }
+    None
+}
