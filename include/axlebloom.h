@@ -41,7 +41,7 @@ enum {
 /* Whether the shape is good: 0, or 1 to 4. */
 uint8_t axlebloom_describe(size_t m, size_t w, size_t c);
 
-/* Of a good shape the places n of a word, the bytes k of data in it, and how many lost places are mended wherever they lie; else 0. */
+/* Of a good shape the places n of a word, the bytes k of data in it, and the most lost places that are mended wherever they lie; else 0. */
 size_t axlebloom_places(size_t m, size_t w, size_t c);
 size_t axlebloom_data(size_t m, size_t w, size_t c);
 size_t axlebloom_sure(size_t m, size_t w, size_t c);

@@ -70,7 +70,8 @@ pub fn describe(m: u64, w: u64, c: u64) -> Result<(u64, u64, u64), u8> {
     if k == 0 {
         return Err(4);
     }
-    Ok((m * w, k, c + 2))
+    let sure = if w == c + 2 { 2 * c + 2 } else { c + 2 };
+    Ok((m * w, k, sure))
 }
 
 /// Whether place p of the word is a check place (good shape).

@@ -165,13 +165,13 @@ fn locators(t: &mut Tally) {
 // ----------------------------------------------------------------- hand sums
 
 fn shapes(t: &mut Tally) {
-    t.ok(describe(2, 3, 1) == Ok((6, 2, 3)), "m 2 w 3 c 1");
+    t.ok(describe(2, 3, 1) == Ok((6, 2, 4)), "m 2 w 3 c 1");
     t.ok(describe(1, 3, 1) == Err(4), "m 1 w 3 c 1 is 4");
     t.ok(describe(15, 16, 4) == Ok((240, 178, 6)), "largest");
-    t.ok(describe(15, 3, 1) == Ok((45, 28, 3)), "m 15 good");
+    t.ok(describe(15, 3, 1) == Ok((45, 28, 4)), "m 15 good");
     t.ok(describe(16, 3, 1) == Err(1), "m 16 is 1");
     t.ok(describe(0, 3, 1) == Err(1), "m 0 is 1");
-    t.ok(describe(2, 6, 4) == Ok((12, 2, 6)), "c 4 good");
+    t.ok(describe(2, 6, 4) == Ok((12, 2, 10)), "c 4 good");
     t.ok(describe(2, 7, 5) == Err(2), "c 5 is 2");
     t.ok(describe(2, 7, 0) == Err(2), "c 0 is 2");
     t.ok(describe(2, 16, 1) == Ok((32, 28, 3)), "w 16 good");
@@ -190,7 +190,8 @@ fn shapes(t: &mut Tally) {
     t.ok(describe(2, 3, 257) == Err(2), "257 not cut to 1");
     for (m, w, c) in good_shapes() {
         let (n, k, sure) = describe(m, w, c).unwrap();
-        t.ok(n <= 240 && n == k + m * c + 2 && sure == c + 2, "figures");
+        t.ok(n <= 240 && n == k + m * c + 2, "figures");
+        t.ok(sure == c + 2 + 2 / (w - c) * c, "sure count by the quotient");
     }
     t.ok(good_shapes().len() == 15 * (14 + 13 + 12 + 11) - 4, "count of shapes");
 }
@@ -387,13 +388,18 @@ fn brute_repair(t: &mut Tally, random: &mut Random, m: u64, w: u64, c: u64) {
     }
 }
 
-/// Over all patterns: judge is 8 exactly above excess 2, and recover of a
-/// random codeword follows it.
+/// Over all patterns: judge is 8 exactly above excess 2, recover of a random
+/// codeword follows it, and the sure count is one less than the fewest
+/// losses that are judged 8.
 fn all_patterns(t: &mut Tally, random: &mut Random, m: u64, w: u64, c: u64) {
+    let mut fewest = u64::MAX;
     for pattern in 0..(1u64 << (m * w)) {
         let mut marks = marks_of(pattern, m * w);
         let verdict = if excess(m, w, c, &marks) > 2 { 8 } else { 0 };
         t.ok(judge(m, w, c, &marks) == verdict, "judge is excess above 2");
+        if judge(m, w, c, &marks) == 8 {
+            fewest = fewest.min(pattern.count_ones() as u64);
+        }
         let word = random_codeword(random, m, w, c);
         let start = spoiled(random, &word, &marks);
         let (mut lent, before) = (start.clone(), marks.clone());
@@ -408,6 +414,7 @@ fn all_patterns(t: &mut Tally, random: &mut Random, m: u64, w: u64, c: u64) {
         let number = recover(m, w, c, &mut any, &mut before.clone());
         t.ok((number == 8) == (verdict == 8), "any bytes: 8 as judge says");
     }
+    t.ok(describe(m, w, c).unwrap().2 + 1 == fewest, "sure count is the largest");
 }
 
 // ---------------------------------------------------------------- at random
@@ -425,6 +432,8 @@ fn every_shape(t: &mut Tally, random: &mut Random) {
         let mut lent = spoiled(random, &word, &marks);
         t.ok(recover(m, w, c, &mut lent, &mut marks) == 0, "sure count");
         t.ok(lent == word && marks.iter().all(|&x| x == 0), "sure count word");
+        let more: Vec<u8> = (0..n).map(|p| (p <= sure) as u8).collect();
+        t.ok(judge(m, w, c, &more) == 8, "one loss more than the sure count");
         for more in 1..5 {
             let marks = heavy_marks(random, m, w, c, more);
             let verdict = if excess(m, w, c, &marks) > 2 { 8 } else { 0 };
@@ -663,7 +672,7 @@ fn main() -> ExitCode {
     for (m, w, c) in [(2, 3, 1), (1, 4, 1), (3, 3, 1), (2, 4, 2), (1, 6, 2)] {
         brute_repair(t, random, m, w, c);
     }
-    for (m, w, c) in [(2, 3, 1), (1, 4, 1), (3, 3, 1), (1, 7, 4), (2, 5, 2), (3, 4, 2)] {
+    for (m, w, c) in [(2, 3, 1), (1, 4, 1), (3, 3, 1), (1, 7, 4), (2, 5, 2), (3, 4, 2), (2, 6, 4)] {
         all_patterns(t, random, m, w, c);
     }
     every_shape(t, random);

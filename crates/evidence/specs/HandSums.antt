@@ -5,7 +5,7 @@ use Prim.Native.Nat.{ℕ}
 use Rattle.binary_field.specs.Xor.{_⊕_, masked}
 use Rattle.binary_field.specs.Product.{double, bitSum, product}
 use Rattle.binary_field.specs.Power.{power}
-use Rattle.shape.specs.Shapes.{shapeRefusal, describedOf, describedNumber, describedFigures}
+use Rattle.shape.specs.Shapes.{sureCount, shapeRefusal, describedOf, describedNumber, describedFigures}
 use Rattle.recover.specs.Service.{recoverOf}
 use Rattle.encode.specs.Service.{encodedWord}
 use Rattle.evidence.specs.WordSums.{outcomeList, encoded-first, encoded-second, three-lost, five-lost, last-byte}
@@ -24,8 +24,8 @@ handSums =
     -- 2·128 = 29, 152·152 = 78, 152·11 = 1, 0·77 = 0, 3^16 = 77
     (number (product 8 285 2 128), number 29) ∷ (number (product 8 285 152 152), number 78) ∷ (number (product 8 285 152 11), number 1) ∷
     (number (product 8 285 0 77), number 0) ∷ (number (power 8 285 3 16), number 77) ∷
-    -- shape m 2, w 3, c 1: n 6, k 2 (and the sure count 3); m 1, w 3, c 1: refused 4
-    (describedFigures (describedOf 2 3 1), 6 ∷ 2 ∷ 3 ∷ []) ∷ (number (describedNumber (describedOf 1 3 1)), number 4) ∷
+    -- shape m 2, w 3, c 1: n 6, k 2 (and the sure count 4); m 1, w 3, c 1: refused 4
+    (describedFigures (describedOf 2 3 1), 6 ∷ 2 ∷ 4 ∷ []) ∷ (number (describedNumber (describedOf 1 3 1)), number 4) ∷
     -- m 1, w 4, c 1, data 1: word 1, 79, 147, 221; m 2, w 3, c 1, data 1, 1: word 1, 1, 0, 78, 206, 128
     (encodedWord 1 4 1 (1 ∷ []), 1 ∷ 79 ∷ 147 ∷ 221 ∷ []) ∷ (encodedWord 2 3 1 (1 ∷ 1 ∷ []), 1 ∷ 1 ∷ 0 ∷ 78 ∷ 206 ∷ 128 ∷ []) ∷
     -- the number, the word and the marks. In that word the first three lost: recovered
@@ -45,5 +45,5 @@ handSums =
     ) ∷ []
 
 pub hand-sums : AllSame handSums
-unfolding power product bitSum double masked _⊕_ shapeRefusal describedOf
+unfolding power product bitSum double masked _⊕_ sureCount shapeRefusal describedOf
 hand-sums = (refl, (refl, (refl, (refl, (refl, (refl, (refl, (encoded-first, (encoded-second, (three-lost, (five-lost, (last-byte, tt))))))))))))

@@ -1,5 +1,5 @@
 -- What the answer of Judge says.
-use mathlib.Core.Path.{_≡_, refl, ap, _∙_, subst}
+use mathlib.Core.Path.{_≡_, refl, ap, _∙_}
 use mathlib.Core.Logic.{_↔_}
 use mathlib.Core.List.{List}
 use Prim.Native.Nat.{ℕ, zero, suc, _+_, _*_, _≤_, _<_}
@@ -7,16 +7,16 @@ use native.Mathlib.Omega.{arith}
 use native.Mathlib.Decide.{decLe}
 use borrow.Author.Tests.{lt-ltb, le-ltb}
 use lib.Dec.{ltb}
-use Rattle.counting.specs.Count.{totalBelow, countBelow}
+use Rattle.counting.specs.Count.{countBelow}
 use Rattle.shape.specs.Refusals.{refuse}
-use Rattle.shape.specs.Shapes.{sureCount}
+use Rattle.shape.specs.Shapes.{Good, sureCount}
 use Rattle.code.specs.Edition.{bytes, bytes-sound}
-use Rattle.code.specs.Marks.{lost, lostIn, excess}
+use Rattle.code.specs.Marks.{lost, excess}
 use Rattle.code.specs.Determined.{Undetermined, above-two, undetermined}
-use Rattle.marks.specs.Refusal.{Marked, marksRefusal, good-of-marks}
+use Rattle.marks.specs.Refusal.{Marked, marksRefusal, good-of-marks, marks-of-good}
 use Rattle.judge.specs.declared.Judged.{Judged}
 use Rattle.judge.specs.Answer.{judgedNumberOf, judgedAt, judgedOf, judgedNumber}
-use Rattle.judge.specs.Sure.{lost-by-groups, excess-most}
+use Rattle.judge.specs.Sure.{firstLost, first-length, first-mark, first-count, sure-excess, first-many}
 
 pub judged-refused : (r : ℕ) → (r ≡ 0 → ⊥) → judgedAt r ≡ Judged.Refused r
 judged-refused zero h = absurd (h refl)
@@ -83,10 +83,42 @@ module _ (m w c : ℕ) (marks : List ℕ) (accepted : marksRefusal m w c marks �
         | no k ↦ absurd (h (eight-undetermined .0 (above (omega arith))))
       ]
 
-  -- "The sure count of a shape is c+2: any loss of that many places is recovered."
-  pub sure : countBelow (m * w) (lost marks) ≤ sureCount c → judgedNumberOf m w c marks ≡ 0
-  sure h =
-      let a = lost-by-groups m w marks in
-      let b = excess-most m w c marks in
-      let t : totalBelow m (lostIn w marks) ≤ c + 2 = subst (λ n. n ≤ c + 2) a h in
-      low (omega arith)
+  -- a loss of that many places or fewer is judged 0
+  pub sure : countBelow (m * w) (lost marks) ≤ sureCount w c → judgedNumberOf m w c marks ≡ 0
+  sure h = low (sure-excess m w c marks h)
+
+-- "every pattern of that many losses or fewer is judged 0"
+abbrev pub IsSure : ℕ → ℕ → ℕ → ℕ → Type 0
+IsSure m w c s = (marks : List ℕ) → marksRefusal m w c marks ≡ 0 → countBelow (m * w) (lost marks) ≤ s → judgedNumberOf m w c marks ≡ 0
+
+-- a pattern of so many losses that is judged 8
+pub record Fails (m w c losses : ℕ) : Type 0 where
+  pub marks : List ℕ
+  pub accepted : marksRefusal m w c marks ≡ 0
+  pub count : countBelow (m * w) (lost marks) ≡ losses
+  pub eight : judgedNumberOf m w c marks ≡ 8
+
+module _ {m w c : ℕ} (g : Good m w c) where
+  -- one loss more can fail
+  pub sure-fails : Fails m w c (sureCount w c + 1)
+  sure-fails =
+      let r = sureCount w c + 1 in
+      let x = firstLost (m * w) r in
+      let k = first-many g in
+      let a : marksRefusal m w c x ≡ 0 = marks-of-good m w c x (record { good = g; size = first-length (m * w) r; each = first-mark (m * w) r }) in
+      record {
+        marks = x;
+        accepted = a;
+        count = first-count (m * w) r (m * w) (k .0) (k .0);
+        eight = above m w c x a (k .1);
+      }
+
+  -- "Define the sure count as the largest number such that every pattern of that many losses or fewer is judged 0."
+  pub largest : IsSure m w c (sureCount w c) × ((s : ℕ) → IsSure m w c s → s ≤ sureCount w c)
+  largest = (sure m w c, most)
+    where
+      most : (s : ℕ) → IsSure m w c s → s ≤ sureCount w c
+      most s h = elim (decLe s (sureCount w c)) [
+        | yes k ↦ k
+        | no k ↦ (let f = sure-fails in let z = h (f .marks) (f .accepted) (let e = f .count in omega arith) in let e = f .eight in absurd (omega arith))
+      ]

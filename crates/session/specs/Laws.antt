@@ -32,7 +32,7 @@ unshaped : (a b d r : ℕ) → describedOf a b d ≡ Described.Refused r → Uns
 unfolding describedOf
 unshaped a b d r = go (shapeRefusal a b d) refl
   where
-    go : (p : ℕ) → shapeRefusal a b d ≡ p → describedAt p (placeCount a b) (dataCount a b d) (sureCount d) ≡ Described.Refused r → Unshaped r a b d
+    go : (p : ℕ) → shapeRefusal a b d ≡ p → describedAt p (placeCount a b) (dataCount a b d) (sureCount b d) ≡ Described.Refused r → Unshaped r a b d
     go zero e h = let z : _≡_ {A = ℕ} 0 1 = cc in absurd (omega arith)
     go (suc p) e h = record { less = p; number = cc; refusal = e }
 
@@ -41,7 +41,7 @@ pub figures : (a b d n k sure : ℕ) → describedOf a b d ≡ Described.Figures
 unfolding describedOf
 figures a b d n k sure = go (shapeRefusal a b d) refl
   where
-    go : (p : ℕ) → shapeRefusal a b d ≡ p → describedAt p (placeCount a b) (dataCount a b d) (sureCount d) ≡ Described.Figures n k sure
+    go : (p : ℕ) → shapeRefusal a b d ≡ p → describedAt p (placeCount a b) (dataCount a b d) (sureCount b d) ≡ Described.Figures n k sure
         → (shapeRefusal a b d ≡ 0) × (n ≡ placeCount a b) × (k ≡ dataCount a b d)
     go zero e h = (e, (cc), (cc))
     go (suc p) e h = let z : _≡_ {A = ℕ} 0 1 = cc in absurd (omega arith)

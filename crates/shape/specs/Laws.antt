@@ -3,14 +3,15 @@ use mathlib.Core.Path.{_≡_, refl, ap}
 use mathlib.Core.Logic.{_↔_}
 use mathlib.Core.Bool.{Bool, true, false, _||_}
 use mathlib.Core.List.{[], _∷_}
-use Prim.Native.Nat.{ℕ, zero, suc, _+_, _*_, _≤_}
-use native.Mathlib.Nat.{mul-sub, mul-comm, mul-le-mul, mul-le-mul-left}
+use Prim.Native.Nat.{ℕ, zero, suc, _+_, _-_, _*_, _/_, _≤_}
+use native.Mathlib.Nat.{mul-sub, mul-comm, mul-le-mul, mul-le-mul-left, div-eq-of-lt}
 use native.Mathlib.Omega.{arith}
+use native.Mathlib.Decide.{ℕ-discrete}
 use borrow.Author.Tests.{eqb-true, eqb-false, ltb-false, not-false, eq-eqb, ne-eqb, le-ltb}
 use Rattle.shape.specs.declared.Shape.{Shape}
 use Rattle.shape.specs.declared.Made.{Made}
 use Rattle.shape.specs.Refusals.{refuse-zero, orElse-zero}
-use Rattle.shape.specs.Shapes.{Good, placeCount, dataCount, shapeRefusal, wordRefusal, bufferRefusal, madeOf, madeAt, madeNumber, describedOf, describedNumber, describedFigures}
+use Rattle.shape.specs.Shapes.{Good, placeCount, dataCount, sureCount, shapeRefusal, wordRefusal, bufferRefusal, madeOf, madeAt, madeNumber, describedOf, describedNumber, describedFigures}
 
 or-none : (a b : Bool) → (a || b) ≡ false → (a ≡ false) × (b ≡ false)
 or-none true true e = (e, e)
@@ -118,6 +119,23 @@ module _ {m w c : ℕ} (g : Good m w c) where
       let l : m * c ≤ m * w = mul-le-mul-left m (omega arith) in
       omega (arith, mul-sub m w c, mul-comm c m)
 
+-- "2c+2 if w = c+2 and c+2 otherwise"
+module _ (w c : ℕ) where
+  pub sure-narrow : w ≡ c + 2 → sureCount w c ≡ 2 * c + 2
+  unfolding sureCount
+  sure-narrow e = rw (eq-eqb w (c + 2) e)
+
+  pub sure-wide : (w ≡ c + 2 → ⊥) → sureCount w c ≡ c + 2
+  unfolding sureCount
+  sure-wide h = rw (ne-eqb w (c + 2) h)
+
+  -- as in formula (2) of source document 001, less one, with its quotient rounded down
+  pub sure-quotient : c + 2 ≤ w → sureCount w c ≡ c + 2 + 2 / (w - c) * c
+  sure-quotient h = elim (ℕ-discrete w (c + 2)) [
+    | yes e ↦ (let d : w - c ≡ 2 = omega arith in let s = sure-narrow e in rw d (omega arith))
+    | no e ↦ (let d : 2 / (w - c) ≡ 0 = div-eq-of-lt (omega arith) in let s = sure-wide e in rw d (omega arith))
+  ]
+
 -- lent lengths
 module _ (m w c : ℕ) where
   pub good-of-word : (n : ℕ) → wordRefusal m w c n ≡ 0 → Good m w c × (n ≡ placeCount m w)
@@ -161,9 +179,9 @@ module _ (m w c : ℕ) where
   unfolding bufferRefusal
   buffers-unshaped n k r u = simp (word-unshaped n r u, u .number)
 
--- "Shape m 2, w 3, c 1: n 6, k 2."
-pub figures-2-3-1 : describedFigures (describedOf 2 3 1) ≡ 6 ∷ 2 ∷ 3 ∷ []
-unfolding describedOf shapeRefusal
+-- "Shape m 2, w 3, c 1: n 6, k 2." And the sure count 4.
+pub figures-2-3-1 : describedFigures (describedOf 2 3 1) ≡ 6 ∷ 2 ∷ 4 ∷ []
+unfolding describedOf shapeRefusal sureCount
 figures-2-3-1 = refl
 
 -- "m 1, w 3, c 1: refused 4."

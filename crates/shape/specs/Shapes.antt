@@ -1,5 +1,5 @@
 -- A shape, its figures and its refusals.
-use mathlib.Core.Bool.{not, _||_}
+use mathlib.Core.Bool.{cond, not, _||_}
 use mathlib.Core.List.{List, [], _∷_}
 use Prim.Native.Nat.{ℕ, zero, suc, _+_, _-_, _*_, _≤_}
 use lib.Dec.{eqb, ltb}
@@ -26,9 +26,9 @@ placeCount m w = m * w
 abbrev pub dataCount : ℕ → ℕ → ℕ → ℕ
 dataCount m w c = m * (w - c) - 2
 
--- "The sure count of a shape is c+2"
-abbrev pub sureCount : ℕ → ℕ
-sureCount c = c + 2
+-- The sure count: "the largest number such that every pattern of that many losses or fewer is judged 0. That is 2c+2 if w = c+2 and c+2 otherwise."
+unfoldable pub sureCount : ℕ → ℕ → ℕ
+sureCount w c = cond (eqb w (c + 2)) (2 * c + 2) (c + 2)
 
 -- 1: "m is 0 or above 15"; 2: "c is 0 or above 4"; 3: "w is below c+2 or above 16"; 4: "k is 0"
 unfoldable pub shapeRefusal : ℕ → ℕ → ℕ → ℕ
@@ -65,7 +65,7 @@ describedAt zero n k sure = Described.Figures n k sure
 describedAt (suc r) n k sure = Described.Refused (suc r)
 
 unfoldable pub describedOf : ℕ → ℕ → ℕ → Described
-describedOf m w c = describedAt (shapeRefusal m w c) (placeCount m w) (dataCount m w c) (sureCount c)
+describedOf m w c = describedAt (shapeRefusal m w c) (placeCount m w) (dataCount m w c) (sureCount w c)
 
 -- the number given back, 0 for done
 abbrev pub describedNumber : Described → ℕ
@@ -78,4 +78,4 @@ describedFigures (Described.Figures n k sure) = n ∷ k ∷ sure ∷ []
 describedFigures (Described.Refused r) = []
 
 unfoldable pub figuresOf : ℕ → ℕ → ℕ → List ℕ
-figuresOf m w c = unlessRefused (shapeRefusal m w c) (placeCount m w ∷ dataCount m w c ∷ sureCount c ∷ []) []
+figuresOf m w c = unlessRefused (shapeRefusal m w c) (placeCount m w ∷ dataCount m w c ∷ sureCount w c ∷ []) []

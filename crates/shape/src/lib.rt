@@ -87,11 +87,16 @@ impl Shape {
         if local <= 2 { 0 } else { local - 2 }
     }
 
-    // The sure count.
+    // The sure count: more where no group alone can have an excess above 2.
     pub fn sure(self) -> usize
-        ensures { λ r. ⌜ r ≡ sureCount (self .c) ⌝ }
+        ensures { λ r. ⌜ r ≡ sureCount (self .w) (self .c) ⌝ }
     {
-        (self.c as usize) + 2
+        let c = self.c as usize;
+        if self.w as usize == c + 2 {
+            2 * c + 2
+        } else {
+            c + 2
+        }
     }
 }
 
