@@ -1,3 +1,4 @@
 pub mod Answer
 pub mod Sure
 pub mod Laws
+pub mod AnyTwo
