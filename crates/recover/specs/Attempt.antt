@@ -2,14 +2,17 @@
 use mathlib.Core.Path.{_≡_, refl, sym, ap, _∙_, subst}
 use mathlib.Core.Bool.{Bool, true, false}
 use mathlib.Core.List.{List}
-use Prim.Native.Nat.{ℕ, _*_, _<_, _≤_}
+use mathlib.Core.Logic.{_↔_}
+use Prim.Native.Nat.{ℕ, _*_, _^_, _<_, _≤_}
+use native.Mathlib.Decide.{decLe}
 use native.Mathlib.Omega.{arith}
-use lib.Dec.{T}
+use borrow.Author.Tests.{le-ltb}
+use lib.Dec.{T, ltb}
 use lib.ListN.{length, getD}
 use Rattle.code.specs.Edition.{bytes, bytes-sound, bytes-few}
 use Rattle.code.specs.Word.{isCodeword, Symbols}
 use Rattle.code.specs.Marks.{excess}
-use Rattle.code.specs.Answer.{Outcome, refused, written}
+use Rattle.code.specs.Answer.{Outcome, refused, written, eight-large}
 use Rattle.code.specs.Recovery.{Agrees, recovered, recovered-eight, recovered-nine, recovered-done}
 use Rattle.shape.specs.Refusals.{orElse-zero}
 use Rattle.shape.specs.Shapes.{Good, wordRefusal}
@@ -78,3 +81,16 @@ module _ (m w c : ℕ) (word marks : List ℕ) (A : Accepted m w c word marks) (
 
   pub service-done : (x : List ℕ) → excess m w c marks ≤ 2 → Agrees bytes m w c marks word x → recoverOf m w c word marks ≡ written x marks
   service-done x h B = service ∙ recovered-done bytes bytes-sound m w c (bytes-few (A .good .few)) wide (A .good .narrow) word marks symbols x h B
+
+  -- "no step after the test of the excess can answer 8"
+  pub eight-above : (recoverOf m w c word marks) .number ≡ 8 → 2 < excess m w c marks
+  eight-above e = elim (decLe (excess m w c marks) 2) [
+    | yes h ↦
+        (let t = eight-large (2 ^ bytes .bits) (isCodeword bytes m w c) (ltb 2 (excess m w c marks)) word marks (sym (ap (λ o. o .number) service) ∙ e) in
+        absurd (subst T (sym t ∙ le-ltb 2 (excess m w c marks) h) tt))
+    | no h ↦ omega arith
+  ]
+
+  -- 8 exactly if the excess is above 2, and then as Judge says
+  pub eight-exactly : ((recoverOf m w c word marks) .number ≡ 8) ↔ (2 < excess m w c marks)
+  eight-exactly = (eight-above, λ h. ap (λ o. o .number) (service-eight h))
