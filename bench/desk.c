@@ -5,11 +5,10 @@
 #include "axlebloom.h"
 #include "clock.h"
 
-uint64_t bench_serve(uint8_t *word, size_t n, const uint8_t *marks, size_t marks_n, size_t turns);
-
 enum { M = 15, W = 16, C = 4, N = M * W, TURNS = 20000 };
 
 static uint8_t word[N], marks[N], held[N], data[N];
+static struct axlebloom_desk desk;
 
 int main(void) {
   for (int i = 0; i < 178; i++) data[i] = (uint8_t)(i * 11 + 3);
@@ -21,8 +20,12 @@ int main(void) {
     if (axlebloom_recover(M, W, C, word, N, held, N)) return 2;
   }
   double plain = (now() - start) / TURNS * 1e9;
+  uint64_t handle;
+  axlebloom_fresh(&desk);
+  if (axlebloom_open(&desk, M, W, C, marks, N, &handle)) return 3;
   start = now();
-  if (bench_serve(word, N, marks, N, TURNS) != TURNS) return 3;
+  for (int i = 0; i < TURNS; i++)
+    if (axlebloom_serve(&desk, handle, word, N)) return 4;
   double served = (now() - start) / TURNS * 1e9;
   printf("240 places, excess 2: recover %.0f ns, serve %.0f ns; the tests of the desk and its copies cost %.0f ns\n", plain, served, served - plain);
   return 0;
