@@ -11,7 +11,7 @@ enum { M = 15, W = 16, N = M * W, STACK = 1 << 16, PAINT = 0xA5 };
 
 static uint8_t stack[STACK] __attribute__((aligned(64)));
 static uint8_t data[N], word[N], held[N], marks[N], held_marks[N];
-static size_t c, k, groups[M];
+static size_t c, k;
 static struct axlebloom_desk desk, held_desk;
 static uint64_t handle, given;
 static uint32_t served;
@@ -28,7 +28,6 @@ static void check(void) { answer = axlebloom_check(M, W, c, held, N); }
 static void judge(void) { answer = axlebloom_judge(M, W, c, held_marks, N); }
 static void repair(void) { answer = axlebloom_repair(M, W, c, M - 1, held, N, held_marks, N); }
 static void recover(void) { answer = axlebloom_recover(M, W, c, held, N, held_marks, N); }
-static void repair_then_recover(void) { answer = axlebloom_repair_then_recover(M, W, c, held, N, held_marks, N, groups, M); }
 static void fresh(void) { axlebloom_fresh(&held_desk); }
 static void open_job(void) { answer = axlebloom_open(&held_desk, M, W, c, held_marks, N, &given); }
 static void serve(void) { answer = axlebloom_serve(&held_desk, handle, held, N); }
@@ -74,11 +73,10 @@ static size_t most(void call(void)) {
 int main(void) {
   static const struct { const char *name; void (*call)(void); } calls[] = {
       {"describe", describe}, {"places", places}, {"data", data_bytes}, {"sure", sure}, {"encode", encode}, {"extract", extract},
-      {"check", check}, {"judge", judge}, {"repair", repair}, {"recover", recover}, {"repair_then_recover", repair_then_recover},
-      {"fresh", fresh}, {"open", open_job}, {"serve", serve}, {"read", read_served}, {"close", close_job}};
-  for (size_t g = 0; g < M; g++) groups[g] = g;
+      {"check", check}, {"judge", judge}, {"repair", repair}, {"recover", recover}, {"fresh", fresh}, {"open", open_job},
+      {"serve", serve}, {"read", read_served}, {"close", close_job}};
   for (int i = 0; i < N; i++) data[i] = (uint8_t)(i * 11 + 3);
-  printf("\n| function            | stack |\n|---------------------|-------|\n");
-  for (size_t i = 0; i < sizeof calls / sizeof calls[0]; i++) printf("| %-19s | %5zu |\n", calls[i].name, most(calls[i].call));
+  printf("\n| function | stack |\n|----------|-------|\n");
+  for (size_t i = 0; i < sizeof calls / sizeof calls[0]; i++) printf("| %-8s | %5zu |\n", calls[i].name, most(calls[i].call));
   return 0;
 }

@@ -3,7 +3,7 @@
  * A word is m groups of w bytes, group after group, n = m*w bytes in all. Each group has c local checks, and two checks more go across
  * all groups. Marks are n bytes, 1 for a lost byte and 0 for one that is present.
  *
- * Every function answers whatever it is given. A length stands beside every pointer to a row of bytes or of group numbers and is tested.
+ * Every function answers whatever it is given. A length stands beside every pointer to a row of bytes and is tested.
  * A result is 0 for done, or the number of a refusal; on a refusal nothing that was lent is changed. No function keeps anything between
  * calls or allocates memory; two threads may call any of them at once on buffers and desks of their own. What is lent to one call must not
  * overlap. A pointer whose length is 0 may be null. A pointer to a desk, a handle or a count has no length and must point to one; what it
@@ -29,13 +29,14 @@ enum {
   AXLEBLOOM_LENGTH = 5,        /* a buffer is not as long as the shape says */
   AXLEBLOOM_MARK = 6,          /* a mark is neither 0 nor 1 */
   AXLEBLOOM_GROUP_NUMBER = 7,  /* no such group */
-  AXLEBLOOM_UNDETERMINED = 8,  /* too much is lost: the present bytes fit more than one codeword; find another disk */
-  AXLEBLOOM_CONTRADICTORY = 9, /* the present bytes fit no codeword: one of them is wrong; nothing was written */
+  AXLEBLOOM_UNDETERMINED = 8,  /* too much is lost. From repair: this group alone can't mend it; try recover before you fetch a disk.
+                                  From judge, recover and open: what is present doesn't settle the word; find another disk */
+  AXLEBLOOM_CONTRADICTORY = 9, /* the present bytes fit no codeword: at least one of them is wrong; nothing was written */
   AXLEBLOOM_ALL_ISSUED = 10,   /* this desk has issued all its 65535 handles; start a fresh one */
   AXLEBLOOM_DESK_FULL = 11,    /* all eight jobs of the desk are open; close one */
   AXLEBLOOM_NOT_OPEN = 12,     /* no open job of this desk has that handle: it was closed, or this desk never gave it */
   AXLEBLOOM_SERVED_OUT = 13,   /* this job has served 4294967295 words; close it and open it again */
-  AXLEBLOOM_UNSOUND = 31       /* the desk's bytes were changed by something else, or never made fresh; start a fresh one */
+  AXLEBLOOM_UNSOUND = 31       /* the desk is not sound, which is explained where it is declared; start a fresh one */
 };
 
 /* Whether the shape is good: 0, or 1 to 4. */
@@ -64,14 +65,11 @@ uint8_t axlebloom_repair(size_t m, size_t w, size_t c, size_t g, uint8_t *word, 
 /* Mends the whole word, and clears all marks. Refused by 1 to 6, 8 and 9. */
 uint8_t axlebloom_recover(size_t m, size_t w, size_t c, uint8_t *word, size_t n, uint8_t *marks, size_t marks_n);
 
-/* Repairs the groups in the list, one after another, whatever each answers, and then recovers: the answer, and where it is 0 the word,
- * are those of axlebloom_recover at once. Where it is refused, repairs that were done before stay done. */
-uint8_t axlebloom_repair_then_recover(size_t m, size_t w, size_t c, uint8_t *word, size_t n, uint8_t *marks, size_t marks_n,
-                                      const size_t *groups, size_t count);
-
 /* The desk: up to eight open recovery jobs, each for words that lose the same places. The caller holds the record and lends it to every
  * call. It may be copied, and saved as bytes; a copy that is lent again counts as the desk it was then. Only the functions below should
- * write to it: all but axlebloom_fresh first test it, and refuse it by 31 if it can't be what they left. */
+ * write to it. All but axlebloom_fresh first test it, and refuse it by 31 if it is not sound. Sound means: t is at most 65535, each slot's
+ * byte taken is 0 or 1, and each taken slot s holds a good shape, n marks of 0 or 1 for which axlebloom_judge answers 0, and a handle 8u+s
+ * with u from 1 to t, no u twice. The functions leave every sound desk sound. */
 struct axlebloom_job {
   uint8_t taken;      /* 1, or 0 for a free slot */
   uint8_t m, w, c;    /* the shape */

@@ -238,10 +238,8 @@ int main(void) {
     expect("mark before group", 6, axlebloom_repair(15, 16, 4, most, word, 240, marks, 240), 0, (uint8_t)mark);
   }
   expect("no codeword", 9, axlebloom_recover(15, 16, 4, word, 240, marks, 240), -1, 0);
+  expect("last group wrong", 9, axlebloom_repair(15, 16, 4, 14, word, 240, marks, 240), -1, 0);
   expect("no codeword, by check", 9, axlebloom_check(15, 16, 4, word, 240), -1, 0);
-  size_t list[] = {0, most, 14, 14, 15};
-  expect("repairs on a wrong word", 9, axlebloom_repair_then_recover(15, 16, 4, word, 240, marks, 240, list, 5), -1, 0);
-  expect("repairs of none", 9, axlebloom_repair_then_recover(15, 16, 4, word, 240, marks, 240, NULL, 0), -1, 0);
   make_sound();
   random_desks();
   broken_desks();

@@ -13,17 +13,6 @@ mod c {
         pub fn axlebloom_judge(m: usize, w: usize, c: usize, l: *const u8, n: usize) -> u8;
         pub fn axlebloom_repair(m: usize, w: usize, c: usize, g: usize, x: *mut u8, n: usize, l: *mut u8, k: usize) -> u8;
         pub fn axlebloom_recover(m: usize, w: usize, c: usize, x: *mut u8, n: usize, l: *mut u8, k: usize) -> u8;
-        pub fn axlebloom_repair_then_recover(
-            m: usize,
-            w: usize,
-            c: usize,
-            x: *mut u8,
-            n: usize,
-            l: *mut u8,
-            k: usize,
-            g: *const usize,
-            count: usize,
-        ) -> u8;
         pub fn axlebloom_fresh(desk: *mut Desk);
         pub fn axlebloom_open(desk: *mut Desk, m: usize, w: usize, c: usize, l: *const u8, n: usize, handle: *mut u64) -> u8;
         pub fn axlebloom_serve(desk: *mut Desk, handle: u64, x: *mut u8, n: usize) -> u8;
@@ -65,11 +54,6 @@ pub fn repair(s: Shape, g: usize, x: &mut [u8], l: &mut [u8]) -> u8 {
 
 pub fn recover(s: Shape, x: &mut [u8], l: &mut [u8]) -> u8 {
     unsafe { c::axlebloom_recover(s.0, s.1, s.2, x.as_mut_ptr(), x.len(), l.as_mut_ptr(), l.len()) }
-}
-
-pub fn repair_then_recover(s: Shape, x: &mut [u8], l: &mut [u8], list: &[usize]) -> u8 {
-    let (n, k) = (x.len(), l.len());
-    unsafe { c::axlebloom_repair_then_recover(s.0, s.1, s.2, x.as_mut_ptr(), n, l.as_mut_ptr(), k, list.as_ptr(), list.len()) }
 }
 
 #[repr(C)]

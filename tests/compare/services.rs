@@ -68,11 +68,11 @@ fn repairs(case: &Services, seen: Seen) -> Result<(), String> {
     let at_once = (a, (x, k));
     alike("recover", at_once.clone(), (b, (y, l)), seen)?;
     let ((mut x, mut k), (mut y, mut l)) = (start(), start());
-    let a = library::repair_then_recover(s, &mut x, &mut k, &case.list);
     for &g in &case.list {
-        second::repair(m, w, c, g as u64, &mut y, &mut l);
+        let (a, b) = (library::repair(s, g, &mut x, &mut k), second::repair(m, w, c, g as u64, &mut y, &mut l));
+        alike(&format!("repair of group {g} in the list"), (a, (&x, &k)), (b, (&y, &l)), seen)?;
     }
-    let b = second::recover(m, w, c, &mut y, &mut l);
+    let (a, b) = (library::recover(s, &mut x, &mut k), second::recover(m, w, c, &mut y, &mut l));
     let after = (a, (x, k));
     alike("the repairs, then recover", after.clone(), (b, (y, l)), seen)?;
     if after.0 != at_once.0 || a == 0 && after != at_once {

@@ -8,3 +8,4 @@ pub mod Excess
 pub mod Unique
 pub mod Beyond
 pub mod Flat
+pub mod OneGroup

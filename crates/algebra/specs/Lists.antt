@@ -127,6 +127,30 @@ filter-count test = filter-elim test (λ l k. length k + length (filter (λ a. n
     (λ a l k e h. rw e (omega arith))
     (λ a l k e h. rw e (omega arith))
 
+-- A test that passes whatever another passes, and a member besides, keeps more.
+module _ {A : Type 0} (s t : A → Bool) (more : (a : A) → s a ≡ true → t a ≡ true) where
+  filter-le : (l : List A) → length (filter s l) ≤ length (filter t l)
+  filter-le [] = omega arith
+  filter-le (a ∷ l) = go (s a) (t a) refl refl (filter-le l)
+    where
+      go : (u v : Bool) → s a ≡ u → t a ≡ v → length (filter s l) ≤ length (filter t l)
+          → length (cond u (a ∷ filter s l) (filter s l)) ≤ length (cond v (a ∷ filter t l) (filter t l))
+      go true true d e h = omega arith
+      go true false d e h = absurd (true≢false (sym (more a d) ∙ e))
+      go false true d e h = omega arith
+      go false false d e h = h
+
+  pub filter-less : {a : A} (l : List A) → a ∈ l → s a ≡ false → t a ≡ true → length (filter s l) < length (filter t l)
+  filter-less {a} (b ∷ l) (here q) d e = rw (ap s (sym q) ∙ d, ap t (sym q) ∙ e) (let h = filter-le l in omega arith)
+  filter-less {a} (b ∷ l) (there m) d e = go (s b) (t b) refl refl (filter-less l m d e)
+    where
+      go : (u v : Bool) → s b ≡ u → t b ≡ v → length (filter s l) < length (filter t l)
+          → length (cond u (b ∷ filter s l) (filter s l)) < length (cond v (b ∷ filter t l) (filter t l))
+      go true true d e h = omega arith
+      go true false d e h = absurd (true≢false (sym (more b d) ∙ e))
+      go false true d e h = omega arith
+      go false false d e h = h
+
 module _ {I P : Type 0} (f : I → List P) where
   -- The members of the lists of the members of l.
   pub in-flat : {i : I} {p : P} (l : List I) → i ∈ l → p ∈ f i → p ∈ flatMap f l

@@ -1,125 +1,92 @@
-// The program: lines of standard input answered on standard output, one by one.
+// The program: standard input answered on standard output. What is written is said by `stream`; here is only reading and writing.
 use libc::STDIN_FILENO;
 use libc::STDOUT_FILENO;
-ghost use Prim.Native.Nat.{_≤_};
-ghost use lib.ListN.{length};
+use stream::State;
 
-// How many bytes of a line have come, the shape in force, where m is 0 for none yet, and whether the run goes on.
-struct State {
-    length: usize,
-    m: usize,
-    w: usize,
-    c: usize,
+// The state of the session, and whether the run goes on.
+struct Run {
+    state: State,
     on: bool,
 }
 
-// Answers the line so far; the next one is empty. The run stops where the answer isn't written in full.
-fn finish(line: &[u8], state: State) -> State
-    requires { ⌜ state .length ≤ length (now line) ⌝ }
-    ensures { λ r. ⌜ r .length ≤ length (now (line .entry)) ⌝ }
-{
-    let length = state.length;
-    let reply = session::answer(&line[..length], state.m, state.w, state.c);
-    let size = reply.length;
-    let bytes = reply.bytes;
-    let on = io::write_all(STDOUT_FILENO, &bytes[..size]);
-    State {
-        length: 0,
-        m: reply.m,
-        w: reply.w,
-        c: reply.c,
-        on,
+// Whether the call that has just failed is to be made again: a signal stopped it, or the system can't do it now.
+fn is_again() -> bool {
+    let error = os::errno();
+    if error == libc::EAGAIN {
+        libc::sched_yield();
+        return true;
     }
+    error == libc::EINTR
 }
 
-// Takes a byte: a line feed ends the line, another is kept if there is room. A line that fills the buffer is too long, whatever else it holds.
-fn take(line: &mut [u8], byte: u8, state: State) -> State
-    requires { ⌜ state .length ≤ length (now line) ⌝ }
-    ensures { λ r. ⌜ r .length ≤ length (now (line .entry)) ⌝ }
-{
-    if byte == b'\n' {
-        return finish(line, state);
+// Reads what has come, and waits where nothing has: how many bytes, 0 at the end of the input, or less than 0.
+fn read_some(buffer: &mut [u8]) -> isize {
+    let mut turns = u64::MAX;
+    let mut got = libc::read(STDIN_FILENO, buffer);
+    while turns > 0 && got < 0 && is_again() {
+        got = libc::read(STDIN_FILENO, buffer);
+        turns -= 1;
     }
-    let length = state.length;
-    if length == line.len() {
-        return state;
-    }
-    line[length] = byte;
-    State {
-        length: length + 1,
-        m: state.m,
-        w: state.w,
-        c: state.c,
-        on: state.on,
-    }
+    got
 }
 
-// Takes bytes in order, as long as the run goes on.
-fn take_all(line: &mut [u8], bytes: &[u8], state: State) -> State
-    requires { ⌜ state .length ≤ length (now line) ⌝ }
-    ensures { λ r. ⌜ r .length ≤ length (now (line .entry)) ⌝ }
-{
-    let mut after = state;
-    let mut i: usize = 0;
-    while i < bytes.len() && after.on {
-        after = take(line, bytes[i], after);
-        i += 1;
+// Writes some of the bytes, and waits where there is no room for any: how many, or less than 0.
+fn write_some(bytes: &[u8]) -> isize {
+    let mut turns = u64::MAX;
+    let mut got = libc::write(STDOUT_FILENO, bytes);
+    while turns > 0 && got < 0 && is_again() {
+        got = libc::write(STDOUT_FILENO, bytes);
+        turns -= 1;
     }
-    after
+    got
 }
 
-// The same, and the run stops.
-fn stopped(state: State) -> State
-    ensures { λ r. ⌜ r .length ≤ state .length ⌝ }
-{
-    State {
-        length: state.length,
-        m: state.m,
-        w: state.w,
-        c: state.c,
-        on: false,
+// Writes all of the bytes, or says on standard error why not.
+fn write_out(bytes: &[u8]) -> bool {
+    let mut done: usize = 0;
+    while done < bytes.len() {
+        let rest = &bytes[done..];
+        let put = io::count(write_some(rest), rest);
+        if put == 0 {
+            os::fail(b"standard output");
+            return false;
+        }
+        done += put;
     }
+    true
 }
 
-// Reads once and takes what came. At the end of the input a line that isn't empty is answered too. A read that fails stops the run; a line begun before it is not answered.
-fn read_some(line: &mut [u8], state: State) -> State
-    requires { ⌜ state .length ≤ length (now line) ⌝ }
-    ensures { λ r. ⌜ r .length ≤ length (now (line .entry)) ⌝ }
-{
-    let mut buffer = io::buffer();
-    let got = libc::read(STDIN_FILENO, &mut buffer);
+// Reads once, and writes what the bytes add to the output, or the end of the input does.
+fn turn(state: State) -> Run {
+    let mut input = [0u8; 1024];
+    let mut out = [0u8; 24588];
+    let got = read_some(&mut input);
     if got < 0 {
-        return stopped(state);
+        os::fail(b"standard input");
+        return Run { state, on: false };
     }
-    if 0 < got {
-        let n = io::count(got, &buffer);
-        return take_all(line, &buffer[..n], state);
+    if got == 0 {
+        let size = stream::finish(state, &mut out);
+        write_out(&out[..size]);
+        return Run { state, on: false };
     }
-    if state.length == 0 {
-        return stopped(state);
-    }
-    let last = finish(line, state);
-    stopped(last)
+    let count = io::count(got, &input);
+    let step = stream::take(state, &input, count, &mut out);
+    let size = step.length;
+    let on = write_out(&out[..size]);
+    let after = step.state;
+    Run { state: after, on }
 }
 
 // A proved loop has to end, and nothing says that the input does: so it counts its turns down, from a number that no run uses up.
-fn run(line: &mut [u8]) {
-    let mut state = State {
-        length: 0,
-        m: 0,
-        w: 0,
-        c: 0,
+fn main() {
+    let mut run = Run {
+        state: stream::start(),
         on: true,
     };
     let mut turns = u64::MAX;
-    while turns > 0 && state.on {
-        state = read_some(line, state);
+    while turns > 0 && run.on {
+        run = turn(run.state);
         turns -= 1;
     }
-}
-
-// A line has at most 1,024 bytes: with one more the buffer shows that it is longer.
-fn main() {
-    let mut line = [0u8; 1025];
-    run(&mut line);
 }

@@ -7,6 +7,7 @@ ghost use lib.ListN.{length, replicate};
 pub fn copy(from: &[u8], to: &mut [u8])
     ensures { λ _. ⌜ (length (now (from .entry)) ≡ length (now (to .entry)) → now (to .exit) ≡ now (from .entry)) ⌝ }
     ensures { λ _. ⌜ length (now (to .exit)) ≡ length (now (to .entry)) ⌝ }
+    ensures { λ _. ⌜ ((length (now (from .entry)) ≡ length (now (to .entry)) → ⊥) → now (to .exit) ≡ now (to .entry)) ⌝ }
 {
     if from.len() != to.len() {
         return;
@@ -19,7 +20,7 @@ pub fn copy(from: &[u8], to: &mut [u8])
 }
 
 // Sets every byte to 0.
-pub fn clear(buffer: &mut [u8])
+fn clear(buffer: &mut [u8])
     ensures { λ _. ⌜ now (buffer .exit) ≡ replicate (length (now (buffer .entry))) 0 ⌝ }
 {
     let mut i: usize = 0;

@@ -4,3 +4,5 @@ pub mod Assembly
 pub mod Solved
 pub mod Mended
 pub mod Whole
+pub mod Columns
+pub mod ColumnsLaws

@@ -5,8 +5,9 @@ use mathlib.Core.Bool.{Bool, true, false}
 use mathlib.Core.List.{List}
 use Prim.Native.Nat.{ℕ}
 use native.Mathlib.Omega.{arith}
-use lib.ListN.{length, replicate}
-use Rattle.code.specs.Filling.{Found, found, none, search, Passing, search-found, search-none}
+use lib.ListN.{length, replicate, length-replicate}
+use Rattle.code.specs.Marks.{Agree}
+use Rattle.code.specs.Filling.{Found, found, none, search, Passing, search-found, search-none, search-present}
 
 -- A number given back, 0 for done, with what word and marks hold then.
 pub record Outcome : Type 0 where
@@ -51,6 +52,20 @@ same-refusal r n e f = record {
   marks = λ z. absurd (n (sym (ap (λ o. o .number) e) ∙ z));
 }
 
+-- "The byte standing in a lost place has no effect on any answer."
+pub same-present : (q : ℕ) (test : List ℕ → Bool) (large : Bool) (word₁ word₂ marks : List ℕ) → length word₁ ≡ length word₂
+    → Agree (length word₁) marks word₁ word₂ → SameEnd (answered q test large word₁ marks) (answered q test large word₂ marks)
+unfolding answered
+same-present q test large word₁ word₂ marks n a =
+    subst (λ f. SameEnd (answered q test large word₁ marks) (pickOutcome large (refused 8 word₂ marks) (finished word₂ marks f)))
+    (search-present q test marks word₁ word₂ n a) (go large (search q test marks word₁))
+  where
+    go : (v : Bool) (f : Found)
+        → SameEnd (pickOutcome v (refused 8 word₁ marks) (finished word₁ marks f)) (pickOutcome v (refused 8 word₂ marks) (finished word₂ marks f))
+    go true f = same-refusal 8 (λ z. omega arith) refl refl
+    go false (found x) = same-outcome refl
+    go false none = same-refusal 9 (λ z. omega arith) refl refl
+
 module _ (q : ℕ) (test : List ℕ → Bool) (large : Bool) (word marks : List ℕ) where
   -- the three cases
   pub data Case : Type 0 where
@@ -82,6 +97,21 @@ module _ (q : ℕ) (test : List ℕ → Bool) (large : Bool) (word marks : List 
     | eight _ e ↦ (ap (λ o. o .word) e, ap (λ o. o .marks) e)
     | nine _ _ e ↦ (ap (λ o. o .word) e, ap (λ o. o .marks) e)
     | done _ x _ e ↦ absurd (n (ap (λ o. o .number) e))
+  ]
+
+  -- what stands in the word has its length, and the marks have theirs
+  pub answered-length : length ((answered q test large word marks) .word) ≡ length word
+  answered-length = elim cases [
+    | eight _ e ↦ ap (λ o. length (o .word)) e
+    | nine _ _ e ↦ ap (λ o. length (o .word)) e
+    | done _ x P e ↦ ap (λ o. length (o .word)) e ∙ P .fills .size
+  ]
+
+  pub answered-marks : length ((answered q test large word marks) .marks) ≡ length marks
+  answered-marks = elim cases [
+    | eight _ e ↦ ap (λ o. length (o .marks)) e
+    | nine _ _ e ↦ ap (λ o. length (o .marks)) e
+    | done _ x P e ↦ ap (λ o. length (o .marks)) e ∙ length-replicate (length marks) 0
   ]
 
   pub answered-eight : large ≡ true → answered q test large word marks ≡ refused 8 word marks

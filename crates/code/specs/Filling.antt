@@ -182,6 +182,25 @@ search-no q test marks word never = go (search q test marks word) refl
     go (found y) e = absurd (never y (search-found q test marks word y e))
     go none e = refl
 
+-- the symbols that stand in lost places play no part
+pub search-present : (q : ℕ) (test : List ℕ → Bool) (marks word₁ word₂ : List ℕ) → length word₁ ≡ length word₂
+    → ((p : ℕ) → p < length word₁ → lost marks p ≡ false → getD word₁ p 0 ≡ getD word₂ p 0) → search q test marks word₁ ≡ search q test marks word₂
+unfolding search
+search-present q test marks [] [] n a = refl
+search-present q test marks [] (b ∷ y) n a = absurd (omega arith)
+search-present q test marks (b ∷ x) [] n a = absurd (omega arith)
+search-present q test marks (b ∷ x) (d ∷ y) n a =
+    go (λ v. search-present q (λ z. test (v ∷ z)) (drop 1 marks) x y (omega arith) (λ p l e. a (suc p) (omega arith) (sym (next-lost marks p) ∙ e)))
+    (lost marks 0) (λ e. a 0 (omega arith) e)
+  where
+    inner : List ℕ → ℕ → Found
+    inner x v = search q (λ z. test (v ∷ z)) (drop 1 marks) x
+
+    go : ((v : ℕ) → inner x v ≡ inner y v) → (l : Bool) → (l ≡ false → b ≡ d)
+        → pickFound l (tryBelow q (λ v. extend v (inner x v))) (extend b (inner x b)) ≡ pickFound l (tryBelow q (λ v. extend v (inner y v))) (extend d (inner y d))
+    go ih true h = ap (tryBelow q) (λ i v. extend v (ih v i))
+    go ih false h = ap (extend b) (ih b) ∙ ap (λ v. extend v (inner y v)) (h refl)
+
 -- a filling of a word of symbols is a word of symbols
 pub filling-symbols : (E : Edition) (n : ℕ) (marks word y : List ℕ) → Symbols E n word → Fills (2 ^ E .bits) marks word y → Symbols E n y
 filling-symbols E n marks word y s F = record { size = F .size ∙ s .size; each = each }

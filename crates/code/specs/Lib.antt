@@ -11,5 +11,7 @@ pub mod Recovery
 pub mod Stretch
 pub mod Lone
 pub mod Repair
+pub mod OneGroup
+pub mod OneGroupLaws
 pub mod Order
 pub mod Encoding

@@ -111,6 +111,13 @@ module _ (E : Edition) (S : Sound E) (m w c : ℕ) (few : m ≤ S .r) (wide : 0 
     pub contradictory-nine : ¬ (Undetermined E m w c marks) → ((y : List ℕ) → Agrees E m w c marks word y → ⊥) → (recovered E m w c word marks) .number ≡ 9
     contradictory-nine n never = ap (λ o. o .number) (recovered-nine (low-excess n) never)
 
+    -- done exactly where the present places determine a codeword and one agrees
+    pub done-determined : (recovered E m w c word marks) .number ≡ 0 → ¬ (Undetermined E m w c marks)
+    done-determined e U = let z = undetermined-eight U in omega arith
+
+    pub determined-done : ¬ (Undetermined E m w c marks) → (y : List ℕ) → Agrees E m w c marks word y → (recovered E m w c word marks) .number ≡ 0
+    determined-done n y A = ap (λ o. o .number) (recovered-done y (low-excess n) A)
+
     -- "else the single agreeing codeword stands in the word", and all marks are clear
     pub done-single : (recovered E m w c word marks) .number ≡ 0 → Single E m w c word marks
     unfolding large

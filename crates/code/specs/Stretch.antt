@@ -8,7 +8,7 @@ use native.Mathlib.Omega.{arith}
 use native.Mathlib.Decide.{decLt}
 use lib.Dec.{eqb}
 use lib.ListN.{length, getD, take, drop, length-append, length-take, length-drop, take-append-drop, List·getD-append, List·getD-eq-default}
-use lib.Seq.{getD-take, getD-drop, getD-append-add, length-take-le, take-add, drop-drop}
+use lib.Seq.{ext-getD, getD-take, getD-drop, getD-append-add, length-take-le, take-add, drop-drop}
 use Rattle.counting.specs.Count.{total-ext, one}
 use Rattle.binary_field.specs.Sum.{sum-ext}
 use Rattle.code.specs.Edition.{Edition, times}
@@ -89,6 +89,16 @@ module _ (w g : ℕ) (xs : List ℕ) where
           ap (λ n. getD (take (g * w) xs ++ (part ++ drop (suc g * w) xs)) n 0) (d ∙ ap₂ (λ a b. a + (b + (p - suc g * w))) (sym front) (sym size))
           ∙ getD-append-add (take (g * w) xs) (part ++ drop (suc g * w) xs) (length part + (p - suc g * w)) 0
           ∙ getD-append-add part (drop (suc g * w) xs) (p - suc g * w) 0 ∙ getD-drop (suc g * w) xs (p - suc g * w) 0 ∙ ap (λ n. getD xs n 0) d′
+
+-- the stretch of a list with part put in is part
+pub stretch-with : (w g : ℕ) (xs part : List ℕ) → suc g * w ≤ length xs → length part ≡ w → stretch w g (withStretch w g xs part) ≡ part
+stretch-with w g xs part fits size =
+    ext-getD 0 (stretch w g (withStretch w g xs part)) part (long ∙ sym size) λ j l.
+    let k : j < w = subst (λ n. j < n) long l in
+    stretch-at w g (withStretch w g xs part) j k ∙ with-inside w g xs fits part size j k
+  where
+    long : length (stretch w g (withStretch w g xs part)) ≡ w
+    long = stretch-length w g (withStretch w g xs part) (subst (λ n. suc g * w ≤ n) (sym (with-length w g xs fits part size)) fits)
 
 -- place j of a stretch by itself, as its only group has it
 pub own-place : (w j : ℕ) → 0 * w + j ≡ j

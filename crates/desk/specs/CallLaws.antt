@@ -19,7 +19,8 @@ use Rattle.desk.specs.Calls.{pick, freeFrom, freeSlot, openNumber, openB
 use Rattle.desk.specs.Laws.{Sound, sound-parts}
 
 -- "On every refusal all lent buffers and the desk stay as they were."
-pub open-refused : (r : ℕ) → (r ≡ 0 → ⊥) → (m w c : ℕ) (marks : List ℕ) (desk : Desk) → openBy r m w c marks desk ≡ record { number = r; handle = 0; desk = desk }
+pub open-refused : (r : ℕ) → (r ≡ 0 → ⊥) → (m w c : ℕ) (marks : List ℕ) (desk : Desk)
+    → openBy r m w c marks desk ≡ record { number = r; handle = 0; desk = desk }
 open-refused zero some m w c marks desk = absurd (some refl)
 open-refused (suc r) some m w c marks desk = refl
 
@@ -39,7 +40,8 @@ pub close-refused : (r : ℕ) → (r ≡ 0 → ⊥) → (handle : ℕ) (desk : D
 close-refused zero some handle desk = absurd (some refl)
 close-refused (suc r) some handle desk = refl
 
-pub serve-refused : (r : ℕ) → (r ≡ 0 → ⊥) → (handle : ℕ) (word : List ℕ) (desk : Desk) → serveBy r handle word desk ≡ record { number = r; word = word; desk = desk }
+pub serve-refused : (r : ℕ) → (r ≡ 0 → ⊥) → (handle : ℕ) (word : List ℕ) (desk : Desk)
+    → serveBy r handle word desk ≡ record { number = r; word = word; desk = desk }
 serve-refused zero some handle word desk = absurd (some refl)
 serve-refused (suc r) some handle word desk = refl
 

@@ -1,12 +1,12 @@
 -- Laws of the tests on a desk.
-use mathlib.Core.Path.{_≡_, sym, ap, subst}
-use mathlib.Core.Bool.{Bool, true, false, not, and-eq-true-iff}
+use mathlib.Core.Path.{_≡_, refl, sym, ap, subst}
+use mathlib.Core.Bool.{Bool, true, false, not, _&&_, _||_, and-eq-true-iff}
 use mathlib.Core.List.{List}
 use Prim.Native.Nat.{ℕ, _+_, _*_, _<_, _≤_}
 use native.Mathlib.Numerals.{add-one}
 use native.Mathlib.Omega.{arith}
-use borrow.Author.Tests.{not-true, ne-eqb, leb-true, le-leb}
-use lib.Dec.{T, not-T}
+use borrow.Author.Tests.{not-true, eqb-true, ne-eqb, leb-true, le-leb}
+use lib.Dec.{T, not-T, eqb}
 use lib.Ieee.Bits.{is-true}
 use Rattle.counting.specs.Test.{anyBelow, all-at, all-intro, any-intro}
 use Rattle.shape.specs.Refusals.{orElse-zero}
@@ -15,7 +15,7 @@ use Rattle.marks.specs.Refusal.{Marked, good-of-marks}
 use Rattle.judge.specs.Answer.{judgedNumberOf}
 use Rattle.desk.specs.declared.Job.{Job}
 use Rattle.desk.specs.declared.Desk.{Desk}
-use Rattle.desk.specs.Desks.{isGood, marksOf, jobAt, isSoundSlot, isTwice, isSound}
+use Rattle.desk.specs.Desks.{isFree, isTaken, issueOf, slotOf, isIssued, isGood, marksOf, jobAt, isSoundSlot, isTwice, isSound, isOpen}
 
 pub holds : {b : Bool} → b ≡ true → T b
 holds e = subst T (sym e) tt
@@ -72,3 +72,37 @@ module _ (desk : Desk) where
 
   pub unsound : (Sound desk → ⊥) → isSound desk ≡ false
   unsound h = false-of (isSound desk) (λ e. h (sound-parts e))
+
+-- a taken slot of a sound desk
+pub record Taken (t s : ℕ) (job : Job) : Type 0 where
+  pub good : isGood job ≡ true
+  pub place : slotOf (job .handle) ≡ s
+  pub issue : isIssued t (issueOf (job .handle)) ≡ true
+
+module _ (t s : ℕ) (job : Job) where
+  -- what soundness asks of a taken slot
+  abbrev pub isFit : Bool
+  isFit = isTaken job && isGood job && eqb (slotOf (job .handle)) s && isIssued t (issueOf (job .handle))
+
+  fit-taken : isFit ≡ true → Taken t s job
+  fit-taken e =
+      let p = and-eq-true-iff (isTaken job && isGood job && eqb (slotOf (job .handle)) s) (isIssued t (issueOf (job .handle))) .0 e in
+      let q = and-eq-true-iff (isTaken job && isGood job) (eqb (slotOf (job .handle)) s) .0 (p .0) in
+      record { good = and-eq-true-iff (isTaken job) (isGood job) .0 (q .0) .1; place = eqb-true (slotOf (job .handle)) s (q .1); issue = p .1 }
+
+  pub taken-of : isSoundSlot t s job ≡ true → isTaken job ≡ true → Taken t s job
+  unfolding isSoundSlot
+  taken-of e k = go (isFree job) refl e
+    where
+      go : (b : Bool) → isFree job ≡ b → b || isFit ≡ true → Taken t s job
+      go true f e = let a = eqb-true (job .taken) 0 f in let b = eqb-true (job .taken) 1 k in absurd (omega arith)
+      go false f e = fit-taken e
+
+-- the slot of an open handle is taken, and holds it
+pub open-slot : (desk : Desk) (handle : ℕ) → isOpen desk handle ≡ true
+    → (isTaken (jobAt desk (slotOf handle)) ≡ true) × (jobAt desk (slotOf handle) .handle ≡ handle)
+unfolding isOpen
+open-slot desk handle e =
+    let j = jobAt desk (slotOf handle) in
+    let p = and-eq-true-iff (isIssued (desk .t) (issueOf handle) && isTaken j) (eqb (j .handle) handle) .0 e in
+    (and-eq-true-iff (isIssued (desk .t) (issueOf handle)) (isTaken j) .0 (p .0) .1, eqb-true (j .handle) handle (p .1))

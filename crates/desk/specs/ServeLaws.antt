@@ -1,32 +1,30 @@
 -- Laws of Serve.
-use mathlib.Core.Path.{_≡_, refl, sym, ap, _∙_}
-use mathlib.Core.Bool.{Bool, true, false, not}
+use mathlib.Core.Path.{_≡_, refl, ap, _∙_}
+use mathlib.Core.Bool.{true, not}
 use mathlib.Core.List.{List}
 use Prim.Native.Nat.{ℕ, zero, suc, _*_, _^_, _≤_}
 use native.Mathlib.Omega.{arith}
-use native.Mathlib.Decide.{ℕ-discrete}
-use borrow.Author.Tests.{ltb-true, not-false, eq-eqb, ne-eqb, eqb-true, eqb-false}
+use borrow.Author.Tests.{not-false, eq-eqb, ne-eqb, eqb-true, eqb-false}
 use lib.Dec.{eqb, ltb}
 use lib.ListN.{length}
 use Rattle.shape.specs.declared.Answer.{Answer}
 use Rattle.shape.specs.Answers.{answerAt}
 use Rattle.shape.specs.Refusals.{refuse, _orElse_, unlessRefused, refuse-zero, orElse-zero}
 use Rattle.shape.specs.Shapes.{placeCount}
-use Rattle.shape.specs.Laws.{places-most, word-of-good}
-use Rattle.marks.specs.Refusal.{orElse-first, marks-of-good}
+use Rattle.shape.specs.Laws.{places-most}
+use Rattle.marks.specs.Refusal.{orElse-first}
 use Rattle.judge.specs.Answer.{judgedNumberOf}
 use Rattle.code.specs.Edition.{bytes}
 use Rattle.code.specs.Word.{isCodeword}
 use Rattle.code.specs.Marks.{excess}
-use Rattle.code.specs.Answer.{Outcome, refused-unchanged, eight-large}
+use Rattle.code.specs.Answer.{refused-unchanged}
 use Rattle.code.specs.Recovery.{recovered}
 use Rattle.recover.specs.Service.{recoverRefusal, recoverOf, unlessBefore}
 use Rattle.desk.specs.declared.Job.{Job}
 use Rattle.desk.specs.declared.Desk.{Desk}
-use Rattle.desk.specs.Desks.{jobAt, slotOf, isGood, marksOf, isSound, isOpen}
+use Rattle.desk.specs.Desks.{jobAt, slotOf, isGood, marksOf, isOpen}
 use Rattle.desk.specs.Calls.{handleRefusal, recoveryOf, jobNumber, serveNumber, serveBy, serveOf}
-use Rattle.desk.specs.Laws.{judged-marked}
-use Rattle.desk.specs.Meaning.{good-iff, open-held, held-holds}
+use Rattle.desk.specs.Laws.{judged-marked, sound-parts, taken-of, open-slot}
 use Rattle.desk.specs.CallLaws.{serve-refused}
 
 -- ---- an answer's number
@@ -50,11 +48,14 @@ unfolding handleRefusal
 open-good handle desk e =
     let z = orElse-zero _ _ e in
     let o : isOpen desk handle ≡ true = not-false _ (refuse-zero 11 _ (z .1)) in
-    held-holds desk (not-false _ (refuse-zero 30 _ (z .0))) (open-held desk handle o) .good
+    let S = sound-parts desk (not-false _ (refuse-zero 30 _ (z .0))) in
+    taken-of (desk .t) (slotOf handle) (jobAt desk (slotOf handle)) (S .slots (slotOf handle) (omega arith)) (open-slot desk handle o .0) .good
 
 pub good-places : (job : Job) → isGood job ≡ true → job .m * job .w ≤ 240
 unfolding isGood
-good-places job e = places-most (judged-marked (job .m) (job .w) (job .c) (marksOf job) (eqb-true (judgedNumberOf (job .m) (job .w) (job .c) (marksOf job)) 0 e) .good)
+good-places job e =
+    let z = eqb-true (judgedNumberOf (job .m) (job .w) (job .c) (marksOf job)) 0 e in
+    places-most (judged-marked (job .m) (job .w) (job .c) (marksOf job) z .good)
 
 -- ---- the recovery of a word
 
@@ -109,60 +110,3 @@ module _ (handle : ℕ) (word : List ℕ) (desk : Desk) where
   pub serve-job : handleRefusal handle desk ≡ 0 → serveOf handle word desk ≡ serveBy (jobNumber (jobAt desk (slotOf handle)) word) handle word desk
   unfolding serveOf serveNumber
   serve-job e = ap (λ n. serveBy (n orElse jobNumber (jobAt desk (slotOf handle)) word) handle word desk) e
-
--- ---- "a serve can't meet 8"
-
-module _ (job : Job) (word : List ℕ) (good : isGood job ≡ true) (size : length word ≡ job .m * job .w) where
-  -- a good job and a word of its n bytes are refused by none of 1 to 6
-  not-before : recoverRefusal (job .m) (job .w) (job .c) word (marksOf job) ≡ 0
-  unfolding recoverRefusal
-  not-before =
-      let M = good-iff job .0 good .0 in
-      simp (word-of-good (job .m) (job .w) (job .c) (length word) (M .good) size, marks-of-good (job .m) (job .w) (job .c) (marksOf job) M)
-
-  pub good-recovery : recoveryOf job word ≡ recovered bytes (job .m) (job .w) (job .c) word (marksOf job)
-  unfolding recoverOf
-  good-recovery = ap (λ r. unlessBefore r (recovered bytes (job .m) (job .w) (job .c) word (marksOf job)) word (marksOf job)) not-before
-
-  recovery-not-eight : (recoveryOf job word) .number ≡ 8 → ⊥
-  recovery-not-eight e =
-      let h = sym (ap (λ (o : Outcome). o .number) good-recovery) ∙ e in
-      let l = eight-large (2 ^ bytes .bits) (isCodeword bytes (job .m) (job .w) (job .c)) (ltb 2 (excess (job .m) (job .w) (job .c) (marksOf job))) word (marksOf job) h in
-      let a = ltb-true 2 (excess (job .m) (job .w) (job .c) (marksOf job)) l in
-      let b = good-iff job .0 good .1 in omega arith
-
-job-not-eight : (job : Job) (word : List ℕ) → isGood job ≡ true → jobNumber job word ≡ 8 → ⊥
-job-not-eight job word good e = elim (ℕ-discrete (length word) (job .m * job .w)) [
-  | no h ↦ (let z = job-length job word h in omega arith)
-  | yes h ↦
-      elim (ℕ-discrete (job .served) 4294967295) [
-        | yes k ↦ (let z = job-end job word h k in omega arith)
-        | no k ↦ recovery-not-eight job word good h (sym (job-recovery job word h k) ∙ e)
-      ]
-]
-
-handle-not-eight : (handle : ℕ) (desk : Desk) → handleRefusal handle desk ≡ 8 → ⊥
-unfolding handleRefusal
-handle-not-eight handle desk = go (not (isSound desk)) (not (isOpen desk handle))
-  where
-    go : (a b : Bool) → refuse 31 a orElse refuse 12 b ≡ 8 → ⊥
-    go true b e = omega arith
-    go false true e = omega arith
-    go false false e = omega arith
-
-pub never-eight : (handle : ℕ) (word : List ℕ) (desk : Desk) → (serveOf handle word desk) .number ≡ 8 → ⊥
-unfolding serveOf serveNumber
-never-eight handle word desk e = elim (ℕ-discrete (handleRefusal handle desk) 0) [
-  | yes z ↦ job-not-eight j word (open-good handle desk z) (sym (ap (λ n. n orElse jobNumber j word) z) ∙ number)
-  | no z ↦ handle-not-eight handle desk (sym (orElse-first (handleRefusal handle desk) (jobNumber j word) z) ∙ number)
-]
-  where
-    j : Job
-    j = jobAt desk (slotOf handle)
-
-    same : (r : ℕ) → (serveBy r handle word desk) .number ≡ r
-    same zero = refl
-    same (suc r) = refl
-
-    number : serveNumber handle word desk ≡ 8
-    number = sym (same (serveNumber handle word desk)) ∙ e

@@ -11,7 +11,7 @@ ghost use Rattle.shape.specs.Answers.{answerAt};
 ghost use Rattle.shape.specs.Refusals.{unlessRefused};
 ghost use Rattle.judge.specs.Answer.{judgedNumberOf};
 ghost use Rattle.desk.specs.Desks.{freshDesk, emptyJob, isIssued, isGood, isSoundSlot, hasIssue, isTwice, isSound, isOpen};
-ghost use Rattle.desk.specs.Calls.{handleRefusal, freeSlot, openNumber, openOf, OpenGives, readOf, ReadGives, closeOf, CloseGives, recoveryOf, jobNumber, serveOf, ServeGives};
+ghost use Rattle.desk.specs.Calls.{handleRefusal, freeSlot, openNumber, openOf, OpenGives, readOf, ReadGives, closeOf, CloseGives, recoveryOf, jobNumber, servedOnce, serveOf, ServeGives};
 
 // A slot of the desk: a shape, the marks of a loss pattern, how many words were served, and the handle. Taken is 1, or 0 for a free slot.
 #[repr(C)]
@@ -189,7 +189,7 @@ pub fn is_sound(desk: Desk) -> bool
 }
 
 // Whether a handle is open. Its issue number is tested and its slot is taken out of it before the row is indexed.
-pub fn is_open(desk: Desk, handle: u64) -> bool
+fn is_open(desk: Desk, handle: u64) -> bool
     ensures { λ r. ⌜ r ≡ isOpen desk handle ⌝ }
 {
     if !is_issued(desk.t, handle / 8) {
@@ -207,10 +207,9 @@ pub fn is_open(desk: Desk, handle: u64) -> bool
 fn handle_refusal(desk: Desk, handle: u64) -> u8
     ensures { λ r. ⌜ r ≡ handleRefusal handle desk ⌝ }
 {
-    if !is_sound(desk) {
-        return 31;
-    }
-    if is_open(desk, handle) { 0 } else { 12 }
+    let sound = is_sound(desk);
+    let open = is_open(desk, handle);
+    if sound { if open { 0 } else { 12 } } else { 31 }
 }
 
 // The service Read.
@@ -251,15 +250,15 @@ pub fn close(desk: Desk, handle: u64) -> After
 fn free_slot(desk: Desk) -> usize
     ensures { λ r. ⌜ r ≡ freeSlot desk ⌝ }
 {
-    let mut s: usize = 0;
-    while s < 8 {
-        let job = desk.jobs[s];
+    let mut slot: usize = 0;
+    while slot < 8 {
+        let job = desk.jobs[slot];
         if job.taken != 1 {
-            return s;
+            return slot;
         }
-        s += 1;
+        slot += 1;
     }
-    s
+    slot
 }
 
 // A copy of the marks, with 0 past them.
@@ -287,10 +286,12 @@ fn open_refusal(desk: Desk, m: usize, w: usize, c: usize, marks: &[u8]) -> u8
     if r != 0 {
         return r;
     }
-    if desk.t == 65535 {
+    let last = desk.t == 65535;
+    let full = free_slot(desk) == 8;
+    if last {
         return 10;
     }
-    if free_slot(desk) == 8 { 11 } else { 0 }
+    if full { 11 } else { 0 }
 }
 
 // The service Open.
@@ -345,6 +346,23 @@ fn serve_job(job: Job, word: &mut [u8]) -> Answer
     recover::recover(m, w, c, word, &mut marks[..n])
 }
 
+// The job with one more word served; its marks stay.
+fn served_once(job: Job) -> Job
+    requires { ⌜ ¬ (job .served ≡ 4294967295) ⌝ }
+    ensures { λ r. ⌜ r ≡ servedOnce job ⌝ }
+{
+    let marks = job.marks;
+    Job {
+        taken: job.taken,
+        m: job.m,
+        w: job.w,
+        c: job.c,
+        served: job.served + 1,
+        handle: job.handle,
+        marks: marks,
+    }
+}
+
 // The service Serve. The word is recovered by a copy of the job's marks, which stay.
 pub fn serve(desk: Desk, handle: u64, word: &mut [u8]) -> After
     ensures { λ r. ⌜ ServeGives (serveOf handle (now (word .entry)) desk) (now (word .exit)) (r .desk) (r .answer) ⌝ }
@@ -357,16 +375,16 @@ pub fn serve(desk: Desk, handle: u64, word: &mut [u8]) -> After
         };
     }
     let s = (handle % 8) as usize;
-    let mut job = desk.jobs[s];
+    let job = desk.jobs[s];
     match serve_job(job, word) {
         Answer::Refused(r) => After {
             desk: desk,
             answer: Answer::Refused(r),
         },
         Answer::Done => {
+            let raised = served_once(job);
             let mut d = desk;
-            job.served += 1;
-            d.jobs[s] = job;
+            d.jobs[s] = raised;
             After {
                 desk: d,
                 answer: Answer::Done,

@@ -1,8 +1,8 @@
 -- The lost places of a whole word, group by group.
-use mathlib.Core.Path.{_≡_, refl, sym, ap, _∙_, subst}
+use mathlib.Core.Path.{_≡_, refl, sym, ap, ap₂, _∙_, subst}
 use mathlib.Core.Bool.{Bool, true, false, not, _&&_}
 use mathlib.Core.List.{List}
-use Prim.Native.Nat.{ℕ, suc, _+_, _-_, _*_, _/_, _%_, _≤_, _<_, min}
+use Prim.Native.Nat.{ℕ, zero, suc, _+_, _-_, _*_, _/_, _%_, _≤_, _<_, min}
 use native.Mathlib.Nat.{suc-mul, mul-le-mul-right, div-add-mod', div-lt-iff-lt-mul, mod-lt, min-le-left}
 use native.Mathlib.Omega.{arith}
 use native.Mathlib.Decide.{decLt}
@@ -13,6 +13,11 @@ use Rattle.counting.specs.Count.{one, countBelow, total-ext, total-sum, total-r
 use Rattle.code.specs.Marks.{lost, lostIn, excess}
 use Rattle.code.specs.Stretch.{stretch, withStretch, stretch-at, stretch-length, stretch-count, with-length, with-inside, with-before, with-after}
 use Rattle.erasures.specs.Kept.{free, keptOf, kept-length, kept-present, kept-count, kept-full}
+
+-- the marks of m groups with the first c lost places of each group lost and the later ones not
+unfoldable pub keptGroups : ℕ → ℕ → ℕ → List ℕ → List ℕ
+keptGroups zero w c marks = marks
+keptGroups (suc g) w c marks = withStretch w g (keptGroups g w c marks) (keptOf c (stretch w g marks))
 
 -- kept marks, of the lost places, those that the m groups keep for their own equations
 pub record KeptAll (m w c : ℕ) (marks kept : List ℕ) : Type 0 where
@@ -30,9 +35,11 @@ pub record KeptUpTo (g w c : ℕ) (marks held : List ℕ) : Type 0 where
   pub size : length held ≡ length marks
   pub done : (h : ℕ) → h < g → stretch w h held ≡ keptOf c (stretch w h marks)
   pub rest : (p : ℕ) → g * w ≤ p → getD held p 0 ≡ getD marks p 0
+  pub equal : held ≡ keptGroups g w c marks
 
 pub upto-none : (w c : ℕ) (marks : List ℕ) → KeptUpTo 0 w c marks marks
-upto-none w c marks = record { size = refl; done = λ h l. absurd (omega arith); rest = λ p l. refl }
+unfolding keptGroups
+upto-none w c marks = record { size = refl; done = λ h l. absurd (omega arith); rest = λ p l. refl; equal = refl }
 
 -- two lists that are the same on a group
 same-stretch : (w g : ℕ) (xs ys : List ℕ) → suc g * w ≤ length xs → suc g * w ≤ length ys
@@ -61,6 +68,9 @@ module _ (g w c : ℕ) (marks held : List ℕ) (fits : suc g * w ≤ length mark
   unfolding after
   after-size = with-length w g held room part part-size
 
+  as-before : keptOf c (stretch w g held) ≡ keptOf c (stretch w g marks)
+  as-before = ap (keptOf c) (same-stretch w g held marks room fits (λ j k. K .rest (g * w + j) (omega arith)))
+
   own : stretch w g after ≡ keptOf c (stretch w g marks)
   unfolding after part
   own =
@@ -68,7 +78,7 @@ module _ (g w c : ℕ) (marks held : List ℕ) (fits : suc g * w ≤ length mark
       (λ j l.
       let k : j < w = subst (λ n. j < n) (stretch-length w g after long) l in
       stretch-at w g after j k ∙ with-inside w g held room part part-size j k)
-      ∙ ap (keptOf c) (same-stretch w g held marks room fits (λ j k. K .rest (g * w + j) (omega arith)))
+      ∙ as-before
     where
       long : suc g * w ≤ length after
       long = subst (λ n. suc g * w ≤ n) (sym after-size) room
@@ -85,7 +95,7 @@ module _ (g w c : ℕ) (marks held : List ℕ) (fits : suc g * w ≤ length mark
 
   -- one group more
   pub upto-more : KeptUpTo (suc g) w c marks (withStretch w g held (keptOf c (stretch w g held)))
-  unfolding after part
+  unfolding after part keptGroups
   upto-more = record {
     size = after-size ∙ K .size;
     done = λ h l. elim (decLt h g) [
@@ -93,6 +103,7 @@ module _ (g w c : ℕ) (marks held : List ℕ) (fits : suc g * w ≤ length mark
       | no k ↦ (let e : h ≡ g = omega arith in subst (λ n. stretch w n after ≡ keptOf c (stretch w n marks)) (sym e) own)
     ];
     rest = λ p l. with-after w g held room part part-size p l ∙ K .rest p (let e = suc-mul g w in omega arith);
+    equal = ap₂ (withStretch w g) (K .equal) as-before;
   }
 
 module _ (m w c : ℕ) (marks kept : List ℕ) (long : length marks ≡ m * w) (K : KeptUpTo m w c marks kept) where

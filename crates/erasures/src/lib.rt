@@ -4,8 +4,9 @@ ghost use Prim.Native.Nat.{_*_};
 ghost use lib.ListN.{length, getD};
 ghost use Rattle.shape.specs.Shapes.{Good};
 ghost use Rattle.erasures.specs.Kept.{free, keptOf};
-ghost use Rattle.erasures.specs.Whole.{KeptAll};
+ghost use Rattle.erasures.specs.Whole.{keptGroups, KeptAll};
 ghost use Rattle.erasures.specs.Places.{FreePlaces, NextFree};
+ghost use Rattle.erasures.specs.FirstTwo.{freePlaces, firstTwo};
 
 // The number of free places that were found, two at most, and where they are; a place that was not found is 0.
 pub struct Free {
@@ -36,6 +37,8 @@ fn keep_part(part: &mut [u8], c: usize)
 pub fn keep(m: usize, w: usize, c: usize, marks: &mut [u8])
     ensures kept { λ _. ⌜ (Good m w c → length (now (marks .entry)) ≡ m * w → KeptAll m w c (now (marks .entry)) (now (marks .exit))) ⌝ }
     ensures size { λ _. ⌜ length (now (marks .exit)) ≡ length (now (marks .entry)) ⌝ }
+    ensures equal { λ _. ⌜ (Good m w c → length (now (marks .entry)) ≡ m * w → now (marks .exit) ≡ keptGroups m w c (now (marks .entry))) ⌝ }
+    ensures other { λ _. ⌜ ((Good m w c → length (now (marks .entry)) ≡ m * w → ⊥) → now (marks .exit) ≡ now (marks .entry)) ⌝ }
 {
     if shape::word_refusal(m, w, c, marks.len()) != 0 {
         return;
@@ -84,6 +87,7 @@ fn next_free(marks: &[u8], kept: &[u8], start: usize) -> usize
 // The first two free places. Past its end kept counts as not lost.
 pub fn free_places(marks: &[u8], kept: &[u8]) -> Free
     ensures { λ r. ⌜ FreePlaces (now (marks .entry)) (now (kept .entry)) (r .count) (r .first) (r .second) ⌝ }
+    ensures { λ r. ⌜ r ≡ firstTwo (freePlaces (now (marks .entry)) (now (kept .entry))) ⌝ }
 {
     let first = next_free(marks, kept, 0);
     if marks.len() <= first {

@@ -6,18 +6,16 @@ use Rattle.binary_field.specs.Xor.{_⊕_, masked}
 use Rattle.binary_field.specs.Product.{double, bitSum, product}
 use Rattle.binary_field.specs.Power.{power}
 use Rattle.shape.specs.Shapes.{sureCount, shapeRefusal, describedOf, describedNumber, describedFigures}
+use Rattle.code.specs.Marks.{excess}
+use Rattle.code.specs.Answer.{Outcome}
 use Rattle.recover.specs.Service.{recoverOf}
 use Rattle.encode.specs.Service.{encodedWord}
-use Rattle.evidence.specs.WordSums.{outcomeList, encoded-first, encoded-second, three-lost, five-lost, last-byte}
+use Rattle.evidence.specs.WordSums.{number, outcomeList, encoded-first, encoded-second, three-lost, three-done, three-excess, five-lost, five-excess, last-byte}
 
 -- in each pair the two are the same
 abbrev pub AllSame : List (List ℕ × List ℕ) → Type 0
 AllSame [] = Unit {0}
 AllSame (p ∷ ps) = (p .0 ≡ p .1) × AllSame ps
-
--- one number
-abbrev pub number : ℕ → List ℕ
-number n = n ∷ []
 
 abbrev pub handSums : List (List ℕ × List ℕ)
 handSums =
@@ -28,13 +26,14 @@ handSums =
     (describedFigures (describedOf 2 3 1), 6 ∷ 2 ∷ 4 ∷ []) ∷ (number (describedNumber (describedOf 1 3 1)), number 4) ∷
     -- m 1, w 4, c 1, data 1: word 1, 79, 147, 221; m 2, w 3, c 1, data 1, 1: word 1, 1, 0, 78, 206, 128
     (encodedWord 1 4 1 (1 ∷ []), 1 ∷ 79 ∷ 147 ∷ 221 ∷ []) ∷ (encodedWord 2 3 1 (1 ∷ 1 ∷ []), 1 ∷ 1 ∷ 0 ∷ 78 ∷ 206 ∷ 128 ∷ []) ∷
-    -- the number, the word and the marks. In that word the first three lost: recovered
-    (
+    -- in that word the first three lost: recovered (excess 2); the excess, the number, and the number with the word and the marks
+    (number (excess 2 3 1 (1 ∷ 1 ∷ 1 ∷ 0 ∷ 0 ∷ 0 ∷ [])), number 2) ∷
+    (number ((recoverOf 2 3 1 (255 ∷ 255 ∷ 255 ∷ 78 ∷ 206 ∷ 128 ∷ []) (1 ∷ 1 ∷ 1 ∷ 0 ∷ 0 ∷ 0 ∷ [])) .number), number 0) ∷ (
       outcomeList (recoverOf 2 3 1 (255 ∷ 255 ∷ 255 ∷ 78 ∷ 206 ∷ 128 ∷ []) (1 ∷ 1 ∷ 1 ∷ 0 ∷ 0 ∷ 0 ∷ [])),
       0 ∷ 1 ∷ 1 ∷ 0 ∷ 78 ∷ 206 ∷ 128 ∷ 0 ∷ 0 ∷ 0 ∷ 0 ∷ 0 ∷ 0 ∷ [],
     ) ∷
-    -- the first five lost: 8
-    (
+    -- the first five lost: 8 (excess 3)
+    (number (excess 2 3 1 (1 ∷ 1 ∷ 1 ∷ 1 ∷ 1 ∷ 0 ∷ [])), number 3) ∷ (
       outcomeList (recoverOf 2 3 1 (1 ∷ 1 ∷ 0 ∷ 78 ∷ 206 ∷ 128 ∷ []) (1 ∷ 1 ∷ 1 ∷ 1 ∷ 1 ∷ 0 ∷ [])),
       8 ∷ 1 ∷ 1 ∷ 0 ∷ 78 ∷ 206 ∷ 128 ∷ 1 ∷ 1 ∷ 1 ∷ 1 ∷ 1 ∷ 0 ∷ [],
     ) ∷
@@ -46,4 +45,19 @@ handSums =
 
 pub hand-sums : AllSame handSums
 unfolding power product bitSum double masked _⊕_ sureCount shapeRefusal describedOf
-hand-sums = (refl, (refl, (refl, (refl, (refl, (refl, (refl, (encoded-first, (encoded-second, (three-lost, (five-lost, (last-byte, tt))))))))))))
+hand-sums = (
+  refl,
+  (
+    refl,
+    (
+      refl,
+      (
+        refl,
+        (
+          refl,
+          (refl, (refl, (encoded-first, (encoded-second, (three-excess, (three-done, (three-lost, (five-excess, (five-lost, (last-byte, tt)))))))))),
+        ),
+      ),
+    ),
+  ),
+)

@@ -1,2 +1,4 @@
 pub mod WordSums
 pub mod HandSums
+pub mod AcrossServices
+pub mod PaperSession

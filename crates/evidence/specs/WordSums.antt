@@ -21,7 +21,7 @@ use Rattle.places.specs.Laws.{extract-1-4-1, extract-2-3-1}
 use Rattle.code.specs.Edition.{bytes}
 use Rattle.code.specs.Word.{coefficient, twisted, groupSum, wordSum, isLocal, isCodeword, Codeword}
 use Rattle.code.specs.Marks.{lost, lostIn, excess, Agree}
-use Rattle.code.specs.Answer.{Outcome}
+use Rattle.code.specs.Answer.{Outcome, refused, written}
 use Rattle.code.specs.Recovery.{Agrees}
 use Rattle.marks.specs.Refusal.{marksRefusal, areMarks}
 use Rattle.recover.specs.Service.{recoverRefusal, recoverOf}
@@ -40,6 +40,10 @@ small xs t p = elim (decLt p (length xs)) [
 -- two words at the present places
 agree : (n : ℕ) (marks x y : List ℕ) → T (allBelow n (λ p. either (lost marks p) (eqb (getD x p 0) (getD y p 0)))) → Agree n marks x y
 agree n marks x y t p l e = eqb→eq (getD x p 0) (getD y p 0) (subst (λ v. T (either v (eqb (getD x p 0) (getD y p 0)))) e (all-at n _ t p l))
+
+-- one number
+abbrev pub number : ℕ → List ℕ
+number n = n ∷ []
 
 -- number, word and marks of an outcome
 abbrev pub outcomeList : Outcome → List ℕ
@@ -83,7 +87,7 @@ encoded-second =
 called : List ℕ → List ℕ → ℕ → Type 0
 called word marks x = (0 ≡ recoverRefusal 2 3 1 word marks) × (excess 2 3 1 marks ≡ x)
 
--- "In that word the first three lost: recovered"
+-- "In that word the first three lost: recovered (excess 2)"
 threeLost : List ℕ
 threeLost = 255 ∷ 255 ∷ 255 ∷ 78 ∷ 206 ∷ 128 ∷ []
 
@@ -106,7 +110,14 @@ three-lost =
     ap outcomeList
     (service-done 2 3 1 threeLost firstThree (accepted 2 3 1 threeLost firstThree 0 (three-called .0) refl) (small threeLost tt) secondWord (omega arith) three-agrees)
 
--- "The first five lost: 8"
+pub three-done : number ((recoverOf 2 3 1 (255 ∷ 255 ∷ 255 ∷ 78 ∷ 206 ∷ 128 ∷ []) (1 ∷ 1 ∷ 1 ∷ 0 ∷ 0 ∷ 0 ∷ [])) .number) ≡ number 0
+three-done = ap (λ l. number (getD l 0 0)) three-lost
+
+pub three-excess : number (excess 2 3 1 (1 ∷ 1 ∷ 1 ∷ 0 ∷ 0 ∷ 0 ∷ [])) ≡ number 2
+unfolding called firstThree
+three-excess = ap number (three-called .1)
+
+-- "The first five lost: 8 (excess 3)"
 firstFive : List ℕ
 firstFive = 1 ∷ 1 ∷ 1 ∷ 1 ∷ 1 ∷ 0 ∷ []
 
@@ -120,6 +131,48 @@ unfolding called firstFive secondWord
 five-lost =
     let e = five-called .1 in
     ap outcomeList (service-eight 2 3 1 secondWord firstFive (accepted 2 3 1 secondWord firstFive 0 (five-called .0) refl) (small secondWord tt) (omega arith))
+
+pub five-excess : number (excess 2 3 1 (1 ∷ 1 ∷ 1 ∷ 1 ∷ 1 ∷ 0 ∷ [])) ≡ number 3
+unfolding called firstFive
+five-excess = ap number (five-called .1)
+
+-- ---- the two words of the paper's session, with 0 in the lost places
+-- the second and the fifth lost: recovered
+twoLost : List ℕ
+twoLost = 1 ∷ 0 ∷ 0 ∷ 78 ∷ 0 ∷ 128 ∷ []
+
+secondFifth : List ℕ
+secondFifth = 0 ∷ 1 ∷ 0 ∷ 0 ∷ 1 ∷ 0 ∷ []
+
+two-called : called twoLost secondFifth 0
+unfolding called twoLost secondFifth recoverRefusal wordRefusal marksRefusal shapeRefusal areMarks excess lostIn totalBelow
+two-called = (refl, refl)
+
+two-agrees : Agrees bytes 2 3 1 secondFifth twoLost secondWord
+unfolding twoLost secondFifth secondWord
+two-agrees = record { codeword = second-codeword; agree = agree 6 secondFifth secondWord twoLost tt }
+
+pub two-lost : recoverOf 2 3 1 (1 ∷ 0 ∷ 0 ∷ 78 ∷ 0 ∷ 128 ∷ []) (0 ∷ 1 ∷ 0 ∷ 0 ∷ 1 ∷ 0 ∷ [])
+    ≡ written (1 ∷ 1 ∷ 0 ∷ 78 ∷ 206 ∷ 128 ∷ []) (0 ∷ 1 ∷ 0 ∷ 0 ∷ 1 ∷ 0 ∷ [])
+unfolding called twoLost secondFifth secondWord
+two-lost =
+    let e = two-called .1 in
+    service-done 2 3 1 twoLost secondFifth (accepted 2 3 1 twoLost secondFifth 0 (two-called .0) refl) (small twoLost tt) secondWord (omega arith) two-agrees
+
+-- the first five lost
+fiveLost : List ℕ
+fiveLost = 0 ∷ 0 ∷ 0 ∷ 0 ∷ 0 ∷ 128 ∷ []
+
+five-again : called fiveLost firstFive 3
+unfolding called fiveLost firstFive recoverRefusal wordRefusal marksRefusal shapeRefusal areMarks excess lostIn totalBelow
+five-again = (refl, refl)
+
+pub five-lost-again : recoverOf 2 3 1 (0 ∷ 0 ∷ 0 ∷ 0 ∷ 0 ∷ 128 ∷ []) (1 ∷ 1 ∷ 1 ∷ 1 ∷ 1 ∷ 0 ∷ [])
+    ≡ refused 8 (0 ∷ 0 ∷ 0 ∷ 0 ∷ 0 ∷ 128 ∷ []) (1 ∷ 1 ∷ 1 ∷ 1 ∷ 1 ∷ 0 ∷ [])
+unfolding called firstFive fiveLost
+five-lost-again =
+    let e = five-again .1 in
+    service-eight 2 3 1 fiveLost firstFive (accepted 2 3 1 fiveLost firstFive 0 (five-again .0) refl) (small fiveLost tt) (omega arith)
 
 -- "Nothing lost, last byte 129: 9"
 lastChanged : List ℕ

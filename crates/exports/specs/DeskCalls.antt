@@ -1,5 +1,5 @@
 -- What the desk's calls give to C: a number, and what the lent desk, word, handle and served count hold then.
-use mathlib.Core.Path.{_≡_, refl, sym, ap, _∙_}
+use mathlib.Core.Path.{_≡_, refl, ap, _∙_}
 use mathlib.Core.List.{List}
 use Prim.Native.Nat.{ℕ, zero, suc}
 use Rattle.desk.specs.declared.Desk.{Desk}
@@ -43,11 +43,12 @@ handle-or : (r handle lent : ℕ) → handleOr (openedAt r handle) lent ≡ kept
 handle-or zero handle lent = refl
 handle-or (suc r) handle lent = refl
 
-pub opens-number : (o : Opening) (lent : ℕ) (desk : Desk) (answer known : Opened) → answer ≡ known → OpenGives o desk answer → OpensNumber o lent desk (handleOr known lent) (openedNumber known)
-opens-number o lent desk answer known k e = record {
-  number-is = ap openedNumber (sym k) ∙ e .number-is;
+pub opens-number : (o : Opening) (lent : ℕ) (desk : Desk) (answer : Opened) (handle number : ℕ)
+    → (number ≡ openedNumber answer) × (handle ≡ handleOr answer lent) → OpenGives o desk answer → OpensNumber o lent desk handle number
+opens-number o lent desk answer handle number k e = record {
+  number-is = k .0 ∙ e .number-is;
   desk-is = e .desk-is;
-  handle-is = ap (λ a. handleOr a lent) (sym k ∙ e .answer-is) ∙ handle-or (o .number) (o .handle) lent;
+  handle-is = k .1 ∙ (ap (λ a. handleOr a lent) (e .answer-is) ∙ handle-or (o .number) (o .handle) lent);
 }
 
 -- the served count of an answer, or what was lent
@@ -59,8 +60,9 @@ served-or : (r served lent : ℕ) → servedOr (countedAt r served) lent ≡ kep
 served-or zero served lent = refl
 served-or (suc r) served lent = refl
 
-pub reads-number : (o : Reading) (lent : ℕ) (answer known : Counted) → answer ≡ known → ReadGives o answer → ReadsNumber o lent (servedOr known lent) (countedNumber known)
-reads-number o lent answer known k e = record {
-  number-is = ap countedNumber (sym k) ∙ e .number-is;
-  served-is = ap (λ a. servedOr a lent) (sym k ∙ e .answer-is) ∙ served-or (o .number) (o .served) lent;
+pub reads-number : (o : Reading) (lent : ℕ) (answer : Counted) (served number : ℕ)
+    → (number ≡ countedNumber answer) × (served ≡ servedOr answer lent) → ReadGives o answer → ReadsNumber o lent served number
+reads-number o lent answer served number k e = record {
+  number-is = k .0 ∙ e .number-is;
+  served-is = k .1 ∙ (ap (λ a. servedOr a lent) (e .answer-is) ∙ served-or (o .number) (o .served) lent);
 }

@@ -16,11 +16,10 @@ ghost use Rattle.places.specs.Places.{extractedData};
 ghost use Rattle.judge.specs.Answer.{judgedNumber, judgedNumberOf};
 ghost use Rattle.recover.specs.Service.{recoverOf};
 ghost use Rattle.repair.specs.Service.{repairOf};
-ghost use Rattle.order.specs.Service.{recoverAfter};
 ghost use Rattle.encode.specs.Service.{encodedBuffer};
 ghost use Rattle.desk.specs.Desks.{freshDesk};
-ghost use Rattle.desk.specs.Calls.{openOf, readOf, closeOf, serveOf};
-ghost use Rattle.exports.specs.DeskCalls.{OpensNumber, ReadsNumber, ClosesNumber, ServesNumber};
+ghost use Rattle.desk.specs.Calls.{openOf, openedNumber, readOf, countedNumber, closeOf, serveOf};
+ghost use Rattle.exports.specs.DeskCalls.{OpensNumber, handleOr, ReadsNumber, servedOr, ClosesNumber, ServesNumber};
 
 // The number of an answer.
 fn number(answer: Answer) -> u8
@@ -194,76 +193,24 @@ pub extern "C" fn axlebloom_recover(
     number(recover::recover(m, w, c, word, marks))
 }
 
-// Repairs the groups in the list, one after another, and then recovers.
-#[no_mangle]
-pub extern "C" fn axlebloom_repair_then_recover(
-    m: usize,
-    w: usize,
-    c: usize,
-    word: &mut [u8],
-    marks: &mut [u8],
-    list: &[usize],
-) -> u8
-    ensures number { λ r. ⌜ r ≡ (recoverOf m w c (now (word .entry)) (now (marks .entry))) .number ⌝ }
-    ensures word { λ _. ⌜ now (word .exit) ≡ (recoverAfter m w c (now (list .entry)) (now (word .entry)) (now (marks .entry))) .word ⌝ }
-    ensures marks { λ _. ⌜ now (marks .exit) ≡ (recoverAfter m w c (now (list .entry)) (now (word .entry)) (now (marks .entry))) .marks ⌝ }
+// The number of what Open answers, with the handle written where it is wanted.
+fn opened_number(opened: Opened, handle: &mut u64) -> u8
+    ensures { λ r. ⌜ (r ≡ openedNumber opened) × (now (handle .exit) ≡ handleOr opened (now (handle .entry))) ⌝ }
 {
-    number(order::repair_then_recover(m, w, c, word, marks, list))
-}
-
-// The number of a call on the desk, and the desk then.
-struct Numbered {
-    desk: Desk,
-    number: u8,
-}
-
-// Close, by its number.
-fn close_number(desk: Desk, handle: u64) -> Numbered
-    ensures { λ r. ⌜ ClosesNumber (closeOf handle desk) (r .desk) (r .number) ⌝ }
-{
-    let after = desk::close(desk, handle);
-    let d = after.desk;
-    let answer = after.answer;
-    Numbered {
-        desk: d,
-        number: number(answer),
-    }
-}
-
-// Serve, by its number.
-fn serve_number(desk: Desk, handle: u64, word: &mut [u8]) -> Numbered
-    ensures { λ r. ⌜ ServesNumber (serveOf handle (now (word .entry)) desk) (now (word .exit)) (r .desk) (r .number) ⌝ }
-{
-    let after = desk::serve(desk, handle, word);
-    let d = after.desk;
-    let answer = after.answer;
-    Numbered {
-        desk: d,
-        number: number(answer),
-    }
-}
-
-// Open, by its number, with the handle written where it is wanted.
-fn open_number(desk: Desk, m: usize, w: usize, c: usize, marks: &[u8], handle: &mut u64) -> Numbered
-    ensures { λ r. ⌜ OpensNumber (openOf m w c (now (marks .entry)) desk) (now (handle .entry)) (r .desk) (now (handle .exit)) (r .number) ⌝ }
-{
-    let after = desk::open(desk, m, w, c, marks);
-    let d = after.desk;
-    let answer = after.answer;
-    match answer {
+    match opened {
         Opened::Handle(h) => {
             *handle = h;
-            Numbered { desk: d, number: 0 }
+            0
         }
-        Opened::Refused(r) => Numbered { desk: d, number: r },
+        Opened::Refused(r) => r,
     }
 }
 
-// Read, by its number, with the served count written where it is wanted.
-fn read_number(desk: Desk, handle: u64, served: &mut u32) -> u8
-    ensures { λ r. ⌜ ReadsNumber (readOf handle desk) (now (served .entry)) (now (served .exit)) r ⌝ }
+// The number of what Read answers, with the served count written where it is wanted.
+fn counted_number(counted: Counted, served: &mut u32) -> u8
+    ensures { λ r. ⌜ (r ≡ countedNumber counted) × (now (served .exit) ≡ servedOr counted (now (served .entry))) ⌝ }
 {
-    match desk::read(desk, handle) {
+    match counted {
         Counted::Served(n) => {
             *served = n;
             0
@@ -290,36 +237,26 @@ pub extern "C" fn axlebloom_open(
 ) -> u8
     ensures { λ r. ⌜ OpensNumber (openOf m w c (now (marks .entry)) (now (desk .entry))) (now (handle .entry)) (now (desk .exit)) (now (handle .exit)) r ⌝ }
 {
-    let d = *desk;
-    let r = open_number(d, m, w, c, marks, handle);
-    *desk = r.desk;
-    r.number
+    opened_number(desk::open_at(desk, m, w, c, marks), handle)
 }
 
 #[no_mangle]
 pub extern "C" fn axlebloom_serve(desk: &mut Desk, handle: u64, word: &mut [u8]) -> u8
     ensures { λ r. ⌜ ServesNumber (serveOf handle (now (word .entry)) (now (desk .entry))) (now (word .exit)) (now (desk .exit)) r ⌝ }
 {
-    let d = *desk;
-    let r = serve_number(d, handle, word);
-    *desk = r.desk;
-    r.number
+    number(desk::serve_at(desk, handle, word))
 }
 
 #[no_mangle]
 pub extern "C" fn axlebloom_read(desk: &Desk, handle: u64, served: &mut u32) -> u8
     ensures { λ r. ⌜ ReadsNumber (readOf handle (now (desk .entry))) (now (served .entry)) (now (served .exit)) r ⌝ }
 {
-    let d = *desk;
-    read_number(d, handle, served)
+    counted_number(desk::read_at(desk, handle), served)
 }
 
 #[no_mangle]
 pub extern "C" fn axlebloom_close(desk: &mut Desk, handle: u64) -> u8
     ensures { λ r. ⌜ ClosesNumber (closeOf handle (now (desk .entry))) (now (desk .exit)) r ⌝ }
 {
-    let d = *desk;
-    let r = close_number(d, handle);
-    *desk = r.desk;
-    r.number
+    number(desk::close_at(desk, handle))
 }

@@ -72,7 +72,12 @@ syndrome part e h l =
 -- ---- the lost places filled
 -- more than four are lost
 pub unchanged : (marks xs : List ℕ) (t : ℕ) → t ≡ lostIn (length marks) marks 0 → 4 < t → Filled marks xs xs
-unchanged marks xs t e h = record { size = refl; present = λ _ _. refl; zero = λ _ s l. let q = ap (λ w. lostIn w marks 0) s in absurd (omega arith) }
+unchanged marks xs t e h = record {
+  size = refl;
+  present = λ _ _. refl;
+  zero = λ _ s l. let q = ap (λ w. lostIn w marks 0) s in absurd (omega arith);
+  other = λ _. refl;
+}
 
 pub zeros-at : (n k i j : ℕ) → entry (replicate n (replicate k 0)) i j ≡ 0
 zeros-at zero k i j = refl
@@ -118,9 +123,10 @@ module _ (marks xs ys zs at : List ℕ) (Z M N : List (List ℕ)) (t : ℕ) (P :
         (λ i l. ap (λ l. getD l (getD at i 0) 0) hy ∙ placed-at xs at Z t (P .ascending) (P .inside) i l ∙ blank i) e
         ∙ ap (λ s. localSum bytes (length ys) ys 0 e ⊕ s) (solved e h) ∙ ⊕-self _
 
-    pub filled : t ≡ lostIn (length xs) marks 0 → Filled marks xs zs
-    filled ht = record {
+    pub filled : length marks ≡ length xs → t ≤ 4 → t ≡ lostIn (length xs) marks 0 → Filled marks xs zs
+    filled same few ht = record {
       size = ap length hz ∙ length-placed ys at N t ∙ same-size;
       present = kept;
       zero = λ _ _ _ e h. rw same-size at (sums-zero e (rw ht h));
+      other = λ n. absurd (n fits same (omega arith));
     }

@@ -1,4 +1,5 @@
 -- What filling a group does: present symbols stay, and with t lost places, at most four of at most sixteen, the first t syndromes are zero.
+-- In any other case nothing changes.
 use mathlib.Core.Path.{_≡_}
 use mathlib.Core.Bool.{false}
 use mathlib.Core.List.{List}
@@ -13,3 +14,4 @@ pub record Filled (marks before after : List ℕ) : Type 0 where
   pub present : (p : ℕ) → lost marks p ≡ false → getD after p 0 ≡ getD before p 0
   pub zero : length before ≤ 16 → length marks ≡ length before → lostIn (length before) marks 0 ≤ 4
       → (e : ℕ) → e < lostIn (length before) marks 0 → localSum bytes (length before) after 0 e ≡ 0
+  pub other : (length before ≤ 16 → length marks ≡ length before → lostIn (length before) marks 0 ≤ 4 → ⊥) → after ≡ before

@@ -13,7 +13,8 @@ use Rattle.judge.specs.Answer.{judgedNumberOf}
 use Rattle.desk.specs.declared.Job.{Job}
 use Rattle.desk.specs.declared.Desk.{Desk}
 use Rattle.desk.specs.Desks.{emptyJob, noJob, jobAt, isTaken, slotOf, isSound}
-use Rattle.desk.specs.Calls.{pick, freeFrom, freeSlot, openNumber, openBy, openOf, newJob, newHandle, handleRefusal, readBy, readOf, closeBy, closeOf, recoveryOf}
+use Rattle.desk.specs.Calls.{pick, freeFrom, freeSlot, openNumber, openBy, openOf, newJob, newHandle, handleRefusal, readBy, readOf, closeBy, closeOf}
+use Rattle.desk.specs.Calls.{recoveryOf}
 use Rattle.desk.specs.Calls.{jobNumber, serveNumber, serveBy, serveOf, servedOnce}
 use Rattle.history.specs.Effects.{slot-below, holdsHandle, handle-refusal}
 
@@ -109,7 +110,8 @@ module _ (m w c : ℕ) (marks : List ℕ) (d e : Desk) (size-d : length (d .jobs
   same-open : openNumber m w c marks d ≡ openNumber m w c marks e
   unfolding openNumber
   same-open =
-      ap (λ b. refuse 31 (not b) orElse judgedNumberOf m w c marks orElse refuse 10 (eqb (d .t) 65535) orElse refuse 11 (eqb (freeSlot d) 8)) (sound-d ∙ sym sound-e)
+      ap (λ b. refuse 31 (not b) orElse judgedNumberOf m w c marks orElse refuse 10 (eqb (d .t) 65535) orElse refuse 11 (eqb (freeSlot d) 8))
+      (sound-d ∙ sym sound-e)
       ∙ ap (λ t. refuse 31 (not (isSound e)) orElse judgedNumberOf m w c marks orElse refuse 10 (eqb t 65535) orElse refuse 11 (eqb (freeSlot d) 8)) same-t
       ∙ ap (λ s. refuse 31 (not (isSound e)) orElse judgedNumberOf m w c marks orElse refuse 10 (eqb (e .t) 65535) orElse refuse 11 (eqb s 8)) same-slot
 

@@ -2,8 +2,8 @@
 use mathlib.Core.Path.{_≡_, refl, sym, ap, _∙_, subst}
 use mathlib.Core.Bool.{Bool, true, false, not, _&&_, _||_, and-true, or-false, true≢false}
 use mathlib.Core.List.{List, [], _∷_}
-use Prim.Native.Nat.{ℕ, suc, _+_, _*_, _-_, _<_, _≤_}
-use native.Mathlib.Nat.{le-trans, le-refl}
+use Prim.Native.Nat.{ℕ, zero, suc, _+_, _*_, _-_, _<_, _≤_}
+use native.Mathlib.Nat.{le-trans, le-refl, le-of-suc-le-suc}
 use native.Mathlib.Omega.{arith}
 use native.Mathlib.Decide.{ℕ-discrete, decLt}
 use borrow.Author.Tests.{eqb-true, eqb-false, eq-eqb, ne-eqb, not-true, not-false}
@@ -15,11 +15,11 @@ use Rattle.judge.specs.Answer.{judgedNumberOf}
 use Rattle.desk.specs.declared.Job.{Job}
 use Rattle.desk.specs.declared.Desk.{Desk}
 use Rattle.desk.specs.Desks.{freshDesk, emptyJob, noJob, jobAt, isFree, isTaken, issueOf, slotOf, isIssued, isGood, isSoundSlot, isSound, isOpen}
-use Rattle.desk.specs.Meaning.{open-held}
 use Rattle.desk.specs.Calls.{handleRefusal, pick, freeFrom, freeSlot, newHandle, newJob, servedOnce}
-use Rattle.desk.specs.Laws.{Sound, sound-parts, false-of, judged-marked}
-use Rattle.history.specs.Put.{and-of, and-to, taken-of, slot-of-free, slot-of-taken, issued-of, issued-to, unique-of, once-of, put, put-same, put-other}
+use Rattle.desk.specs.Laws.{Sound, sound-parts, false-of, judged-marked, taken-of, open-slot}
+use Rattle.history.specs.Put.{and-of, and-to, slot-of-free, slot-of-taken, issued-of, issued-to, unique-of, once-of, put, put-same, put-other}
 use Rattle.history.specs.Put.{sound-put}
+use Rattle.history.specs.Meaning.{HeldIn}
 
 pub bool-same : (a b : Bool) → (a ≡ true → b ≡ true) → (b ≡ true → a ≡ true) → a ≡ b
 bool-same true b f g = sym (f refl)
@@ -28,6 +28,10 @@ bool-same false false f g = refl
 
 pub slot-below : (h : ℕ) → slotOf h < 8
 slot-below h = omega arith
+
+-- an open handle is held by the slot that it names
+pub open-held : (desk : Desk) (h : ℕ) → isOpen desk h ≡ true → HeldIn desk h (slotOf h)
+open-held desk h e = let p = open-slot desk h e in record { below = slot-below h; taken = p .0; held = p .1 }
 
 empty-free : isFree emptyJob ≡ true
 unfolding emptyJob
@@ -86,24 +90,35 @@ module _ (desk : Desk) (size : length (desk .jobs) ≡ 8) (S : Sound desk) (t s 
 
 -- ---- Open
 
--- where the search for a free slot ends
+-- where the search for a free slot ends: every slot before it is taken
 pub record Spot (jobs : List Job) (i : ℕ) : Type 0 where
   pub place : ℕ
   pub found : freeFrom jobs i ≡ i + place
   pub free : place < length jobs → isTaken (getD jobs place noJob) ≡ false
+  pub lower : (r : ℕ) → r < place → isTaken (getD jobs r noJob) ≡ true
 
 pub spot-of : (jobs : List Job) (i : ℕ) → Spot jobs i
 unfolding freeFrom
-spot-of [] i = record { place = 0; found = omega arith; free = λ h. absurd (omega arith) }
+spot-of [] i = record { place = 0; found = omega arith; free = λ h. absurd (omega arith); lower = λ r h. absurd (omega arith) }
 spot-of (job ∷ jobs) i = go (spot-of jobs (i + 1)) (isTaken job) refl
   where
+    before : (P : Spot jobs (i + 1)) → isTaken job ≡ true → (r : ℕ) → r < suc (P .place) → isTaken (getD (job ∷ jobs) r noJob) ≡ true
+    before P e zero h = e
+    before P e (suc r) h = P .lower r (le-of-suc-le-suc h)
+
     go : Spot jobs (i + 1) → (b : Bool) → isTaken job ≡ b → Spot (job ∷ jobs) i
     go P true e = let f = P .found in record {
       place = suc (P .place);
       found = ap (λ b. pick b (freeFrom jobs (i + 1)) i) e ∙ (omega arith);
       free = λ h. P .free (omega arith);
+      lower = before P e;
     }
-    go P false e = record { place = 0; found = ap (λ b. pick b (freeFrom jobs (i + 1)) i) e ∙ (omega arith); free = λ h. e }
+    go P false e = record {
+      place = 0;
+      found = ap (λ b. pick b (freeFrom jobs (i + 1)) i) e ∙ (omega arith);
+      free = λ h. e;
+      lower = λ r h. absurd (omega arith);
+    }
 
 pub free-slot : (desk : Desk) → length (desk .jobs) ≡ 8 → freeSlot desk < 8 → isTaken (jobAt desk (freeSlot desk)) ≡ false
 free-slot desk size l =

@@ -7,7 +7,7 @@ use Rattle.desk.specs.declared.Desk.{Desk}
 use Rattle.desk.specs.Desks.{freshDesk}
 use Rattle.desk.specs.Calls.{openOf, readOf, closeOf, serveOf}
 
--- The calls that change a desk or read it. Whether a handle is open is a question that leaves the desk as it was, so it is not listed.
+-- The calls on a desk.
 pub data Call : Type 0 where
   Fresh : Call
   Open : (m w c : ℕ) → (marks : List ℕ) → Call

@@ -7,3 +7,6 @@ pub mod Alone
 pub mod Others
 pub mod Task
 pub mod Saved
+pub mod Meaning
+pub mod MeaningLaws
+pub mod NumberLaws

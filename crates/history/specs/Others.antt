@@ -34,7 +34,8 @@ pub other-than : (h g : ℕ) → not (eqb h g) ≡ true → h ≡ g → ⊥
 other-than h g e k = true≢false (sym (eq-eqb h g k) ∙ not-true (eqb h g) e)
 
 module _ (h : ℕ) (desk : Desk) (F : Fit desk) (o : isOpen desk h ≡ true) where
-  pub open-other : (m w c : ℕ) (marks : List ℕ) (r : ℕ) → openNumber m w c marks desk ≡ r → jobAt (openBy r m w c marks desk .desk) (slotOf h) ≡ jobAt desk (slotOf h)
+  pub open-other : (m w c : ℕ) (marks : List ℕ) (r : ℕ) → openNumber m w c marks desk ≡ r
+      → jobAt (openBy r m w c marks desk .desk) (slotOf h) ≡ jobAt desk (slotOf h)
   open-other m w c marks zero e =
       let P = open-parts m w c marks desk (F .size) e in
       opened-job m w c marks desk (F .size) (F .sound) (P .judged) (P .early) (P .room) h o

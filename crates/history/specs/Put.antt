@@ -15,7 +15,7 @@ use Rattle.counting.specs.Test.{anyBelow, any-at}
 use Rattle.desk.specs.declared.Job.{Job}
 use Rattle.desk.specs.declared.Desk.{Desk}
 use Rattle.desk.specs.Desks.{noJob, jobAt, isFree, isTaken, issueOf, slotOf, isIssued, isGood, isSoundSlot, hasIssue, isTwice}
-use Rattle.desk.specs.Laws.{Sound, holds, false-of, any-true}
+use Rattle.desk.specs.Laws.{Sound, holds, false-of, any-true, Taken, isFit, taken-of}
 
 pub and-of : (a b : Bool) → a && b ≡ true → (a ≡ true) × (b ≡ true)
 and-of a b e = and-eq-true-iff a b .0 e
@@ -23,39 +23,15 @@ and-of a b e = and-eq-true-iff a b .0 e
 pub and-to : (a b : Bool) → a ≡ true → b ≡ true → a && b ≡ true
 and-to a b e f = and-eq-true-iff a b .1 (e, f)
 
--- a taken slot of a sound desk
-pub record Taken (t s : ℕ) (job : Job) : Type 0 where
-  pub good : isGood job ≡ true
-  pub place : slotOf (job .handle) ≡ s
-  pub issue : isIssued t (issueOf (job .handle)) ≡ true
-
 module _ (t s : ℕ) (job : Job) where
-  -- what soundness asks of a taken slot
-  abbrev taken : Bool
-  taken = isTaken job && isGood job && eqb (slotOf (job .handle)) s && isIssued t (issueOf (job .handle))
-
-  taken-test : taken ≡ true → Taken t s job
-  taken-test e =
-      let p = and-of (isTaken job && isGood job && eqb (slotOf (job .handle)) s) (isIssued t (issueOf (job .handle))) e in
-      let q = and-of (isTaken job && isGood job) (eqb (slotOf (job .handle)) s) (p .0) in
-      record { good = and-of (isTaken job) (isGood job) (q .0) .1; place = eqb-true _ _ (q .1); issue = p .1 }
-
-  pub taken-of : isSoundSlot t s job ≡ true → isTaken job ≡ true → Taken t s job
-  unfolding isSoundSlot
-  taken-of e k = go (isFree job) refl e
-    where
-      go : (b : Bool) → isFree job ≡ b → b || taken ≡ true → Taken t s job
-      go true f e = let a = eqb-true (job .taken) 0 f in let b = eqb-true (job .taken) 1 k in absurd (omega arith)
-      go false f e = taken-test e
-
   pub slot-of-free : isFree job ≡ true → isSoundSlot t s job ≡ true
   unfolding isSoundSlot
-  slot-of-free f = ap (λ b. b || taken) f
+  slot-of-free f = ap (λ b. b || isFit t s job) f
 
   pub slot-of-taken : isTaken job ≡ true → Taken t s job → isSoundSlot t s job ≡ true
   unfolding isSoundSlot
   slot-of-taken k T =
-      let e : taken ≡ true = and-to (isTaken job && isGood job && eqb (slotOf (job .handle)) s) (isIssued t (issueOf (job .handle)))
+      let e : isFit t s job ≡ true = and-to (isTaken job && isGood job && eqb (slotOf (job .handle)) s) (isIssued t (issueOf (job .handle)))
       (and-to (isTaken job && isGood job) (eqb (slotOf (job .handle)) s)
       (and-to (isTaken job) (isGood job) k (T .good)) (eq-eqb _ _ (T .place))) (T .issue) in
       ap (λ b. isFree job || b) e ∙ or-true (isFree job)
@@ -64,7 +40,7 @@ module _ (t s : ℕ) (job : Job) where
   unfolding isSoundSlot
   free-or-taken e = go (isFree job) refl e
     where
-      go : (b : Bool) → isFree job ≡ b → b || taken ≡ true → (isFree job ≡ true) ⊎ (isTaken job ≡ true)
+      go : (b : Bool) → isFree job ≡ b → b || isFit t s job ≡ true → (isFree job ≡ true) ⊎ (isTaken job ≡ true)
       go true f e = inl f
       go false f e = inr (and-of (isTaken job) (isGood job) (and-of (isTaken job && isGood job) (eqb (slotOf (job .handle)) s)
           (and-of (isTaken job && isGood job && eqb (slotOf (job .handle)) s) (isIssued t (issueOf (job .handle))) e .0) .0) .0)

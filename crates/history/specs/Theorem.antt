@@ -9,22 +9,21 @@ use native.Mathlib.Decide.{ℕ-discrete}
 use borrow.Author.Tests.{eqb-true, eqb-false, eq-eqb, ne-eqb, not-true}
 use lib.Dec.{eqb}
 use lib.ListN.{length}
-use Rattle.shape.specs.Refusals.{refuse, _orElse_, refuse-zero, orElse-zero}
-use Rattle.shape.specs.Shapes.{placeCount}
-use Rattle.desk.specs.declared.Job.{Job}
+use Rattle.shape.specs.Refusals.{refuse, _orElse_}
 use Rattle.desk.specs.declared.Desk.{Desk}
 use Rattle.desk.specs.Desks.{freshDesk, emptyJob, jobAt, issueOf, slotOf, isSound, isOpen}
-use Rattle.desk.specs.Calls.{handleRefusal, freeSlot, newHandle, newJob, openNumber, openBy, openOf, readBy, readOf, closeBy, closeOf, recoveryOf, jobNumber}
+use Rattle.desk.specs.Calls.{handleRefusal, freeSlot, newHandle, newJob, openNumber, openBy, openOf, readBy, readOf, closeBy, closeOf}
 use Rattle.desk.specs.Calls.{serveNumber, serveBy, serveOf, servedOnce}
 use Rattle.desk.specs.Laws.{Sound, sound-of, false-of}
 use Rattle.desk.specs.CallLaws.{Openable, open-parts}
-use Rattle.history.specs.History.{Call, Fresh, Open, Serve, Read, Close, step, after, grown, answers, Ledger, emptyLedger, noteBy, note, noted, ledgerOf, isIn}
-use Rattle.history.specs.History.{tally, times, isDistinct, isLive, servesOf}
+use Rattle.desk.specs.ServeLaws.{job-room}
+use Rattle.history.specs.History.{Call, Fresh, Open, Serve, Read, Close, step, after, grown, answers, Ledger, emptyLedger, noteBy, note, noted, ledgerOf}
+use Rattle.history.specs.History.{isIn, tally, times, isDistinct, isLive, servesOf}
 use Rattle.history.specs.Sound.{serve-parts}
 use Rattle.history.specs.Put.{and-of, and-to, put-size}
-use Rattle.history.specs.Effects.{slot-below, fresh-size, fresh-zero, fresh-free, fresh-sound, empty-not, holdsHandle, open-by-slot, opened, opened-sound}
-use Rattle.history.specs.Effects.{opened-open, opened-new, opened-job, new-issue, handle-parts, handle-done, closed, closed-sound, closed-open, other-job}
-use Rattle.history.specs.Effects.{served, served-sound, served-open, served-job}
+use Rattle.history.specs.Effects.{slot-below, fresh-size, fresh-zero, fresh-free, fresh-sound, empty-not, holdsHandle, open-by-slot, opened}
+use Rattle.history.specs.Effects.{opened-sound, opened-open, opened-new, opened-job, new-issue, handle-parts, handle-done, closed, closed-sound}
+use Rattle.history.specs.Effects.{closed-open, other-job, served, served-sound, served-open, served-job}
 
 or-right : (a b : Bool) → a || b ≡ false → b ≡ false
 or-right true b e = absurd (true≢false e)
@@ -248,18 +247,9 @@ close-step : (H : ℕ) (desk : Desk) (ledger : Ledger) → Kept desk ledger → 
 close-step H desk ledger K zero e = close-kept desk ledger K H (handle-parts H desk e .1)
 close-step H desk ledger K (suc r) e = K
 
--- 13 was not answered
-room-of : (job : Job) (word : List ℕ) → jobNumber job word ≡ 0 → job .served ≡ 4294967295 → ⊥
-unfolding jobNumber
-room-of job word e =
-    let rest = recoveryOf job word .number in
-    let p = orElse-zero (refuse 5 (not (eqb (length word) (placeCount (job .m) (job .w))))) (refuse 13 (eqb (job .served) 4294967295) orElse rest) e in
-    let q = orElse-zero (refuse 13 (eqb (job .served) 4294967295)) rest (p .1) in
-    eqb-false (job .served) 4294967295 (refuse-zero 12 _ (q .0))
-
 serve-step : (H : ℕ) (word : List ℕ) (desk : Desk) (ledger : Ledger) → Kept desk ledger → (r : ℕ) → serveNumber H word desk ≡ r
     → Kept (serveBy r H word desk .desk) (noteBy (Serve H word) (serveBy r H word desk .number) 0 ledger)
-serve-step H word desk ledger K zero e = let p = serve-parts H word desk e in serve-kept desk ledger K H (p .0) (room-of (jobAt desk (slotOf H)) word (p .1))
+serve-step H word desk ledger K zero e = let p = serve-parts H word desk e in serve-kept desk ledger K H (p .0) (job-room (jobAt desk (slotOf H)) word (p .1))
 serve-step H word desk ledger K (suc r) e = K
 
 -- ---- every call, and every list of calls

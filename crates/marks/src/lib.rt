@@ -1,13 +1,13 @@
 // Marks of lost places: their refusal, the count of one group and the excess of a whole pattern.
 ghost use mathlib.Core.Path.{_≡_};
-ghost use Prim.Native.Nat.{_-_, _*_};
+ghost use Prim.Native.Nat.{_-_, _*_, min};
 ghost use lib.ListN.{length};
 ghost use Rattle.shape.specs.Shapes.{Good};
 ghost use Rattle.code.specs.Marks.{lostIn, excess};
 ghost use Rattle.marks.specs.Refusal.{areMarks, marksRefusal};
 
 // Whether every mark is 0 or 1.
-pub fn are_marks(marks: &[u8]) -> bool
+fn are_marks(marks: &[u8]) -> bool
     ensures { λ r. ⌜ r ≡ areMarks (now (marks .entry)) ⌝ }
 {
     let mut i: usize = 0;
@@ -53,20 +53,32 @@ fn less(l: usize, c: usize) -> usize
     if c < l { l - c } else { 0 }
 }
 
-// The excess of the marks of a good shape.
+// The smaller of two numbers.
+fn smaller(l: usize, c: usize) -> usize
+    ensures { λ r. ⌜ r ≡ min l c ⌝ }
+{
+    if l < c { l } else { c }
+}
+
+// The excess of the marks of a good shape: the lost places less those that each group can fill by its own c checks.
+// A shape that is not good, or marks of another length, have none.
 pub fn excess_of(m: usize, w: usize, c: usize, marks: &[u8]) -> usize
     ensures { λ r. ⌜ (Good m w c → length (now (marks .entry)) ≡ m * w → r ≡ excess m w c (now (marks .entry))) ⌝ }
+    ensures { λ r. ⌜ ((Good m w c → length (now (marks .entry)) ≡ m * w → ⊥) → r ≡ 0) ⌝ }
 {
     if shape::word_refusal(m, w, c, marks.len()) != 0 {
         return 0;
     }
-    let mut x: usize = 0;
+    let mut lost: usize = 0;
+    let mut own: usize = 0;
     let mut g: usize = 0;
     while g < m {
         let a = g * w;
         let e = a + w;
-        x += less(lost_in(&marks[a..e]), c);
+        let l = lost_in(&marks[a..e]);
+        lost += l;
+        own += smaller(l, c);
         g += 1;
     }
-    x
+    less(lost, own)
 }

@@ -2,10 +2,10 @@
 use mathlib.Core.Path.{_≡_, sym, ap, _∙_}
 use mathlib.Core.Bool.{true, false, cond, not, _&&_, _||_}
 use mathlib.Core.List.{List, _++_, map}
-use Prim.Native.Nat.{ℕ, zero, suc, _-_, _%_, _/_, _≤_, _<_}
+use Prim.Native.Nat.{ℕ, zero, suc, _-_, _%_, _/_, _≤_}
 use native.Mathlib.Nat.{zero-add, sub-zero, zero-sub, suc-sub-suc}
 use native.Mathlib.Omega.{arith}
-use borrow.Author.Tests.{lt-leb, le-leb}
+use borrow.Author.Tests.{le-leb}
 use lib.Dec.{eqb}
 use lib.ListN.{length, take, drop, replicate, length-map, length-replicate}
 use lib.Seq.{sets, sets-eq}
@@ -15,10 +15,6 @@ use Rattle.text.specs.RecordLaws.{name-first, contents-later}
 use Rattle.text.specs.Padded.{padded}
 use Rattle.parse.specs.declared.Record.{Record}
 use Rattle.parse.specs.Held.{Holds}
-
-pub kind-long : (line : List ℕ) → 1024 < length line → 0 ≡ lineKind line
-unfolding lineKind
-kind-long line l = simp (lt-leb (length line) 1024 l)
 
 first-end : (line : List ℕ) → endOf 0 line ≡ length (toTab line)
 unfolding endOf

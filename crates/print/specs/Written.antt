@@ -21,6 +21,11 @@ unfolding written
 length-written out at text h =
     let a : at ≤ length out = omega arith in simp (length-append, length-take-le at out a, length-drop) (omega arith)
 
+-- the text is within what is written
+pub written-holds : (out : List ℕ) (at : ℕ) (text : List ℕ) → length text ≤ length (written out at text)
+unfolding written
+written-holds out at text = simp length-append (omega arith)
+
 drop-past : (p q : List ℕ) (n k : ℕ) → length p ≡ n → drop (n + k) (p ++ q) ≡ drop k q
 drop-past p q n k e = rw (← e) (drop-append-add p q k)
 

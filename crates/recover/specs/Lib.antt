@@ -1,2 +1,4 @@
 pub mod Service
 pub mod Attempt
+pub mod DemandTwo
+pub mod DemandTwoLaws

@@ -1,10 +1,11 @@
 // The service Recover.
 use shape::Answer;
 ghost use mathlib.Core.Path.{_≡_};
-ghost use Prim.Native.Nat.{_*_};
+ghost use Prim.Native.Nat.{_*_, _≤_};
 ghost use lib.ListN.{length};
 ghost use Rattle.shape.specs.Shapes.{Good};
-ghost use Rattle.shape.specs.Answers.{answerAt};
+ghost use Rattle.shape.specs.Answers.{answerAt, answerNumber};
+ghost use Rattle.code.specs.Marks.{excess};
 ghost use Rattle.recover.specs.Service.{recoverRefusal, recoverOf};
 ghost use Rattle.recover.specs.Attempt.{Attempt};
 
@@ -31,8 +32,28 @@ fn attempt(m: usize, w: usize, c: usize, word: &mut [u8], marks: &[u8], found: &
     if !syndrome::is_codeword(m, w, c, found) {
         return false;
     }
-    buffers::copy(found, word);
+    let end = word.len();
+    buffers::copy(&found[..end], &mut word[..end]);
     true
+}
+
+// What comes after the test of the excess: the codeword that agrees is written and all marks are cleared, or it answers 9 and changes nothing.
+fn recover_determined(m: usize, w: usize, c: usize, word: &mut [u8], marks: &mut [u8]) -> Answer
+    requires { ⌜ recoverRefusal m w c (now word) (now marks) ≡ 0 ⌝ }
+    requires { ⌜ excess m w c (now marks) ≤ 2 ⌝ }
+    ensures answer { λ r. ⌜ r ≡ answerAt ((recoverOf m w c (now (word .entry)) (now (marks .entry))) .number) ⌝ }
+    ensures word { λ _. ⌜ now (word .exit) ≡ (recoverOf m w c (now (word .entry)) (now (marks .entry))) .word ⌝ }
+    ensures marks { λ _. ⌜ now (marks .exit) ≡ (recoverOf m w c (now (word .entry)) (now (marks .entry))) .marks ⌝ }
+    ensures never_eight { λ r. ⌜ (answerNumber r ≡ 8 → ⊥) ⌝ }
+{
+    let n = word.len();
+    let mut found = [0u8; 240];
+    let done = attempt(m, w, c, word, marks, &mut found[..n]);
+    buffers::clear_if(done, marks);
+    if !done {
+        return Answer::Refused(9);
+    }
+    Answer::Done
 }
 
 // Recovers the whole word from its present bytes, or refuses and changes nothing.
@@ -48,12 +69,5 @@ pub fn recover(m: usize, w: usize, c: usize, word: &mut [u8], marks: &mut [u8]) 
     if 2 < marks::excess_of(m, w, c, marks) {
         return Answer::Refused(8);
     }
-    let n = word.len();
-    let mut found = [0u8; 240];
-    let done = attempt(m, w, c, word, marks, &mut found[..n]);
-    buffers::clear_if(done, marks);
-    if !done {
-        return Answer::Refused(9);
-    }
-    Answer::Done
+    recover_determined(m, w, c, word, marks)
 }

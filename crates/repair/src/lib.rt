@@ -43,10 +43,11 @@ fn repair_part(c: usize, part: &mut [u8], marks: &mut [u8]) -> u8
     }
     let w = part.len();
     let mut found = [0u8; 16];
-    if !attempt(c, part, marks, &mut found[..w]) {
+    let done = attempt(c, part, marks, &mut found[..w]);
+    buffers::clear_if(done, marks);
+    if !done {
         return 9;
     }
-    buffers::clear(marks);
     0
 }
 

@@ -7,3 +7,7 @@ use Rattle.syndrome.specs.declared.Sums.{Sums}
 
 abbrev pub acrossOf : ℕ → ℕ → ℕ → List ℕ → Sums
 acrossOf m w c word = record { first = firstAcross bytes m w c word; second = secondAcross bytes m w c word }
+
+-- what is given for a word that is not of a good shape's length
+abbrev pub noSums : Sums
+noSums = record { first = 0; second = 0 }

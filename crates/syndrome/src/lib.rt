@@ -1,12 +1,13 @@
 // The sums of a word's equations (its syndromes), and whether they are all zero.
 ghost use mathlib.Core.Path.{_≡_};
+ghost use mathlib.Core.Bool.{true, false};
 ghost use Prim.Native.Nat.{_*_, _≤_, _<_};
 ghost use lib.ListN.{length};
 ghost use Rattle.counting.specs.Test.{allBelow};
 ghost use Rattle.shape.specs.Shapes.{Good};
 ghost use Rattle.code.specs.Edition.{bytes};
-ghost use Rattle.code.specs.Word.{groupSum, coefficient, twisted, isLocal, firstAcross, secondAcross, isCodeword};
-ghost use Rattle.syndrome.specs.Across.{acrossOf};
+ghost use Rattle.code.specs.Word.{groupSum, coefficient, twisted, isLocal, isCodeword};
+ghost use Rattle.syndrome.specs.Across.{acrossOf, noSums};
 
 // What the two equations across sum up to.
 pub struct Sums {
@@ -14,11 +15,15 @@ pub struct Sums {
     pub second: u8,
 }
 
-// Whether the first c local sums of one group's stretch, of at most 16 places, are zero; false for c above 4.
+// Whether the first c local sums of one group's stretch are zero; false for more than 16 places or c above 4.
 pub fn local_zero(part: &[u8], c: usize) -> bool
     ensures { λ r. ⌜ (length (now (part .entry)) ≤ 16 → c ≤ 4 → r ≡ isLocal bytes (length (now (part .entry))) c (now (part .entry)) 0) ⌝ }
+    ensures { λ r. ⌜ ((length (now (part .entry)) ≤ 16 → c ≤ 4 → ⊥) → r ≡ false) ⌝ }
 {
     if 4 < c {
+        return false;
+    }
+    if 16 < part.len() {
         return false;
     }
     let mut e: usize = 0;
@@ -31,21 +36,37 @@ pub fn local_zero(part: &[u8], c: usize) -> bool
     true
 }
 
-// One group's part of the first sum across, from its stretch.
-pub fn group_first(part: &[u8], c: usize) -> u8
-    ensures { λ r. ⌜ (length (now (part .entry)) ≤ 16 → 1 ≤ c → c ≤ 4 → r ≡ groupSum bytes (length (now (part .entry))) (now (part .entry)) 0 (coefficient bytes c)) ⌝ }
+// Whether a stretch has at most 16 places and c is from 1 to 4.
+fn in_range(places: usize, c: usize) -> bool
+    ensures { λ r. ⌜ (r ≡ true → (places ≤ 16) × (1 ≤ c) × (c ≤ 4)) ⌝ }
+    ensures { λ r. ⌜ (r ≡ false → places ≤ 16 → 1 ≤ c → c ≤ 4 → ⊥) ⌝ }
 {
     if c == 0 {
+        return false;
+    }
+    if 4 < c {
+        return false;
+    }
+    places <= 16
+}
+
+// One group's part of the first sum across, from its stretch; 0 out of range.
+pub fn group_first(part: &[u8], c: usize) -> u8
+    ensures { λ r. ⌜ (length (now (part .entry)) ≤ 16 → 1 ≤ c → c ≤ 4 → r ≡ groupSum bytes (length (now (part .entry))) (now (part .entry)) 0 (coefficient bytes c)) ⌝ }
+    ensures { λ r. ⌜ ((length (now (part .entry)) ≤ 16 → 1 ≤ c → c ≤ 4 → ⊥) → r ≡ 0) ⌝ }
+{
+    if !in_range(part.len(), c) {
         return 0;
     }
     coefficients::first_sum(part, c - 1)
 }
 
-// The part of group g of the second sum across, from its stretch: 2^g stands before the group's sum.
+// The part of group g of the second sum across, from its stretch: 2^g stands before the group's sum. 0 out of range.
 pub fn group_second(part: &[u8], c: usize, g: usize) -> u8
     ensures { λ r. ⌜ (length (now (part .entry)) ≤ 16 → 1 ≤ c → c ≤ 4 → g < 15 → r ≡ groupSum bytes (length (now (part .entry))) (now (part .entry)) 0 (twisted bytes c g)) ⌝ }
+    ensures { λ r. ⌜ ((length (now (part .entry)) ≤ 16 → 1 ≤ c → c ≤ 4 → g < 15 → ⊥) → r ≡ 0) ⌝ }
 {
-    if c == 0 {
+    if !in_range(part.len(), c) {
         return 0;
     }
     if 14 < g {
@@ -57,9 +78,10 @@ pub fn group_second(part: &[u8], c: usize, g: usize) -> u8
     )
 }
 
-// The two sums across, of a good shape and a word of its length.
+// The two sums across, of a good shape and a word of its length; 0 for others.
 pub fn across(m: usize, w: usize, c: usize, word: &[u8]) -> Sums
     ensures { λ r. ⌜ (Good m w c → length (now (word .entry)) ≡ m * w → r ≡ acrossOf m w c (now (word .entry))) ⌝ }
+    ensures { λ r. ⌜ ((Good m w c → length (now (word .entry)) ≡ m * w → ⊥) → r ≡ noSums) ⌝ }
 {
     let mut first: u8 = 0;
     let mut second: u8 = 0;
@@ -78,25 +100,10 @@ pub fn across(m: usize, w: usize, c: usize, word: &[u8]) -> Sums
     Sums { first, second }
 }
 
-// The first of the two alone.
-pub fn first_across(m: usize, w: usize, c: usize, word: &[u8]) -> u8
-    ensures { λ r. ⌜ (Good m w c → length (now (word .entry)) ≡ m * w → r ≡ firstAcross bytes m w c (now (word .entry))) ⌝ }
-{
-    let s = across(m, w, c, word);
-    s.first
-}
-
-// The second of the two alone.
-pub fn second_across(m: usize, w: usize, c: usize, word: &[u8]) -> u8
-    ensures { λ r. ⌜ (Good m w c → length (now (word .entry)) ≡ m * w → r ≡ secondAcross bytes m w c (now (word .entry))) ⌝ }
-{
-    let s = across(m, w, c, word);
-    s.second
-}
-
-// Whether the local sums of every group are zero.
+// Whether the local sums of every group are zero; false for a shape or length that is refused.
 fn locals_zero(m: usize, w: usize, c: usize, word: &[u8]) -> bool
     ensures { λ r. ⌜ (Good m w c → length (now (word .entry)) ≡ m * w → r ≡ allBelow m (isLocal bytes w c (now (word .entry)))) ⌝ }
+    ensures { λ r. ⌜ ((Good m w c → length (now (word .entry)) ≡ m * w → ⊥) → r ≡ false) ⌝ }
 {
     if shape::word_refusal(m, w, c, word.len()) != 0 {
         return false;
@@ -113,9 +120,10 @@ fn locals_zero(m: usize, w: usize, c: usize, word: &[u8]) -> bool
     true
 }
 
-// Whether a word of a good shape's length is a codeword.
+// Whether a word of a good shape's length is a codeword; false for a shape or length that is refused.
 pub fn is_codeword(m: usize, w: usize, c: usize, word: &[u8]) -> bool
     ensures { λ r. ⌜ (Good m w c → length (now (word .entry)) ≡ m * w → r ≡ isCodeword bytes m w c (now (word .entry))) ⌝ }
+    ensures { λ r. ⌜ ((Good m w c → length (now (word .entry)) ≡ m * w → ⊥) → r ≡ false) ⌝ }
 {
     if !locals_zero(m, w, c, word) {
         return false;

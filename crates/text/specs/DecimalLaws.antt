@@ -102,6 +102,26 @@ digits-without y n (x ∷ xs) t =
     (not-T (eqb x y) (λ q. let z : isDigit x ≡ false = ap isDigit (eqb→eq x y q) ∙ n in rw z at (both-l (isDigit x) (allDigits xs) t)))
     (digits-without y n xs (both-r (isDigit x) (allDigits xs) t))
 
+-- nor does one below 48 in the text of any number
+below : (y a : ℕ) → y < a → T (not (eqb a y))
+below y a l = not-T (eqb a y) (λ q. let e = eqb→eq a y q in omega arith)
+
+pub decimal-without : (y x : ℕ) → y < 48 → T (without y (decimal x))
+unfolding decimal without
+decimal-without y x l = go (ltb x 10) (ltb x 100)
+  where
+    one : (a : ℕ) (rest : List ℕ) → T (without y rest) → T (without y ((48 + a) ∷ rest))
+    one a rest t = both-intro (not (eqb (48 + a) y)) (without y rest) (below y (48 + a) (omega arith)) t
+
+    two : (a b : ℕ) → T (without y ((48 + a) ∷ (48 + b) ∷ []))
+    two a b = one a ((48 + b) ∷ []) (one b [] tt)
+
+    go : (p q : Bool)
+        → T (without y (cond p ((48 + x) ∷ []) (cond q ((48 + x / 10) ∷ (48 + x % 10) ∷ []) ((48 + x / 100) ∷ (48 + x / 10 % 10) ∷ (48 + x % 10) ∷ []))))
+    go true q = one x [] tt
+    go false true = two (x / 10) (x % 10)
+    go false false = one (x / 100) ((48 + x / 10 % 10) ∷ (48 + x % 10) ∷ []) (two (x / 10 % 10) (x % 10))
+
 -- ---- only the text of a number is read as it
 
 -- what is known of a digit that was read

@@ -2,8 +2,10 @@ pub mod Decimal
 pub mod Fields
 pub mod Records
 pub mod Lines
+pub mod Input
 pub mod Padded
 pub mod DecimalLaws
 pub mod FieldLaws
 pub mod RecordLaws
 pub mod ReadBack
+pub mod InputLaws

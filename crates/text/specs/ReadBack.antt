@@ -9,7 +9,7 @@ use borrow.Author.Tests.{le-leb, lt-ltb}
 use lib.Dec.{T, eqb}
 use lib.ListN.{length, getD, replicate, length-append}
 use Rattle.text.specs.Decimal.{decimal, numberOf}
-use Rattle.text.specs.DecimalLaws.{decimal-number, number-never, without, number-decimal, decimal-short, decimal-digits, digits-without}
+use Rattle.text.specs.DecimalLaws.{decimal-number, number-never, without, number-decimal, decimal-short, decimal-digits, digits-without, decimal-without}
 use Rattle.text.specs.Fields.{fields, same, lostPlace, meaning}
 use Rattle.text.specs.FieldLaws.{toTab, later, fields-front, same-eq, meaning-of-number}
 use Rattle.text.specs.Records.{wordName, nameKind, lineName, contents, allUnder, lineKind, lineBytes, lineMarks}
@@ -108,18 +108,17 @@ pub line-parts : (name numbers : List ℕ) → lineOf name numbers ≡ (name ++ 
 unfolding lineOf
 line-parts name numbers = sym (append-assoc name (cells numbers) (10 ∷ []))
 
-without-append : (y : ℕ) (xs ys : List ℕ) → T (without y xs) → T (without y ys) → T (without y (xs ++ ys))
+pub without-append : (y : ℕ) (xs ys : List ℕ) → T (without y xs) → T (without y ys) → T (without y (xs ++ ys))
 unfolding without
 without-append y [] ys s t = t
 without-append y (x ∷ xs) ys s t =
     both-intro (not (eqb x y)) (without y (xs ++ ys)) (both-l (not (eqb x y)) (without y xs) s)
     (without-append y xs ys (both-r (not (eqb x y)) (without y xs) s) t)
 
-cells-feed : (word : List ℕ) → Bytes word → T (without 10 (cells word))
+cells-feed : (numbers : List ℕ) → T (without 10 (cells numbers))
 unfolding cells without
-cells-feed [] h = tt
-cells-feed (b ∷ word) h =
-    without-append 10 (decimal b) (cells word) (digits-without 10 refl (decimal b) (decimal-digits b (h 0))) (cells-feed word (λ i. h (suc i)))
+cells-feed [] = tt
+cells-feed (x ∷ numbers) = without-append 10 (decimal x) (cells numbers) (decimal-without 10 x (omega arith)) (cells-feed numbers)
 
-pub one-line : (name word : List ℕ) → T (without 10 name) → Bytes word → T (without 10 (name ++ cells word))
-one-line name word t h = without-append 10 name (cells word) t (cells-feed word h)
+pub one-line : (name numbers : List ℕ) → T (without 10 name) → T (without 10 (name ++ cells numbers))
+one-line name numbers t = without-append 10 name (cells numbers) t (cells-feed numbers)

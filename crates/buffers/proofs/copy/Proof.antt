@@ -14,7 +14,7 @@ abbrev μ-loop : tie.MeasureT-loop
 μ-loop from to₀ i₀ to i = length to₀ - i
 
 returns : tie.Need-returns Inv-loop μ-loop
-returns c = (λ e. absurd (c .if1 .taken e), refl)
+returns c = (λ e. absurd (c .if1 .taken e), (refl, λ _. refl))
 
 loop-holds : tie.Need-loop-holds Inv-loop μ-loop
 loop-holds c = (omega arith, omega arith, refl, λ k l. absurd (omega arith))
@@ -44,7 +44,7 @@ returns-2 : tie.Need-returns-2 Inv-loop μ-loop
 returns-2 c =
     let l = c .before .loop in
     let from = c .before .before .before .args .from .now in
-    ((λ _. passed-all (l .to) from (l .i) (l .inv .2 ∙ sym (l .inv .0)) (omega arith) (l .inv .3)), l .inv .2)
+    ((λ _. passed-all (l .to) from (l .i) (l .inv .2 ∙ sym (l .inv .0)) (omega arith) (l .inv .3)), (l .inv .2, λ n. absurd (n (l .inv .0))))
 
 pub copy-spec : {M : Type 1} → statement M
 copy-spec =

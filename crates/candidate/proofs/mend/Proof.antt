@@ -13,7 +13,7 @@ mend-one-requires : tie.Need-mend-one-requires
 mend-one-requires c κs =
     let f = c .before .before .before in
     let s = f .before .before .before .before in
-    let P = f .free-places .ensures in
+    let P = f .free-places .ensures .0 in
     let l = P .less 0 (omega arith) in
     (s .pre .0, (s .pre .1 .0, (omega arith, few-at (s .pre .1 .1 .1) P (s .pre .1 .1 .0) 0 (omega arith))))
 
@@ -24,13 +24,13 @@ returns : tie.Need-returns
 returns c =
     let g = c .before .before in
     let t = g .before .before in
-    Mended.one (rw (t .if1 .taken) at (t .before .before .free-places .ensures)) (g .mend-one .ensures)
+    Mended.one (rw (t .if1 .taken) at (t .before .before .free-places .ensures .0)) (g .mend-one .ensures)
 
 mend-two-requires : tie.Need-mend-two-requires
 mend-two-requires c κs =
     let f = c .before .before .before .before .before in
     let s = f .before .before .before .before in
-    let P = f .free-places .ensures in
+    let P = f .free-places .ensures .0 in
     let l = P .less 0 (omega arith) in
     let k = P .less 1 (omega arith) in (
       s .pre .0,
@@ -50,14 +50,14 @@ returns-2 : tie.Need-returns-2
 returns-2 c =
     let g = c .before .before in
     let t = g .before .before in
-    Mended.two (rw (t .if2 .taken) at (t .before .before .before .before .free-places .ensures)) (g .mend-two .ensures)
+    Mended.two (rw (t .if2 .taken) at (t .before .before .before .before .free-places .ensures .0)) (g .mend-two .ensures)
 
 returns-3 : tie.Need-returns-3
 returns-3 c =
     let f = c .before .before .before .before in
-    let k = f .free-places .ensures .most in
+    let k = f .free-places .ensures .0 .most in
     let e : f .free-places .result .count ≡ 0 = omega arith in
-    Mended.none (rw e at (f .free-places .ensures)) refl
+    Mended.none (rw e at (f .free-places .ensures .0)) refl
 
 pub mend-spec : {M : Type 1} → statement M
 mend-spec =

@@ -43,7 +43,7 @@ returns c =
       h = take (s .args .w) (v .way .result);
       way = v .way .ensures;
       u = u .one-unknown .result;
-      solved = rw (k .weights .ensures, x .across .ensures (s .pre .0) (s .pre .1 .0)) at (u .one-unknown .ensures);
+      solved = rw (k .weights .ensures, x .across .ensures .0 (s .pre .0) (s .pre .1 .0)) at (u .one-unknown .ensures);
       is = d .add-direction .ensures;
     }
 

@@ -29,8 +29,8 @@ returns c =
     let a = s .args in
     let n = length-take (a .w) (a .t5) in
     weights-of (a .m) (a .w) (a .c) (a .g) (take (a .w) (a .t5)) (s .pre .1) (omega arith)
-    (c .before .before .group-first .ensures (omega arith) (omega arith) (omega arith))
-    (c .group-second .ensures (omega arith) (omega arith) (omega arith) (omega arith))
+    (c .before .before .group-first .ensures .0 (omega arith) (omega arith) (omega arith))
+    (c .group-second .ensures .0 (omega arith) (omega arith) (omega arith) (omega arith))
 
 pub weights-spec : {M : Type 1} → statement M
 weights-spec =

@@ -10,10 +10,10 @@ use Rattle.desk.proofs.free_slot.Statement.{statement}
 use Rattle.desk.proofs.free_slot.Tie as tie
 
 abbrev Inv-loop : tie.InvT-loop
-Inv-loop desk s₀ s = (s ≤ 8) × (length (desk .jobs) ≡ 8) × (freeFrom (drop s (desk .jobs)) s ≡ freeFrom (desk .jobs) 0)
+Inv-loop desk slot₀ slot = (slot ≤ 8) × (length (desk .jobs) ≡ 8) × (freeFrom (drop slot (desk .jobs)) slot ≡ freeFrom (desk .jobs) 0)
 
 abbrev μ-loop : tie.MeasureT-loop
-μ-loop desk s₀ s = 8 - s
+μ-loop desk slot₀ slot = 8 - slot
 
 loop-holds : tie.Need-loop-holds Inv-loop μ-loop
 loop-holds c = (omega arith, jobs-long (c .args .t1) _ (c .good .0), refl)
@@ -27,10 +27,10 @@ element-copy-out-job c = omega arith
 returns : tie.Need-returns Inv-loop μ-loop
 returns c =
     let l = c .before .before .before .before in
-    sym (free-here (l .before .args .t1 .jobs) (l .loop .s) (omega arith) (ne-eqb _ _ (c .if1 .taken))) ∙ l .loop .inv .2
+    sym (free-here (l .before .args .t1 .jobs) (l .loop .slot) (omega arith) (ne-eqb _ _ (c .if1 .taken))) ∙ l .loop .inv .2
 
-add-s : tie.Need-add-s Inv-loop μ-loop
-add-s c = omega arith
+add-slot : tie.Need-add-slot Inv-loop μ-loop
+add-slot c = omega arith
 
 loop-less : tie.Need-loop-less Inv-loop μ-loop
 loop-less c = omega arith
@@ -38,12 +38,12 @@ loop-less c = omega arith
 loop-again : tie.Need-loop-again Inv-loop μ-loop
 loop-again c =
     let l = c .before .before .before .before in
-    (omega arith, l .loop .inv .1, free-later (l .before .args .t1 .jobs) (l .loop .s) (omega arith) (eq-eqb _ _ (c .if1 .left)) ∙ l .loop .inv .2)
+    (omega arith, l .loop .inv .1, free-later (l .before .args .t1 .jobs) (l .loop .slot) (omega arith) (eq-eqb _ _ (c .if1 .left)) ∙ l .loop .inv .2)
 
 returns-2 : tie.Need-returns-2 Inv-loop μ-loop
 returns-2 c =
     let l = c .before in
-    sym (free-end (l .before .args .t1 .jobs) (l .loop .s) (omega arith)) ∙ l .loop .inv .2
+    sym (free-end (l .before .args .t1 .jobs) (l .loop .slot) (omega arith)) ∙ l .loop .inv .2
 
 pub free-slot-spec : {M : Type 1} → statement M
 free-slot-spec =
@@ -55,7 +55,7 @@ free-slot-spec =
     mul-job
     element-copy-out-job
     returns
-    add-s
+    add-slot
     loop-less
     loop-again
     returns-2)

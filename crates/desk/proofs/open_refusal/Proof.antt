@@ -1,6 +1,7 @@
-use mathlib.Core.Path.{_≡_, sym, _∙_}
+use mathlib.Core.Path.{_≡_, sym, ap, _∙_}
 use mathlib.Core.Bool.{true, false}
-use borrow.Author.Tests.{not-true, not-false, eq-eqb, ne-eqb}
+use borrow.Author.Tests.{not-true, not-false}
+use lib.Dec.{eqb}
 use Rattle.marks.specs.Refusal.{orElse-first}
 use Rattle.judge.specs.Answer.{judgedNumberOf}
 use Rattle.desk.specs.Desks.{isSound}
@@ -30,18 +31,19 @@ returns-2 c =
     let j = c .before .judged .ensures in
     simp e (j ∙ sym (orElse-first _ _ (λ z. c .if2 .taken (j ∙ z))))
 
+free-slot-requires : tie.Need-free-slot-requires
+free-slot-requires c κs = search needs
+
 returns-3 : tie.Need-returns-3
 unfolding openNumber
 returns-3 c =
-    let k = c .before .before in
+    let k = c .before .before .before in
     let b = k .before .before in
     let a = b .before .before .before .args in
     let e : isSound (a .desk) ≡ true = sym (b .before .is-sound .ensures) ∙ not-false _ (b .if1 .left) in
     let z : judgedNumberOf (a .m) (a .w) (a .c) (a .marks .now) ≡ 0 = sym (k .before .judged .ensures) ∙ k .if2 .left in
-    simp (e, z, eq-eqb (a .desk .t) 65535 (c .if3 .taken))
-
-free-slot-requires : tie.Need-free-slot-requires
-free-slot-requires c κs = search needs
+    let t : eqb (a .desk .t) 65535 ≡ true = c .if3 .taken in
+    simp (e, z, t)
 
 returns-4 : tie.Need-returns-4
 unfolding openNumber
@@ -52,7 +54,9 @@ returns-4 c =
     let a = b .before .before .before .args in
     let e : isSound (a .desk) ≡ true = sym (b .before .is-sound .ensures) ∙ not-false _ (b .if1 .left) in
     let z : judgedNumberOf (a .m) (a .w) (a .c) (a .marks .now) ≡ 0 = sym (k .before .judged .ensures) ∙ k .if2 .left in
-    simp (e, z, ne-eqb (a .desk .t) 65535 (h .if3 .left), eq-eqb (freeFrom (a .desk .jobs) 0) 8 (sym (c .before .free-slot .ensures) ∙ c .if4 .taken))
+    let t : eqb (a .desk .t) 65535 ≡ false = c .before .if3 .left in
+    let f : eqb (freeFrom (a .desk .jobs) 0) 8 ≡ true = ap (λ s. eqb s 8) (sym (h .free-slot .ensures)) ∙ c .if4 .taken in
+    simp (e, z, t, f)
 
 returns-5 : tie.Need-returns-5
 unfolding openNumber
@@ -63,7 +67,9 @@ returns-5 c =
     let a = b .before .before .before .args in
     let e : isSound (a .desk) ≡ true = sym (b .before .is-sound .ensures) ∙ not-false _ (b .if1 .left) in
     let z : judgedNumberOf (a .m) (a .w) (a .c) (a .marks .now) ≡ 0 = sym (k .before .judged .ensures) ∙ k .if2 .left in
-    simp (e, z, ne-eqb (a .desk .t) 65535 (h .if3 .left), ne-eqb (freeFrom (a .desk .jobs) 0) 8 (λ q. c .if4 .left (c .before .free-slot .ensures ∙ q)))
+    let t : eqb (a .desk .t) 65535 ≡ false = c .before .if3 .left in
+    let f : eqb (freeFrom (a .desk .jobs) 0) 8 ≡ false = ap (λ s. eqb s 8) (sym (h .free-slot .ensures)) ∙ c .if4 .left in
+    simp (e, z, t, f)
 
 pub open-refusal-spec : {M : Type 1} → statement M
 open-refusal-spec =
@@ -73,7 +79,7 @@ open-refusal-spec =
     returns
     judged-requires
     returns-2
-    returns-3
     free-slot-requires
+    returns-3
     returns-4
     returns-5)

@@ -4,7 +4,7 @@ use Rattle.shape.specs.declared.Answer.{Answer}
 use Rattle.shape.specs.Answers.{answerAt, answer-refused}
 use Rattle.shape.specs.Refusals.{unlessRefused, unless-refused}
 use Rattle.desk.specs.Desks.{slotOf, jobAt}
-use Rattle.desk.specs.Calls.{recoveryOf, jobNumber, serveBy, serveOf}
+use Rattle.desk.specs.Calls.{withJob, recoveryOf, jobNumber, serveBy, serveOf}
 use Rattle.desk.specs.CallLaws.{serve-refused}
 use Rattle.desk.specs.ServeLaws.{answer-done, answer-number-is, answer-some, open-good, job-room, serve-handle, serve-job}
 use borrow.Author.Needs.{needs}
@@ -39,19 +39,19 @@ enum-known-r c = search needs
 enum-told : tie.Need-enum-told
 enum-told c = search needs
 
-add-job : tie.Need-add-job
-add-job c =
-    let k = c .before .before .before .before .before in
+served-once-requires : tie.Need-served-once-requires
+served-once-requires c κs =
+    let k = c .before .before .before .before in
     let a = k .before .before .before .before .before .before .args in
     let j = jobAt (a .t1) (slotOf (a .handle)) in
-    let z : jobNumber j (a .word .now) ≡ 0 = answer-done _ (sym (k .serve-job .ensures .0) ∙ c .before .enum-told .given .1) in
-    let h = job-room j (a .word .now) z in omega arith
+    let z : jobNumber j (a .word .now) ≡ 0 = answer-done _ (sym (k .serve-job .ensures .0) ∙ c .enum-told .given .1) in
+    job-room j (a .word .now) z
 
-mul-job-2 : tie.Need-mul-job-2
-mul-job-2 c = search needs
+mul-raised : tie.Need-mul-raised
+mul-raised c = search needs
 
-element-set-from-job : tie.Need-element-set-from-job
-element-set-from-job c = search needs
+element-set-from-raised : tie.Need-element-set-from-raised
+element-set-from-raised c = search needs
 
 same-length : tie.Need-same-length
 same-length c = search needs
@@ -93,7 +93,7 @@ returns-3 c =
     rw e
     (record {
       word-is = k .serve-job .ensures .1 ∙ ap (λ n. unlessRefused n ((recoveryOf j (a .word .now)) .word) (a .word .now)) z;
-      desk-is = refl;
+      desk-is = ap (withJob (a .t1) (slotOf (a .handle))) (c .served-once .ensures);
       answer-is = refl;
       number-is = refl;
     })
@@ -109,9 +109,9 @@ serve-spec =
     serve-job-requires
     enum-known-r
     enum-told
-    add-job
-    mul-job-2
-    element-set-from-job
+    served-once-requires
+    mul-raised
+    element-set-from-raised
     same-length
     returns-2
     same-length-2

@@ -1,5 +1,6 @@
 use borrow.Author.Needs.{needs}
 use Rattle.erasures.specs.Places.{free-none, free-one, free-two}
+use Rattle.erasures.specs.FirstTwo.{two-none, two-one, two-two}
 use Rattle.erasures.proofs.free_places.Statement.{statement}
 use Rattle.erasures.proofs.free_places.Tie as tie
 
@@ -9,7 +10,10 @@ next-free-requires c κs = search needs
 returns : tie.Need-returns
 returns c =
     let a = c .before .before .before .before .args in
-    free-none (a .marks .now) (a .kept .now) (c .before .next-free .result) (c .before .next-free .ensures) (c .if1 .taken)
+    let n = c .before .next-free in (
+      free-none (a .marks .now) (a .kept .now) (n .result) (n .ensures) (c .if1 .taken),
+      two-none (a .marks .now) (a .kept .now) (n .result) (n .ensures) (c .if1 .taken),
+    )
 
 add-after : tie.Need-add-after
 add-after c = search needs
@@ -21,15 +25,23 @@ returns-2 : tie.Need-returns-2
 returns-2 c =
     let f = c .before .before .before in
     let a = f .before .before .before .args in
-    free-one (a .marks .now) (a .kept .now) (f .next-free .result) (f .next-free .ensures) (c .before .before .if1 .left) (c .before .next-free2 .result)
-    (c .before .next-free2 .ensures) (c .if2 .taken)
+    let n = f .next-free in
+    let i = c .before .before .if1 .left in
+    let k = c .before .next-free2 in (
+      free-one (a .marks .now) (a .kept .now) (n .result) (n .ensures) i (k .result) (k .ensures) (c .if2 .taken),
+      two-one (a .marks .now) (a .kept .now) (n .result) (n .ensures) i (k .result) (k .ensures) (c .if2 .taken),
+    )
 
 returns-3 : tie.Need-returns-3
 returns-3 c =
     let f = c .before .before .before in
     let a = f .before .before .before .args in
-    free-two (a .marks .now) (a .kept .now) (f .next-free .result) (f .next-free .ensures) (c .before .before .if1 .left) (c .before .next-free2 .result)
-    (c .before .next-free2 .ensures) (c .if2 .left)
+    let n = f .next-free in
+    let i = c .before .before .if1 .left in
+    let k = c .before .next-free2 in (
+      free-two (a .marks .now) (a .kept .now) (n .result) (n .ensures) i (k .result) (k .ensures) (c .if2 .left),
+      two-two (a .marks .now) (a .kept .now) (n .result) (n .ensures) i (k .result) (k .ensures) (c .if2 .left),
+    )
 
 pub free-places-spec : {M : Type 1} → statement M
 free-places-spec =

@@ -3,6 +3,7 @@ use Prim.Native.Nat.{_+_, _-_, _*_, _≤_}
 use native.Mathlib.Omega.{arith}
 use lib.ListN.{length}
 use borrow.Author.Needs.{needs}
+use Rattle.shape.specs.Shapes.{Good}
 use Rattle.shape.specs.Laws.{good-of-word, word-of-good}
 use Rattle.erasures.specs.Whole.{KeptUpTo, upto-none, kept-all}
 use Rattle.erasures.proofs.Laws.{room, group-step}
@@ -10,7 +11,7 @@ use Rattle.erasures.proofs.keep.Statement.{statement}
 use Rattle.erasures.proofs.keep.Tie as tie
 
 abbrev Inv-loop : tie.InvT-loop
-Inv-loop m w c marks₀ last g₀ marks g = (g ≤ m) × (1 ≤ m) × (length marks₀ ≡ m * w) × KeptUpTo g w c marks₀ marks
+Inv-loop m w c marks₀ last g₀ marks g = (g ≤ m) × Good m w c × (length marks₀ ≡ m * w) × KeptUpTo g w c marks₀ marks
 
 abbrev μ-loop : tie.MeasureT-loop
 μ-loop m w c marks₀ last g₀ marks g = m - g
@@ -21,7 +22,9 @@ word-refusal-requires c κs = search needs
 returns : tie.Need-returns Inv-loop μ-loop
 returns c =
     let a = c .before .before .before .args in
-    (λ G e. absurd (c .if1 .taken (c .before .word-refusal .ensures ∙ word-of-good (a .m) (a .w) (a .c) (length (a .marks .now)) G e)), refl)
+    let n : Good (a .m) (a .w) (a .c) → length (a .marks .now) ≡ a .m * a .w → ⊥ =
+    λ G e. c .if1 .taken (c .before .word-refusal .ensures ∙ word-of-good (a .m) (a .w) (a .c) (length (a .marks .now)) G e) in
+    (λ G e. absurd (n G e), (refl, (λ G e. absurd (n G e), λ _. refl)))
 
 sub-last : tie.Need-sub-last Inv-loop μ-loop
 sub-last c =
@@ -32,7 +35,7 @@ loop-holds : tie.Need-loop-holds Inv-loop μ-loop
 loop-holds c =
     let a = c .before .before .before .args in
     let G = good-of-word (a .m) (a .w) (a .c) (length (a .marks .now)) (sym (c .before .word-refusal .ensures) ∙ c .if1 .left) in
-    (omega arith, G .0 .some, G .1, upto-none (a .w) (a .c) (a .marks .now))
+    (omega arith, G .0, G .1, upto-none (a .w) (a .c) (a .marks .now))
 
 mul-a : tie.Need-mul-a Inv-loop μ-loop
 mul-a c =
@@ -85,9 +88,10 @@ returns-2 : tie.Need-returns-2 Inv-loop μ-loop
 returns-2 c =
     let s = c .before in
     let a = s .before .before .before .before .args in
-    let K = s .loop .inv .3 in
+    let i = s .loop .inv in
     let e : s .loop .g ≡ a .m = omega arith in
-    (λ _ n. kept-all (a .m) (a .w) (a .c) (a .marks .now) (s .loop .marks) n (subst (λ h. KeptUpTo h (a .w) (a .c) (a .marks .now) (s .loop .marks)) e K), K .size)
+    let K = subst (λ h. KeptUpTo h (a .w) (a .c) (a .marks .now) (s .loop .marks)) e (i .3) in
+    (λ _ n. kept-all (a .m) (a .w) (a .c) (a .marks .now) (s .loop .marks) n K, (K .size, (λ _ _. K .equal, λ n. absurd (n (i .1) (i .2)))))
 
 pub keep-spec : {M : Type 1} → statement M
 keep-spec =

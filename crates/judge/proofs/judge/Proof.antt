@@ -41,7 +41,7 @@ answered c =
     let a = t .before .before .before .args in
     let e : marksRefusal (a .m) (a .w) (a .c) (a .marks .now) ≡ 0 = sym (t .before .marks-refusal .ensures) ∙ t .if1 .left in
     let g = good-of-marks (a .m) (a .w) (a .c) (a .marks .now) e in
-    ap judgedAt (ap (λ n. refuse 8 (ltb 2 n)) (c .excess-of .ensures (g .good) (g .size)) ∙ sym (number-of (a .m) (a .w) (a .c) (a .marks .now) e))
+    ap judgedAt (ap (λ n. refuse 8 (ltb 2 n)) (c .excess-of .ensures .0 (g .good) (g .size)) ∙ sym (number-of (a .m) (a .w) (a .c) (a .marks .now) e))
 
 returns-2 : tie.Need-returns-2
 returns-2 c =

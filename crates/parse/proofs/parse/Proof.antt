@@ -3,12 +3,13 @@ use native.Mathlib.Omega.{arith}
 use borrow.Author.Tests.{not-true, not-false}
 use borrow.Author.Needs.{needs}
 use lib.Seq.{length-take-le}
-use Rattle.parse.proofs.LineKinds.{kind-long, kind-over, kind-under, holds}
+use Rattle.text.specs.RecordLaws.{kind-long}
+use Rattle.parse.proofs.LineKinds.{kind-over, kind-under, holds}
 use Rattle.parse.proofs.parse.Statement.{statement}
 use Rattle.parse.proofs.parse.Tie as tie
 
 returns : tie.Need-returns
-returns c = (kind-long (c .before .before .args .line .now) (omega arith), λ n. absurd (n refl))
+returns c = (sym (kind-long (c .before .before .args .line .now) (omega arith)), λ n. absurd (n refl))
 
 field-end-requires : tie.Need-field-end-requires
 field-end-requires c κs = search needs

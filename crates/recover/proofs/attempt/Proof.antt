@@ -1,15 +1,28 @@
 use mathlib.Core.Path.{_≡_, sym, _∙_, subst}
 use mathlib.Core.Bool.{true, false}
+use mathlib.Core.List.{List, _++_, append-nil}
+use Prim.Native.Nat.{ℕ, _*_, _≤_}
+use native.Mathlib.Omega.{arith}
+use lib.ListN.{length, take, drop, drop-of-length-le}
+use lib.Seq.{take-all, length-take-le}
 use borrow.Author.Tests.{not-true, not-false}
+use Rattle.shape.specs.Shapes.{Good}
+use Rattle.groups.specs.Lent.{end-fits}
 use Rattle.recover.specs.Attempt.{Attempt, attempt-done, attempt-failed}
 use borrow.Author.Needs.{needs}
 use Rattle.recover.proofs.attempt.Statement.{statement}
 use Rattle.recover.proofs.attempt.Tie as tie
-use Rattle.recover.proofs.attempt.Reads as reads
-use Rattle.recover.proofs.attempt.Lts as lts
-use Rattle.buffers.proofs.copy.Reads as copy-reads
-use Rattle.candidate.proofs.candidate.Reads as candidate-reads
-use Rattle.syndrome.proofs.is_codeword.Reads as is-codeword-reads
+
+-- all of x written over word
+whole : (x word y : List ℕ) → length x ≡ length word → y ≡ take (length word) x → y ++ drop (length word) word ≡ x
+whole x word y e h =
+    let l : length word ≤ length word = omega arith in
+    let k : length x ≤ length word = omega arith in
+    rw (h, drop-of-length-le word, take-all, append-nil)
+
+-- a word has room for a group at least
+one-group : {m w c : ℕ} → Good m w c → (word : List ℕ) → length word ≡ m * w → w ≤ length word
+one-group {m} {w} {c} good word e = omega (arith, end-fits {xs = word} (record { good = good; size = e }) 0 (good .some))
 
 candidate-requires : tie.Need-candidate-requires
 candidate-requires c κs = search needs
@@ -29,7 +42,25 @@ returns c =
     let a = cand .before .before .before .before .before .before in
     let C = cand .candidate .ensures .0 (a .pre .0) (a .pre .1 .0) (a .pre .1 .1 .0) (a .pre .1 .1 .1) in
     attempt-failed (a .args .m) (a .args .w) (a .args .c) (a .args .marks .now) (a .args .word .now) _ C
-    (sym (c .before .is-codeword .ensures (a .pre .0) (C .size)) ∙ not-true _ (c .if1 .taken))
+    (sym (c .before .is-codeword .ensures .0 (a .pre .0) (C .size)) ∙ not-true _ (c .if1 .taken))
+
+slice-reshare-prefix-copy : tie.Need-slice-reshare-prefix-copy
+slice-reshare-prefix-copy c =
+    let cand = c .before .before .before .before .before in
+    let a = cand .before .before .before .before .before .before in
+    let C = cand .candidate .ensures .0 (a .pre .0) (a .pre .1 .0) (a .pre .1 .1 .0) (a .pre .1 .1 .1) in
+    omega (arith, C .size, a .pre .1 .0, one-group (a .pre .0) (a .args .word .now) (a .pre .1 .0))
+
+slice-aggregate-copy : tie.Need-slice-aggregate-copy
+slice-aggregate-copy c = sym (length-take-le _ _ (slice-reshare-prefix-copy (c .before)))
+
+slice-relend-prefix-copy : tie.Need-slice-relend-prefix-copy
+slice-relend-prefix-copy c =
+    let a = c .before .before .before .before .before .before .before .before .before .before .before .before in
+    omega (arith, one-group (a .pre .0) (a .args .word .now) (a .pre .1 .0))
+
+slice-aggregate-copy-2 : tie.Need-slice-aggregate-copy-2
+slice-aggregate-copy-2 c = sym (length-take-le _ _ (slice-relend-prefix-copy (c .before)))
 
 copy-requires : tie.Need-copy-requires
 copy-requires c κs = search needs
@@ -48,10 +79,12 @@ returns-2 c =
     let cand = known .before .before in
     let a = cand .before .before .before .before .before .before in
     let C = cand .candidate .ensures .0 (a .pre .0) (a .pre .1 .0) (a .pre .1 .1 .0) (a .pre .1 .1 .1) in
-    subst (λ z. Attempt (a .args .m) (a .args .w) (a .args .c) (a .args .marks .now) (a .args .word .now) z true) (sym (copied .copy .ensures .0 (C .size ∙ sym (a .pre .1 .0))))
+    let same = sym (slice-aggregate-copy (copied .before .before)) ∙ slice-aggregate-copy-2 (copied .before) in
+    subst (λ z. Attempt (a .args .m) (a .args .w) (a .args .c) (a .args .marks .now) (a .args .word .now) z true)
+    (sym (whole _ (a .args .word .now) _ (C .size ∙ sym (a .pre .1 .0)) (copied .copy .ensures .0 same)))
     (attempt-done (a .args .m) (a .args .w) (a .args .c) (a .args .marks .now) (a .args .word .now) _ C
     (λ p. known .slice-known3 .given p .fits)
-    (sym (e .before .is-codeword .ensures (a .pre .0) (C .size)) ∙ not-false _ (e .if1 .left)))
+    (sym (e .before .is-codeword .ensures .0 (a .pre .0) (C .size)) ∙ not-false _ (e .if1 .left)))
 
 pub attempt-spec : {M : Type 1} → statement M
 attempt-spec =
@@ -62,6 +95,10 @@ attempt-spec =
     same-length
     same-length-2
     returns
+    slice-reshare-prefix-copy
+    slice-aggregate-copy
+    slice-relend-prefix-copy
+    slice-aggregate-copy-2
     copy-requires
     same-length-3
     same-length-4

@@ -1,12 +1,9 @@
 use mathlib.Core.Path.{_≡_, sym, ap, _∙_}
 use Prim.Native.Nat.{_≤_}
 use native.Mathlib.Omega.{arith}
-use borrow.Author.Tests.{not-true, not-false}
-use lib.Seq.{length-take-le}
 use Rattle.shape.specs.Answers.{answerAt, answer-refused}
-use Rattle.shape.specs.Laws.{places-most}
 use Rattle.code.specs.Marks.{excess}
-use Rattle.recover.specs.Attempt.{Accepted, accepted, service-refused, service-eight, service-nine, service-done}
+use Rattle.recover.specs.Attempt.{Accepted, accepted, service-refused, service-eight}
 use borrow.Author.Needs.{needs}
 use Rattle.recover.proofs.recover.Statement.{statement}
 use Rattle.recover.proofs.recover.Tie as tie
@@ -49,7 +46,7 @@ returns-2 c =
     let t = x .before .before in
     let k = t .before .before .before .before .before in
     let a = k .before .args in
-    let h = x .excess-of .ensures (fair t .good) (fair t .marks-size) in
+    let h = x .excess-of .ensures .0 (fair t .good) (fair t .marks-size) in
     let e = service-eight (a .m) (a .w) (a .c) (a .word .now) (a .marks .now) (fair t) (λ p. k .slice-known .given p .fits) (rw (← h) (c .if2 .taken)) in
     (ap (λ o. answerAt (o .number)) (sym e), (ap (λ o. o .word) (sym e), ap (λ o. o .marks) (sym e)))
 
@@ -57,24 +54,11 @@ returns-2 c =
 low : (t : tie.Else2) → let a = t .before .before .before .before .before .before .before .before .before .args in excess (a .m) (a .w) (a .c) (a .marks .now) ≤ 2
 low t =
     let A = fair (t .before .before .before) in
-    let h = t .before .excess-of .ensures (A .good) (A .marks-size) in
+    let h = t .before .excess-of .ensures .0 (A .good) (A .marks-size) in
     rw (← h) (t .if2 .left)
 
-array-borrow-prefix-found : tie.Need-array-borrow-prefix-found
-array-borrow-prefix-found c =
-    let A = fair (c .before .before .before .before .before) in
-    rw (A .word-size) (places-most (A .good))
-
-slice-aggregate-attempt : tie.Need-slice-aggregate-attempt
-slice-aggregate-attempt c = sym (length-take-le _ _ (array-borrow-prefix-found (c .before)))
-
-attempt-requires : tie.Need-attempt-requires
-attempt-requires c κs =
-    let A = fair (c .before .before .before .before .before .before) in
-    (A .good, (A .word-size, (A .marks-size, sym (slice-aggregate-attempt c) ∙ A .word-size)))
-
-clear-if-requires : tie.Need-clear-if-requires
-clear-if-requires c κs = search needs
+recover-determined-requires : tie.Need-recover-determined-requires
+recover-determined-requires c κs = let t = c .before .before in (fair (t .before .before .before) .refusal, low t)
 
 same-length-5 : tie.Need-same-length-5
 same-length-5 c = search needs
@@ -83,35 +67,7 @@ same-length-6 : tie.Need-same-length-6
 same-length-6 c = search needs
 
 returns-3 : tie.Need-returns-3
-returns-3 c =
-    let cl = c .before .before .before in
-    let t = cl .before .before .before .before .before in
-    let u = t .before .before .before .before in
-    let k = u .before .before .before .before .before .before .before .before in
-    let a = k .before .args in
-    let A = fair (u .before .before .before) in
-    let n = not-true _ (c .if3 .taken) in
-    let F = t .attempt .ensures .failed n in
-    let e = service-nine (a .m) (a .w) (a .c) (a .word .now) (a .marks .now) A (λ p. k .slice-known .given p .fits) (low u) (F .1 (low u)) in
-    (ap (λ o. answerAt (o .number)) (sym e), (F .0 ∙ ap (λ o. o .word) (sym e), cl .clear-if .ensures .1 n ∙ ap (λ o. o .marks) (sym e)))
-
-same-length-7 : tie.Need-same-length-7
-same-length-7 c = search needs
-
-same-length-8 : tie.Need-same-length-8
-same-length-8 c = search needs
-
-returns-4 : tie.Need-returns-4
-returns-4 c =
-    let cl = c .before .before .before in
-    let t = cl .before .before .before .before .before in
-    let u = t .before .before .before .before in
-    let k = u .before .before .before .before .before .before .before .before in
-    let a = k .before .args in
-    let A = fair (u .before .before .before) in
-    let y = not-false _ (c .if3 .left) in
-    let e = service-done (a .m) (a .w) (a .c) (a .word .now) (a .marks .now) A (λ p. k .slice-known .given p .fits) _ (low u) (t .attempt .ensures .done y) in
-    (ap (λ o. answerAt (o .number)) (sym e), (ap (λ o. o .word) (sym e), cl .clear-if .ensures .0 y ∙ ap (λ o. o .marks) (sym e)))
+returns-3 c = search needs
 
 pub recover-spec : {M : Type 1} → statement M
 recover-spec =
@@ -125,13 +81,7 @@ recover-spec =
     same-length-3
     same-length-4
     returns-2
-    array-borrow-prefix-found
-    slice-aggregate-attempt
-    attempt-requires
-    clear-if-requires
+    recover-determined-requires
     same-length-5
     same-length-6
-    returns-3
-    same-length-7
-    same-length-8
-    returns-4)
+    returns-3)

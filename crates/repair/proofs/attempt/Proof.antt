@@ -43,7 +43,7 @@ returns c =
     let p = a .pre in
     part-failed (length (a .args .part .now)) (a .args .c) (p .0) (p .1 .0) (p .1 .1 .0) (a .args .marks .now) (a .args .part .now) _ _ refl (p .1 .1 .1 .0)
     (λ i. s .slice-known .given i .fits) (λ i. k .slice-known4 .given i .fits) (p .1 .1 .1 .1 .1)
-    (cp .copy .ensures .0 (sym (p .1 .1 .1 .1 .0))) (f .fill .ensures) _ (z .local-zero .ensures) (not-true _ (c .if1 .taken))
+    (cp .copy .ensures .0 (sym (p .1 .1 .1 .1 .0))) (f .fill .ensures) _ (z .local-zero .ensures .0) (not-true _ (c .if1 .taken))
 
 copy-requires-2 : tie.Need-copy-requires-2
 copy-requires-2 c κs = search needs
@@ -67,7 +67,7 @@ returns-2 c =
     let p = a .pre in
     part-done (length (a .args .part .now)) (a .args .c) (p .0) (p .1 .0) (p .1 .1 .0) (a .args .marks .now) (a .args .part .now) _ _ refl (p .1 .1 .1 .0)
     (λ i. s .slice-known .given i .fits) (λ i. k .slice-known4 .given i .fits) (p .1 .1 .1 .1 .1)
-    (cp .copy .ensures .0 (sym (p .1 .1 .1 .1 .0))) (f .fill .ensures) _ (z .local-zero .ensures) _ (not-false _ (e .if1 .left)) (cp2 .copy2 .ensures .0)
+    (cp .copy .ensures .0 (sym (p .1 .1 .1 .1 .0))) (f .fill .ensures) _ (z .local-zero .ensures .0) _ (not-false _ (e .if1 .left)) (cp2 .copy2 .ensures .0)
 
 pub attempt-spec : {M : Type 1} → statement M
 attempt-spec =

@@ -11,7 +11,7 @@ use Rattle.repair.proofs.repair_part.Statement.{statement}
 use Rattle.repair.proofs.repair_part.Tie as tie
 use Rattle.repair.proofs.repair_part.Reads as reads
 use Rattle.repair.proofs.repair_part.Lts as lts
-use Rattle.buffers.proofs.clear.Reads as clear-reads
+use Rattle.buffers.proofs.clear_if.Reads as clear-if-reads
 use Rattle.marks.proofs.lost_in.Reads as lost-in-reads
 use Rattle.repair.proofs.attempt.Reads as attempt-reads
 
@@ -46,6 +46,9 @@ attempt-requires c κs =
     subst (λ n. n ≤ a .args .c) (x .lost-in .ensures ∙ ap (λ n. lostIn n (a .args .marks .now) 0) (a .pre .1 .1 .1)) (c .before .before .before .if1 .left) in
     (a .pre .0, (a .pre .1 .0, (a .pre .1 .1 .0, (a .pre .1 .1 .1, (sym (slice-aggregate-attempt c), few)))))
 
+clear-if-requires : tie.Need-clear-if-requires
+clear-if-requires c κs = search needs
+
 same-length-2 : tie.Need-same-length-2
 same-length-2 c = search needs
 
@@ -54,20 +57,20 @@ same-length-3 c = search needs
 
 returns-2 : tie.Need-returns-2
 returns-2 c =
-    let t = c .before .before .before .before in
+    let cl = c .before .before .before in
+    let t = cl .before .before .before .before .before in
     let x = t .before .before .before .before .before in
     let k = x .before .before .before in
     let a = k .before in
     let w : ℕ = length (a .args .part .now) in
     let few : lostIn w (a .args .marks .now) 0 ≤ a .args .c =
-    subst (λ n. n ≤ a .args .c) (x .lost-in .ensures ∙ ap (λ n. lostIn n (a .args .marks .now) 0) (a .pre .1 .1 .1)) (t .before .before .before .before .if1 .left) in
-    let F = t .attempt .ensures .failed (not-true _ (c .if2 .taken)) in
+    subst (λ n. n ≤ a .args .c) (x .lost-in .ensures ∙ ap (λ n. lostIn n (a .args .marks .now) 0) (a .pre .1 .1 .1))
+    (t .before .before .before .before .if1 .left) in
+    let n = not-true _ (c .if2 .taken) in
+    let F = t .attempt .ensures .failed n in
     let e = repaired-nine bytes bytes-sound w (a .args .c) (a .pre .0) (a .pre .1 .0) (a .args .part .now) (a .args .marks .now)
     (record { size = refl; each = λ p. k .slice-known .given p .fits }) few (F .1) in
-    (ap (λ o. o .number) (sym e), (F .0 ∙ ap (λ o. o .word) (sym e), ap (λ o. o .marks) (sym e)))
-
-clear-requires : tie.Need-clear-requires
-clear-requires c κs = search needs
+    (ap (λ o. o .number) (sym e), (F .0 ∙ ap (λ o. o .word) (sym e), cl .clear-if .ensures .1 n ∙ ap (λ o. o .marks) (sym e)))
 
 same-length-4 : tie.Need-same-length-4
 same-length-4 c = search needs
@@ -77,18 +80,19 @@ same-length-5 c = search needs
 
 returns-3 : tie.Need-returns-3
 returns-3 c =
-    let cl = c .before .before in
-    let f = cl .before .before in
-    let t = f .before .before .before .before in
+    let cl = c .before .before .before in
+    let t = cl .before .before .before .before .before in
     let x = t .before .before .before .before .before in
     let k = x .before .before .before in
     let a = k .before in
     let w : ℕ = length (a .args .part .now) in
     let few : lostIn w (a .args .marks .now) 0 ≤ a .args .c =
-    subst (λ n. n ≤ a .args .c) (x .lost-in .ensures ∙ ap (λ n. lostIn n (a .args .marks .now) 0) (a .pre .1 .1 .1)) (t .before .before .before .before .if1 .left) in
+    subst (λ n. n ≤ a .args .c) (x .lost-in .ensures ∙ ap (λ n. lostIn n (a .args .marks .now) 0) (a .pre .1 .1 .1))
+    (t .before .before .before .before .if1 .left) in
+    let y = not-false _ (c .if2 .left) in
     let e = repaired-done bytes bytes-sound w (a .args .c) (a .pre .0) (a .pre .1 .0) (a .args .part .now) (a .args .marks .now)
-    (record { size = refl; each = λ p. k .slice-known .given p .fits }) _ few (t .attempt .ensures .done (not-false _ (f .if2 .left))) in
-    (ap (λ o. o .number) (sym e), (ap (λ o. o .word) (sym e), cl .clear .ensures ∙ ap (λ o. o .marks) (sym e)))
+    (record { size = refl; each = λ p. k .slice-known .given p .fits }) _ few (t .attempt .ensures .done y) in
+    (ap (λ o. o .number) (sym e), (ap (λ o. o .word) (sym e), cl .clear-if .ensures .0 y ∙ ap (λ o. o .marks) (sym e)))
 
 pub repair-part-spec : {M : Type 1} → statement M
 repair-part-spec =
@@ -100,10 +104,10 @@ repair-part-spec =
     array-borrow-prefix-found
     slice-aggregate-attempt
     attempt-requires
+    clear-if-requires
     same-length-2
     same-length-3
     returns-2
-    clear-requires
     same-length-4
     same-length-5
     returns-3)

@@ -25,7 +25,7 @@ word-refusal-requires c κs = search needs
 returns : tie.Need-returns Inv-loop μ-loop
 returns c =
     let a = c .before .before .before .args in
-    λ good size. absurd (c .if1 .taken (c .before .word-refusal .ensures ∙ word-of-good (a .m) (a .w) (a .c) (length (a .word .now)) good size))
+    (λ good size. absurd (c .if1 .taken (c .before .word-refusal .ensures ∙ word-of-good (a .m) (a .w) (a .c) (length (a .word .now)) good size)), λ _. refl)
 
 loop-holds : tie.Need-loop-holds Inv-loop μ-loop
 loop-holds c =
@@ -74,9 +74,9 @@ loop-again c =
       L,
       omega arith,
       sum-turn L (s .loop .g) l refl (λ _. coefficient bytes (a .c)) _ _ (s .loop .inv .2)
-          (c .before .group-first .ensures n (L .good .checked) (L .good .few-checks)),
+          (c .before .group-first .ensures .0 n (L .good .checked) (L .good .few-checks)),
       sum-turn L (s .loop .g) l refl (twisted bytes (a .c)) _ _ (s .loop .inv .3)
-          (c .group-second .ensures n (L .good .checked) (L .good .few-checks) (omega arith)),
+          (c .group-second .ensures .0 n (L .good .checked) (L .good .few-checks) (omega arith)),
     )
 
 returns-2 : tie.Need-returns-2 Inv-loop μ-loop
@@ -84,7 +84,10 @@ returns-2 c =
     let s = c .before in
     let a = s .before .before .before .before .args in
     let e : s .loop .g ≡ a .m = omega arith in
-    λ _ _. ap₂ (λ x y. record { first = x; second = y }) (s .loop .inv .2) (s .loop .inv .3) ∙ ap (λ n. acrossOf n (a .w) (a .c) (a .word .now)) e
+    let L = s .loop .inv .0 in (
+      λ _ _. ap₂ (λ x y. record { first = x; second = y }) (s .loop .inv .2) (s .loop .inv .3) ∙ ap (λ n. acrossOf n (a .w) (a .c) (a .word .now)) e,
+      λ n. absurd (n (L .good) (L .size)),
+    )
 
 pub across-spec : {M : Type 1} → statement M
 across-spec =

@@ -1,10 +1,16 @@
+use mathlib.Core.Path.{refl}
+use native.Mathlib.Omega.{arith}
 use borrow.Author.Needs.{needs}
+use borrow.Author.Tests.{not-true, not-false}
 use Rattle.syndrome.specs.Parts.{second-group}
 use Rattle.syndrome.proofs.group_second.Statement.{statement}
 use Rattle.syndrome.proofs.group_second.Tie as tie
 
+in-range-requires : tie.Need-in-range-requires
+in-range-requires c κs = search needs
+
 returns : tie.Need-returns
-returns c = search needs
+returns c = (λ narrow some few _. absurd (c .before .in-range .ensures .1 (not-true _ (c .if1 .taken)) narrow some few), λ _. refl)
 
 returns-2 : tie.Need-returns-2
 returns-2 c = search needs
@@ -13,7 +19,7 @@ power-of-two-requires : tie.Need-power-of-two-requires
 power-of-two-requires c κs = search needs
 
 sub-second-sum : tie.Need-sub-second-sum
-sub-second-sum c = search needs
+sub-second-sum c = let t = c .before .before in let r = t .before .in-range .ensures .0 (not-false _ (t .if1 .left)) in omega arith
 
 second-sum-requires : tie.Need-second-sum-requires
 second-sum-requires c κs = search needs
@@ -23,14 +29,16 @@ shifted-product-requires c κs = search needs
 
 returns-3 : tie.Need-returns-3
 returns-3 c =
-    let a = c .before .before .before .before .before .before .args in
-    let p = a .part .now in
-    λ narrow some few _. cc (second-group p narrow (a .c) some few (a .g))
+    let t = c .before .before .before .before in
+    let a = t .before .before .before .args in
+    let r = t .before .in-range .ensures .0 (not-false _ (t .if1 .left)) in
+    (λ narrow some few _. cc (second-group (a .part .now) narrow (a .c) some few (a .g)), λ n. absurd (n (r .0) (r .1) (r .2) (omega arith)))
 
 pub group-second-spec : {M : Type 1} → statement M
 group-second-spec =
     tie.close
     (tie.spec
+    in-range-requires
     returns
     returns-2
     power-of-two-requires

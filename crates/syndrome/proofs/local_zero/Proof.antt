@@ -1,4 +1,4 @@
-use mathlib.Core.Path.{_≡_, sym, _∙_}
+use mathlib.Core.Path.{_≡_, refl, sym, _∙_}
 use Prim.Native.Nat.{ℕ, _-_, _<_, _≤_}
 use native.Mathlib.Omega.{arith}
 use borrow.Author.Count.{below-none, below-more}
@@ -12,29 +12,32 @@ use Rattle.syndrome.proofs.local_zero.Statement.{statement}
 use Rattle.syndrome.proofs.local_zero.Tie as tie
 
 abbrev Inv-loop : tie.InvT-loop
-Inv-loop part c e₀ e = (e ≤ c) × (length part ≤ 16 → (k : ℕ) → k < e → localSum bytes (length part) part 0 k ≡ 0)
+Inv-loop part c e₀ e = (e ≤ c) × (length part ≤ 16) × (c ≤ 4) × ((k : ℕ) → k < e → localSum bytes (length part) part 0 k ≡ 0)
 
 abbrev μ-loop : tie.MeasureT-loop
 μ-loop part c e₀ e = c - e
 
 returns : tie.Need-returns Inv-loop μ-loop
-returns c = λ _ few. absurd (omega arith)
+returns c = (λ _ few. absurd (omega arith), λ _. refl)
+
+returns-2 : tie.Need-returns-2 Inv-loop μ-loop
+returns-2 c = (λ narrow _. absurd (omega arith), λ _. refl)
 
 loop-holds : tie.Need-loop-holds Inv-loop μ-loop
-loop-holds c = (omega arith, λ _. below-none _)
+loop-holds c = (omega arith, omega arith, omega arith, below-none _)
 
 power-sum-requires : tie.Need-power-sum-requires Inv-loop μ-loop
 power-sum-requires c κs = search needs
 
-returns-2 : tie.Need-returns-2 Inv-loop μ-loop
-returns-2 c =
+returns-3 : tie.Need-returns-3 Inv-loop μ-loop
+returns-3 c =
     let s = c .before .before .before in
-    let a = s .before .before .before .args in
+    let a = s .before .before .before .before .args in
     let p = a .part .now in
-    λ narrow few.
+    let narrow = s .loop .inv .1 in
     let z = power-group p narrow (s .loop .e) (omega arith) in
     let e : c .before .power-sum .result ≡ localSum bytes (length p) p 0 (s .loop .e) = cc in
-    sym (is-false _ (λ t. c .if2 .taken (e ∙ local-zero bytes (length p) (a .c) p 0 t (s .loop .e) (omega arith))))
+    (λ _ _. sym (is-false _ (λ t. c .if3 .taken (e ∙ local-zero bytes (length p) (a .c) p 0 t (s .loop .e) (omega arith)))), λ _. refl)
 
 add-e : tie.Need-add-e Inv-loop μ-loop
 add-e c = omega arith
@@ -45,19 +48,22 @@ loop-less c = omega arith
 loop-again : tie.Need-loop-again Inv-loop μ-loop
 loop-again c =
     let s = c .before .before .before in
-    let p = s .before .before .before .args .part .now in (
+    let p = s .before .before .before .before .args .part .now in
+    let z = power-group p (s .loop .inv .1) (s .loop .e) (omega arith) in (
       omega arith,
-      λ narrow.
-          let z = power-group p narrow (s .loop .e) (omega arith) in
-          below-more (λ k. localSum bytes (length p) p 0 k ≡ 0) (s .loop .e) (s .loop .inv .1 narrow) (cc),
+      omega arith,
+      omega arith,
+      below-more (λ k. localSum bytes (length p) p 0 k ≡ 0) (s .loop .e) (s .loop .inv .3) (cc),
     )
 
-returns-3 : tie.Need-returns-3 Inv-loop μ-loop
-returns-3 c =
+returns-4 : tie.Need-returns-4 Inv-loop μ-loop
+returns-4 c =
     let s = c .before in
-    let a = s .before .before .before .args in
-    let p = a .part .now in
-    λ narrow _. sym (is-true _ (zero-local bytes (length p) (a .c) p 0 (λ k l. s .loop .inv .1 narrow k (omega arith))))
+    let a = s .before .before .before .before .args in
+    let p = a .part .now in (
+      λ _ _. sym (is-true _ (zero-local bytes (length p) (a .c) p 0 (λ k l. s .loop .inv .3 k (omega arith)))),
+      λ n. absurd (n (s .loop .inv .1) (s .loop .inv .2)),
+    )
 
 pub local-zero-spec : {M : Type 1} → statement M
 local-zero-spec =
@@ -66,10 +72,11 @@ local-zero-spec =
     Inv-loop
     μ-loop
     returns
+    returns-2
     loop-holds
     power-sum-requires
-    returns-2
+    returns-3
     add-e
     loop-less
     loop-again
-    returns-3)
+    returns-4)

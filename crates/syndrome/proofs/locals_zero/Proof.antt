@@ -29,7 +29,7 @@ word-refusal-requires c κs = search needs
 returns : tie.Need-returns Inv-loop μ-loop
 returns c =
     let a = c .before .before .before .args in
-    λ good size. absurd (c .if1 .taken (c .before .word-refusal .ensures ∙ word-of-good (a .m) (a .w) (a .c) (length (a .word .now)) good size))
+    (λ good size. absurd (c .if1 .taken (c .before .word-refusal .ensures ∙ word-of-good (a .m) (a .w) (a .c) (length (a .word .now)) good size)), λ _. refl)
 
 loop-holds : tie.Need-loop-holds Inv-loop μ-loop
 loop-holds c =
@@ -63,14 +63,14 @@ tested c =
     let s = t .before in
     let L = s .loop .inv .0 in
     let n = part-narrow L (s .loop .g) (t .loop-test .taken) refl in
-    c .local-zero .ensures n (L .good .few-checks) ∙ part-local L (s .loop .g) (t .loop-test .taken) refl
+    c .local-zero .ensures .0 n (L .good .few-checks) ∙ part-local L (s .loop .g) (t .loop-test .taken) refl
 
 returns-2 : tie.Need-returns-2 Inv-loop μ-loop
 returns-2 c =
     let s = c .before .before .before .before in
     let a = s .before .before .before .before .args in
     let e : isLocal bytes (a .w) (a .c) (a .word .now) (s .loop .g) ≡ false = sym (tested (c .before)) ∙ not-true _ (c .if2 .taken) in
-    λ _ _. sym (is-false _ (λ t. subst T e (all-at (a .m) (isLocal bytes (a .w) (a .c) (a .word .now)) t (s .loop .g) (omega arith))))
+    (λ _ _. sym (is-false _ (λ t. subst T e (all-at (a .m) (isLocal bytes (a .w) (a .c) (a .word .now)) t (s .loop .g) (omega arith)))), λ _. refl)
 
 add-g : tie.Need-add-g Inv-loop μ-loop
 add-g c = omega arith
@@ -89,7 +89,10 @@ returns-3 : tie.Need-returns-3 Inv-loop μ-loop
 returns-3 c =
     let s = c .before in
     let a = s .before .before .before .before .args in
-    λ _ _. sym (is-true _ (all-intro (a .m) (isLocal bytes (a .w) (a .c) (a .word .now)) (λ k l. s .loop .inv .2 k (omega arith))))
+    let L = s .loop .inv .0 in (
+      λ _ _. sym (is-true _ (all-intro (a .m) (isLocal bytes (a .w) (a .c) (a .word .now)) (λ k l. s .loop .inv .2 k (omega arith)))),
+      λ n. absurd (n (L .good) (L .size)),
+    )
 
 pub locals-zero-spec : {M : Type 1} → statement M
 locals-zero-spec =

@@ -39,7 +39,7 @@ answered c =
     let a = t .before .before .before .args in
     let e : wordRefusal (a .m) (a .w) (a .c) (length (a .word .now)) ≡ 0 = sym (t .before .word-refusal .ensures) ∙ t .if1 .left in
     let g = good-of-word (a .m) (a .w) (a .c) (length (a .word .now)) e in
-    ap₂ checkedAt (sym e) (c .is-codeword .ensures (g .0) (g .1))
+    ap₂ checkedAt (sym e) (c .is-codeword .ensures .0 (g .0) (g .1))
 
 returns-2 : tie.Need-returns-2
 returns-2 c =

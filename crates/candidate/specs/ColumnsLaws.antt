@@ -1,0 +1,182 @@
+-- The columns left for the equations across are independent, where the excess is at most two.
+use mathlib.Core.Path.{_≡_, refl, sym, ap, _∙_, subst}
+use mathlib.Core.Bool.{Bool, true, false, not, _&&_, true≢false}
+use mathlib.Core.List.{List, []}
+use Prim.Native.Nat.{ℕ, zero, suc, _+_, _-_, _*_, _/_, _%_, _<_, _≤_}
+use native.Mathlib.Nat.{div-add-mod', mod-lt, mul-le-mul-right, le-refl}
+use native.Mathlib.Omega.{arith}
+use native.Mathlib.Decide.{decLt, ℕ-discrete}
+use borrow.Author.Tests.{eq-eqb, ne-eqb}
+use lib.Dec.{eqb}
+use lib.ListN.{length, getD}
+use Rattle.counting.specs.Count.{one, countBelow, total-zero, total-bump}
+use Rattle.shape.specs.Shapes.{Good}
+use Rattle.code.specs.Edition.{bytes, bytes-sound, bytes-few}
+use Rattle.code.specs.Marks.{lost, excess}
+use Rattle.code.specs.Blank.{blank, blank-at, blank-symbols, blank-group}
+use Rattle.code.specs.Stretch.{stretch, stretch-at}
+use Rattle.code.specs.OneGroup.{LocalWay}
+use Rattle.code.specs.OneGroupLaws.{local-way}
+use Rattle.erasures.specs.Kept.{free}
+use Rattle.erasures.specs.Whole.{KeptAll, KeptUpTo, upto-none, upto-more, kept-all}
+use Rattle.erasures.specs.Places.{FreePlaces, NextFree, freeAt, free-none, free-one, free-two}
+use Rattle.candidate.specs.Frame.{Frame, ways-independent}
+use Rattle.candidate.specs.Steps.{Direction}
+use Rattle.candidate.specs.Assembly.{wayOf, frame}
+use Rattle.candidate.specs.Solved.{pairAt}
+use Rattle.candidate.specs.Columns.{Left, Independent, ColumnsIndependent}
+
+-- The places that a test passes, each listed once, are as many as the list is long.
+listed : (n x : ℕ) (f : ℕ → ℕ) (t : ℕ → Bool) → ((i : ℕ) → i < x → f i < n) → ((i : ℕ) → i < x → t (f i) ≡ true)
+    → ((i l : ℕ) → i < x → l < x → f i ≡ f l → i ≡ l) → ((p : ℕ) → p < n → t p ≡ true → (i : ℕ) × (i < x) × (p ≡ f i)) → countBelow n t ≡ x
+listed n zero f t less passes apart every = total-zero n _ (λ p l. go p l (t p) refl)
+  where
+    go : (p : ℕ) → p < n → (b : Bool) → t p ≡ b → one b ≡ 0
+    go p l true e = let z = every p l e .1 in absurd (omega arith)
+    go p l false e = refl
+listed n (suc x) f t less passes apart every =
+    total-bump n (f x) (λ p. one (t p)) (λ p. one (rest p)) (less x (omega arith)) (λ p _ d. ap one (other p d))
+    (ap one (passes x (omega arith)) ∙ ap (λ b. suc (one b)) (sym last))
+    ∙ ap suc (listed n x f rest (λ i l. less i (omega arith))
+    (λ i l. sym (other (f i) (λ q. let z = apart i x (omega arith) (omega arith) q in omega arith)) ∙ passes i (omega arith))
+    (λ i l a b q. apart i l (omega arith) (omega arith) q) (λ p l e. elim (ℕ-discrete p (f x)) [
+      | yes q ↦ absurd (true≢false (sym e ∙ ap rest q ∙ last))
+      | no d ↦ at p d (every p l (other p d ∙ e))
+    ]))
+  where
+    -- all but the last of the list
+    rest : ℕ → Bool
+    rest p = not (eqb p (f x)) && t p
+
+    other : (p : ℕ) → ¬ (p ≡ f x) → t p ≡ rest p
+    other p d = ap (λ b. not b && t p) (sym (ne-eqb p (f x) d))
+
+    last : rest (f x) ≡ false
+    last = ap (λ b. not b && t (f x)) (eq-eqb (f x) (f x) refl)
+
+    at : (p : ℕ) → ¬ (p ≡ f x) → (i : ℕ) × (i < suc x) × (p ≡ f i) → (i : ℕ) × (i < x) × (p ≡ f i)
+    at p d s = elim (decLt (s .0) x) [
+      | yes h ↦ (s .0, h, s .2)
+      | no h ↦ (let l = s .1 in let e : s .0 ≡ x = omega arith in absurd (d (s .2 ∙ ap f e)))
+    ]
+
+split : (a b : Bool) → (a && not b) ≡ true → (a ≡ true) × (b ≡ false)
+split true true e = absurd (true≢false (sym e))
+split true false e = (refl, refl)
+split false b e = absurd (true≢false (sym e))
+
+-- ---- there are such columns
+-- the first c lost places of each of the first g groups are kept
+keep : (m w c : ℕ) (marks : List ℕ) → length marks ≡ m * w → (g : ℕ) → g ≤ m → (kept : List ℕ) × KeptUpTo g w c marks kept
+keep m w c marks size zero l = (marks, upto-none w c marks)
+keep m w c marks size (suc g) l =
+    let K = keep m w c marks size g (omega arith) in
+    (_, upto-more g w c marks (K .0) (subst (λ n. suc g * w ≤ n) (sym size) (mul-le-mul-right w l)) (K .1))
+
+-- the next free place, from start on
+next : (marks kept : List ℕ) (d start : ℕ) → start + d ≡ length marks → (r : ℕ) × NextFree marks kept start r
+next marks kept zero start e = (start, record { on = le-refl start; passed = λ p a b. absurd (omega arith); found = λ l. absurd (omega arith) })
+next marks kept (suc d) start e = go (next marks kept d (suc start) (omega arith)) (free marks kept start) refl
+  where
+    go : (r : ℕ) × NextFree marks kept (suc start) r → (b : Bool) → free marks kept start ≡ b → (r : ℕ) × NextFree marks kept start r
+    go N true f = (start, record { on = le-refl start; passed = λ p a b. absurd (omega arith); found = λ _. f })
+    go N false f = (
+      N .0,
+      record {
+        on = let o = N .1 .on in omega arith;
+        passed = λ p a b. elim (ℕ-discrete p start) [
+          | yes q ↦ ap (free marks kept) q ∙ f
+          | no q ↦ N .1 .passed p a (omega arith)
+        ];
+        found = N .1 .found;
+      },
+    )
+
+module _ (m w c : ℕ) (good : Good m w c) (marks : List ℕ) (size : length marks ≡ m * w) where
+  wide : 0 < w
+  wide = let k = good .wide in omega arith
+
+  module _ (kept : List ℕ) (K : KeptAll m w c marks kept) where
+    direction : (p : ℕ) → lost kept p ≡ false → (h : List ℕ) × Direction w (p % w) (stretch w (p / w) kept) h
+    direction p e =
+        let j = mod-lt p wide in
+        let W = local-way bytes bytes-sound w wide (good .narrow) (stretch w (p / w) kept) (p % w) j
+        (ap (λ b. eqb b 1) (stretch-at w (p / w) kept (p % w) j) ∙ ap (lost kept) (div-add-mod' p w) ∙ e) in
+        (W .h, record { size = W .symbols .size; own = W .own; off = W .off; zero = W .zero })
+
+    with-none : FreePlaces marks kept 0 0 0 → Left m w c marks
+    with-none P = record { kept = kept; keeps = K; x = 0; first = 0; second = 0; places = P; h = λ _. []; way = λ i l. absurd (omega arith) }
+
+    with-one : (p : ℕ) → FreePlaces marks kept 1 p 0 → Left m w c marks
+    with-one p P = record { kept = kept; keeps = K; x = 1; first = p; second = 0; places = P; h = λ _. D .0; way = way }
+      where
+        D : (h : List ℕ) × Direction w (p % w) (stretch w (p / w) kept) h
+        D = direction p (P .not-kept 0 (omega arith))
+
+        way : (i : ℕ) → i < 1 → Direction w (freeAt p 0 i % w) (stretch w (freeAt p 0 i / w) kept) (D .0)
+        way zero l = D .1
+        way (suc i) l = absurd (omega arith)
+
+    with-two : (p q : ℕ) → FreePlaces marks kept 2 p q → Left m w c marks
+    with-two p q P = record { kept = kept; keeps = K; x = 2; first = p; second = q; places = P; h = pairAt (D .0) (E .0); way = way }
+      where
+        D : (h : List ℕ) × Direction w (p % w) (stretch w (p / w) kept) h
+        D = direction p (P .not-kept 0 (omega arith))
+
+        E : (h : List ℕ) × Direction w (q % w) (stretch w (q / w) kept) h
+        E = direction q (P .not-kept 1 (omega arith))
+
+        way : (i : ℕ) → i < 2 → Direction w (freeAt p q i % w) (stretch w (freeAt p q i / w) kept) (pairAt (D .0) (E .0) i)
+        way zero l = D .1
+        way (suc i) l = E .1
+
+    left : Left m w c marks
+    left = elim (decLt (N .0) (length marks)) [
+      | yes l ↦
+          (let M = next marks kept (length marks - (N .0 + 1)) (N .0 + 1) (omega arith) in
+          elim (decLt (M .0) (length marks)) [
+            | yes k ↦ with-two (N .0) (M .0) (free-two marks kept (N .0) (N .1) l (M .0) (M .1) k)
+            | no k ↦ with-one (N .0) (free-one marks kept (N .0) (N .1) l (M .0) (M .1) (omega arith))
+          ])
+      | no l ↦ with-none (free-none marks kept (N .0) (N .1) (omega arith))
+    ]
+      where
+        N : (r : ℕ) × NextFree marks kept 0 r
+        N = next marks kept (length marks) 0 (omega arith)
+
+  pub some-left : Left m w c marks
+  some-left = let K = keep m w c marks size m (le-refl m) in left (K .0) (kept-all m w c marks (K .0) size (K .1))
+
+  -- ---- they are as many as the excess
+  module _ (low : excess m w c marks ≤ 2) where
+    count : (L : Left m w c marks) → L .x ≡ excess m w c marks
+    count L =
+        let P = L .places in
+        let e : countBelow (length marks) (free marks (L .kept)) ≡ excess m w c marks =
+        ap (λ n. countBelow n (free marks (L .kept))) size ∙ L .keeps .free-count in
+        sym
+        (listed (length marks) (L .x) (freeAt (L .first) (L .second)) (free marks (L .kept)) (P .less) (λ i l. rw (P .is-lost i l, P .not-kept i l)) (P .apart)
+        (λ p l f.
+        let s = split (lost marks p) (lost (L .kept) p) f in
+        P .every (subst (λ n. n ≤ 2) (sym e) low) p l (s .0) (s .1)))
+        ∙ e
+
+  -- ---- and they are independent: the frame of the zero word
+  module _ (low : excess m w c marks ≤ 2) where
+    independent : (L : Left m w c marks) → Independent m w c marks L
+    independent L = record {
+      only-zero =
+          ways-independent bytes bytes-sound m w c (bytes-few (good .few)) wide (good .narrow) marks (L .kept) (blank (m * w)) (blank (m * w)) (L .x)
+          (freeAt (L .first) (L .second)) (wayOf m w (freeAt (L .first) (L .second)) (L .h)) F low;
+    }
+      where
+        F : Frame bytes m w c marks (L .kept) (blank (m * w)) (blank (m * w)) (L .x) (freeAt (L .first) (L .second))
+            (wayOf m w (freeAt (L .first) (L .second)) (L .h))
+        F = frame m w c wide marks (L .kept) (blank (m * w)) (blank (m * w)) (blank (m * w)) (L .x) (L .first) (L .second) (L .h)
+            (blank-symbols bytes (m * w)) (blank-symbols bytes (m * w)) size (L .keeps) (L .places)
+            (record { size = refl; present = λ p _ _. refl; zero = λ p _ _. blank-at (m * w) p })
+            (record { size = refl; present = λ p _. refl; zero = λ g _ e _. blank-group bytes (m * w) w g _ }) (L .way)
+
+    -- "for every good shape and such marks the one or two columns left for the equations across are independent"
+    pub columns-independent : ColumnsIndependent m w c marks
+    columns-independent = record { some = some-left; count = count low; independent = independent }

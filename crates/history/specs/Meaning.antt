@@ -1,0 +1,111 @@
+-- Soundness, open handles, the slot that Open uses and the numbers that calls give, in the paper's words. The proofs stand in MeaningLaws and NumberLaws.
+use mathlib.Core.Path.{_≡_}
+use mathlib.Core.Logic.{_↔_, _⊎_}
+use mathlib.Core.Bool.{true}
+use mathlib.Core.List.{List}
+use Prim.Native.Nat.{ℕ, _+_, _*_, _<_, _≤_}
+use lib.ListN.{length, getD}
+use Rattle.shape.specs.Shapes.{Good, placeCount}
+use Rattle.code.specs.Edition.{bytes}
+use Rattle.code.specs.Marks.{excess}
+use Rattle.code.specs.Recovery.{Agrees}
+use Rattle.judge.specs.Answer.{judgedNumberOf}
+use Rattle.desk.specs.declared.Job.{Job}
+use Rattle.desk.specs.declared.Desk.{Desk}
+use Rattle.desk.specs.Desks.{jobAt, isFree, isTaken, marksOf}
+use Rattle.desk.specs.Calls.{Opening, newJob}
+
+-- ---- soundness
+
+-- slot s is taken: its byte is 1
+abbrev pub TakenAt : Desk → ℕ → Type 0
+TakenAt desk s = isTaken (jobAt desk s) ≡ true
+
+-- slot s "holds a good shape, its n marks of 0 or 1 with excess at most 2, and a handle 8u+s with u from 1 to t"
+pub record Holds (t s : ℕ) (job : Job) : Type 0 where
+  pub shape : Good (job .m) (job .w) (job .c)
+  pub size : length (marksOf job) ≡ placeCount (job .m) (job .w)
+  pub each : (p : ℕ) → p < placeCount (job .m) (job .w) → getD (job .marks) p 0 ≤ 1
+  pub losses : excess (job .m) (job .w) (job .c) (marksOf job) ≤ 2
+  pub issue : ℕ
+  pub handle-is : job .handle ≡ 8 * issue + s
+  pub first : 1 ≤ issue
+  pub last : issue ≤ t
+
+-- "A desk is sound if t is at most 65,535 and each taken slot s holds [..], no u twice. What a free slot's fields hold doesn't matter here."
+pub record SoundDesk (desk : Desk) : Type 0 where
+  pub few : desk .t ≤ 65535
+  -- each slot is free or taken: its byte is 0 or 1
+  pub byte : (s : ℕ) → s < 8 → jobAt desk s .taken ≤ 1
+  pub holds : (s : ℕ) → s < 8 → TakenAt desk s → Holds (desk .t) s (jobAt desk s)
+  pub once : (r s u : ℕ) → r < 8 → s < 8 → TakenAt desk r → TakenAt desk s → jobAt desk r .handle ≡ 8 * u + r → jobAt desk s .handle ≡ 8 * u + s → r ≡ s
+
+-- slot s is taken and holds the handle
+pub record HeldIn (desk : Desk) (handle s : ℕ) : Type 0 where
+  pub below : s < 8
+  pub taken : TakenAt desk s
+  pub held : jobAt desk s .handle ≡ handle
+
+-- "A handle is open exactly if a taken slot holds it"
+abbrev pub IsHeld : Desk → ℕ → Type 0
+IsHeld desk handle = (s : ℕ) × HeldIn desk handle s
+
+-- ---- Open
+
+-- s is "the lowest free slot s (0 to 7)"
+pub record LowestFree (desk : Desk) (s : ℕ) : Type 0 where
+  pub below : s < 8
+  pub free : isFree (jobAt desk s) ≡ true
+  pub lower : (r : ℕ) → r < s → TakenAt desk r
+
+-- An accepted Open "keeps copies [..], raises t by one, uses the lowest free slot s (0 to 7) and gives the handle 8t+s"; no other slot is touched.
+pub record Opens (m w c : ℕ) (marks : List ℕ) (desk : Desk) (o : Opening) : Type 0 where
+  pub slot : ℕ
+  pub lowest : LowestFree desk slot
+  pub count : o .desk .t ≡ desk .t + 1
+  pub handle-is : o .handle ≡ 8 * (o .desk .t) + slot
+  pub job : jobAt (o .desk) slot ≡ newJob m w c marks (o .handle)
+  pub others : (r : ℕ) → ¬ (r ≡ slot) → jobAt (o .desk) r ≡ jobAt desk r
+
+-- 11: "all eight slots are taken"
+abbrev pub AllTaken : Desk → Type 0
+AllTaken desk = (s : ℕ) → s < 8 → TakenAt desk s
+
+-- Open is "refused only by 1 to 6, 8 as judge gives it, 10, 11 and 31"; 31 comes first, and then "The lowest number that applies is given".
+pub record OpenNumbers (m w c : ℕ) (marks : List ℕ) (desk : Desk) (number : ℕ) : Type 0 where
+  pub one-of : (number ≤ 6) ⊎ (number ≡ 8) ⊎ (number ≡ 10) ⊎ (number ≡ 11) ⊎ (number ≡ 31)
+  pub unsound : (number ≡ 31) ↔ ¬ SoundDesk desk
+  pub judged : (r : ℕ) → 1 ≤ r → r ≤ 8 → (number ≡ r) ↔ (SoundDesk desk × (judgedNumberOf m w c marks ≡ r))
+  pub ended : (number ≡ 10) ↔ (SoundDesk desk × (judgedNumberOf m w c marks ≡ 0) × (desk .t ≡ 65535))
+  pub full : (number ≡ 11) ↔ (SoundDesk desk × (judgedNumberOf m w c marks ≡ 0) × (desk .t < 65535) × AllTaken desk)
+  pub done : (number ≡ 0) ↔ (SoundDesk desk × (judgedNumberOf m w c marks ≡ 0) × (desk .t < 65535) × ¬ AllTaken desk)
+
+-- ---- Read and Close
+
+-- "Read and close are refused only by 31 and 12", in this order
+pub record HandleNumbers (handle : ℕ) (desk : Desk) (number : ℕ) : Type 0 where
+  pub one-of : (number ≡ 0) ⊎ (number ≡ 31) ⊎ (number ≡ 12)
+  pub unsound : (number ≡ 31) ↔ ¬ SoundDesk desk
+  pub shut : (number ≡ 12) ↔ (SoundDesk desk × ¬ IsHeld desk handle)
+  pub done : (number ≡ 0) ↔ (SoundDesk desk × IsHeld desk handle)
+
+-- ---- Serve
+
+-- a codeword of the job's shape that agrees with the word at the places that the job's marks leave
+abbrev pub AgreesBy : Job → List ℕ → List ℕ → Type 0
+AgreesBy job word y = Agrees bytes (job .m) (job .w) (job .c) (marksOf job) word y
+
+-- of a job "5, 13, 9", in this order: the length is not n; the served count is at its end; no codeword agrees with the present bytes
+pub record JobNumbers (job : Job) (word : List ℕ) (number : ℕ) : Type 0 where
+  pub long : (number ≡ 5) ↔ ¬ (length word ≡ placeCount (job .m) (job .w))
+  pub ended : (number ≡ 13) ↔ ((length word ≡ placeCount (job .m) (job .w)) × (job .served ≡ 4294967295))
+  pub contradictory : (number ≡ 9) ↔ ((length word ≡ placeCount (job .m) (job .w)) × ¬ (job .served ≡ 4294967295) × ((y : List ℕ) → ¬ AgreesBy job word y))
+  pub done : (number ≡ 0) ↔ ((length word ≡ placeCount (job .m) (job .w)) × ¬ (job .served ≡ 4294967295) × ((y : List ℕ) × AgreesBy job word y))
+
+-- "31 comes before all others, and with a handle 12 comes next, then 5, 13, 9; a serve can't meet 8"
+pub record ServeNumbers (handle : ℕ) (word : List ℕ) (desk : Desk) (number : ℕ) : Type 0 where
+  pub one-of : (number ≡ 0) ⊎ (number ≡ 31) ⊎ (number ≡ 12) ⊎ (number ≡ 5) ⊎ (number ≡ 13) ⊎ (number ≡ 9)
+  pub unsound : (number ≡ 31) ↔ ¬ SoundDesk desk
+  pub shut : (number ≡ 12) ↔ (SoundDesk desk × ¬ IsHeld desk handle)
+  -- of a word of bytes, by the job in the slot that holds the handle
+  pub of-job : (s : ℕ) → SoundDesk desk → HeldIn desk handle s → ((p : ℕ) → getD word p 0 < 256) → JobNumbers (jobAt desk s) word number

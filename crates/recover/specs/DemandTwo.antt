@@ -1,0 +1,34 @@
+-- Demand 2 of Recover as it runs: "Recovery is refused as undetermined exactly when two different codewords agree at every present place, else
+-- as contradictory exactly when no codeword agrees with the present bytes, else the single agreeing codeword stands in the word". It is stated
+-- of recoverOf, with which the contract of recover::recover is an equation.
+use mathlib.Core.Path.{_≡_}
+use mathlib.Core.Logic.{_↔_}
+use mathlib.Core.List.{List}
+use Prim.Native.Nat.{ℕ, _*_}
+use lib.ListN.{replicate}
+use Rattle.code.specs.Edition.{bytes}
+use Rattle.code.specs.Answer.{Outcome}
+use Rattle.code.specs.Determined.{Undetermined}
+use Rattle.code.specs.Recovery.{Agrees}
+use Rattle.recover.specs.Service.{recoverOf}
+
+module _ (m w c : ℕ) (word marks : List ℕ) where
+  -- the number given back, and the word and the marks at the end of the call
+  abbrev pub end : Outcome
+  end = recoverOf m w c word marks
+
+  pub record DemandTwo : Type 0 where
+    -- 8 exactly when two different codewords agree at every present place
+    pub eight : (end .number ≡ 8) ↔ Undetermined bytes m w c marks
+    -- else 9 exactly when no codeword agrees with the present bytes
+    pub nine : (end .number ≡ 9) ↔ ((¬ Undetermined bytes m w c marks) × ((y : List ℕ) → Agrees bytes m w c marks word y → ⊥))
+    -- else done
+    pub done : (end .number ≡ 0) ↔ ((¬ Undetermined bytes m w c marks) × ((y : List ℕ) × Agrees bytes m w c marks word y))
+    -- the word holds a codeword that agrees, and no other agrees
+    pub agrees : end .number ≡ 0 → Agrees bytes m w c marks word (end .word)
+    pub only : end .number ≡ 0 → (y : List ℕ) → Agrees bytes m w c marks word y → y ≡ end .word
+    -- all marks are cleared
+    pub clear : end .number ≡ 0 → end .marks ≡ replicate (m * w) 0
+    -- on 8 and 9 word and marks stay as they were
+    pub word-kept : ¬ (end .number ≡ 0) → end .word ≡ word
+    pub marks-kept : ¬ (end .number ≡ 0) → end .marks ≡ marks

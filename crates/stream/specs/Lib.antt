@@ -1,0 +1,10 @@
+pub mod Session
+pub mod Points
+pub mod States
+pub mod Places
+pub mod Cut
+pub mod Whole
+pub mod Room
+pub mod Steps
+pub mod OutputLines
+pub mod Again
