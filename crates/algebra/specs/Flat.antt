@@ -1,19 +1,10 @@
 -- The flat word of m groups of w places: place t of group i stands at i·w + t.
-use mathlib.Core.Path.{_≡_, sym, _∙_, ap}
-use mathlib.Core.Bool.{Bool, false}
-use mathlib.Core.List.{List, map, Memᴰ·map, Memᴰ·of-map}
-use Prim.Native.Nat.{ℕ, _+_, _*_, _/_, _%_, _<_, _≤_}
-use native.Mathlib.Omega.{arith}
-use native.Mathlib.Decide.{ℕ-discrete}
-use native.Mathlib.Nat.{mul-add-div-right, mul-add-mod-self-right, div-eq-of-lt, mod-eq-of-lt, mod-lt, div-add-mod', div-lt-iff-lt-mul, add-zero}
-use lib.ListN.{length}
-use Rattle.algebra.specs.Field.{Field, eq-of-add-zero, add-zero-of-eq}
-use Rattle.algebra.specs.Lists.{_∈_, All, Distinct, distinct-map, below, below-less, in-below, distinct-below, filter, filter-all, filter-distinct}
-use Rattle.algebra.specs.Sum.{dot-add, dot-filter}
-use Rattle.algebra.specs.Vandermonde.{psum, vandermonde}
+use mathlib.Core.Path.{_≡_}
+use mathlib.Core.List.{List, map}
+use Prim.Native.Nat.{ℕ, _+_, _*_, _%_, _<_, _≤_}
+use Rattle.algebra.specs.Field.{Field}
+use Rattle.algebra.specs.Lists.{below}
 use Rattle.algebra.specs.Tower.{Tower, Small}
-use Rattle.algebra.specs.Unique.{Layout, Meets, Codeword, total-excess, same-word}
-use Rattle.algebra.specs.Beyond.{Hidden, beyond}
 
 -- m groups of w places with c local equations each, and the locator of each place of a group.
 pub record Geometry (F : Field) (T : Tower F) : Type 0 where
@@ -25,12 +16,6 @@ pub record Geometry (F : Field) (T : Tower F) : Type 0 where
   pub wide : 0 < w
   pub apart : (s t : ℕ) → s < w → t < w → ¬ (s ≡ t) → ¬ (loc s ≡ loc t)
   pub small : (t : ℕ) → t < w → Small F T (loc t)
-
-at-div : (w i t : ℕ) → t < w → (i * w + t) / w ≡ i
-at-div w i t l = mul-add-div-right {m = w} (omega arith) i t ∙ ap (λ s. i + s) (div-eq-of-lt l) ∙ add-zero i
-
-at-mod : (w i t : ℕ) → t < w → (i * w + t) % w ≡ t
-at-mod w i t l = mul-add-mod-self-right i w t ∙ mod-eq-of-lt l
 
 module _ {F : Field} {T : Tower F} (G : Geometry F T) where
   open Field F using (K, add as _⊕_, 𝟘)
@@ -44,82 +29,3 @@ module _ {F : Field} {T : Tower F} (G : Geometry F T) where
   -- The locator of a place of the word.
   abbrev pub locator : ℕ → K
   locator p = loc (p % w)
-
-  -- A place of the group i is i·w + t; every place p is in the group p / w, and in no other.
-  pub group-at : (i p : ℕ) → p ∈ group i → (t : ℕ) × (t < w) × (p ≡ i * w + t)
-  group-at i p h = let v = Memᴰ·of-map (λ t. i * w + t) (below w) h in (v .0, below-less w (v .0) (v .1), sym (v .2))
-
-  pub in-group : (p : ℕ) → p ∈ group (p / w)
-  in-group p = rw (div-add-mod' p w) at (Memᴰ·map (λ t. p / w * w + t) (in-below w (p % w) (mod-lt p wide)))
-
-  pub group-distinct : (i : ℕ) → Distinct locator (group i)
-  group-distinct i =
-      distinct-map (λ t. i * w + t) locator (below w)
-      (distinct-below _ w (λ s t ls lt n e. apart s t ls lt n (ap loc (sym (at-mod w i s ls)) ∙ e ∙ ap loc (at-mod w i t lt))))
-
-  pub group-own : (i : ℕ) → All (group i) (λ p. p / w ≡ i)
-  group-own i p h = let v = group-at i p h in rw (v .2) (at-div w i (v .0) (v .1))
-
-  -- The code's layout.
-  abbrev pub layout : Layout F T ℕ
-  layout = record {
-    m = m;
-    c = c;
-    places = group;
-    group-of = λ p. p / w;
-    locator = locator;
-    few = few;
-    distinct = λ i l. group-distinct i;
-    small = λ i l p h. small (p % w) (mod-lt p wide);
-    own = λ i l. group-own i;
-  }
-
-  -- The places of the m groups are below m·w.
-  pub group-less : (i p : ℕ) → i < m → p ∈ group i → p < m * w
-  group-less i p l h = div-lt-iff-lt-mul wide .0 (rw (group-own i p h) l)
-
-  -- Two codewords that agree at the places not lost, with excess at most two, are the same.
-  pub unique-flat : (lost : ℕ → Bool) (x y : ℕ → K) → Codeword layout x → Codeword layout y
-      → ((p : ℕ) → p < m * w → lost p ≡ false → x p ≡ y p)
-      → total-excess layout lost ≤ 2 → (p : ℕ) → p < m * w → x p ≡ y p
-  unique-flat lost x y X Y z t p l =
-      same-word layout lost x y X Y (λ i k p h. z p (group-less i p k h)) t (p / w) (div-lt-iff-lt-mul wide .1 l) p (in-group p)
-
-  -- Two words that agree at the places of a group that are not lost, at most v being lost, and have the same first v local sums there,
-  -- are the same there.
-  pub local-unique : (i v : ℕ) (lost : ℕ → Bool) (x y : ℕ → K)
-      → ((e : ℕ) → e < v → psum F locator (group i) x e ≡ psum F locator (group i) y e)
-      → All (group i) (λ p. lost p ≡ false → x p ≡ y p) → length (filter lost (group i)) ≤ v → All (group i) (λ p. x p ≡ y p)
-  local-unique i v lost x y s z l p h = eq-of-add-zero F (filter-all lost (group i) all off p h)
-    where
-      off : All (group i) (λ p. lost p ≡ false → x p ⊕ y p ≡ 𝟘)
-      off p h e = add-zero-of-eq F (z p h e)
-
-      all : All (filter lost (group i)) (λ p. x p ⊕ y p ≡ 𝟘)
-      all = vandermonde F locator (filter lost (group i)) _ (filter-distinct lost locator (group i) (group-distinct i))
-          (λ e k. dot-filter F lost (group i) _ _ off ∙ dot-add F (group i) x y _ ∙ add-zero-of-eq F (s e (omega arith)))
-
-  -- A nonzero word on the lost places that meets the local equations and the two across.
-  pub record HiddenWord (lost : ℕ → Bool) (h₁ h₂ : ℕ → K) : Type 0 where
-    pub x : ℕ → K
-    pub off : (p : ℕ) → lost p ≡ false → x p ≡ 𝟘
-    pub past : (p : ℕ) → m * w ≤ p → x p ≡ 𝟘
-    pub place : ℕ
-    pub inside : place < m * w
-    pub nonzero : ¬ (x place ≡ 𝟘)
-    pub meets : Meets layout h₁ h₂ x
-
-  -- With excess above two there is such a word, whatever the two equations across.
-  pub beyond-flat : (lost : ℕ → Bool) (h₁ h₂ : ℕ → K) → 2 < total-excess layout lost → HiddenWord lost h₁ h₂
-  beyond-flat lost h₁ h₂ t = record {
-    x = H .x;
-    off = λ p e. H .off p (λ _ _ _. e);
-    past = λ p l. H .off p (λ i k h. let n : p < m * w = group-less i p k h in absurd (omega arith));
-    place = H .place;
-    inside = group-less (H .group) (H .place) (H .group-less) (H .inside);
-    nonzero = H .nonzero;
-    meets = H .meets;
-  }
-    where
-      H : Hidden layout lost h₁ h₂
-      H = beyond layout ℕ-discrete lost h₁ h₂ t

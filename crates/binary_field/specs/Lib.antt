@@ -1,7 +1,14 @@
 pub mod Xor
+pub mod XorLaws
 pub mod Product
+pub mod ProductLaws
 pub mod Sum
+pub mod SumLaws
 pub mod Power
+pub mod PowerLaws
 pub mod Inverse
+pub mod InverseLaws
 pub mod Order
+pub mod OrderLaws
 pub mod Element
+pub mod ElementLaws

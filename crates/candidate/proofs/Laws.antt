@@ -9,26 +9,31 @@ use native.Mathlib.Omega.{arith}
 use lib.Dec.{eqb, lit<, lit≤}
 use lib.ListN.{length, getD, take, drop, set, replicate, length-set, length-replicate, getD-replicate}
 use lib.Seq.{getD-set-same, getD-set-other, getD-take, take-at, length-take-le, ext-getD}
-use Rattle.binary_field.specs.Xor.{_⊕_, ⊕-zero-r}
-use Rattle.binary_field.specs.Product.{product, product-zero}
-use Rattle.binary_field.specs.Sum.{sum-ext}
+use Rattle.binary_field.specs.Xor.{_⊕_}
+use Rattle.binary_field.specs.XorLaws.{⊕-zero-r}
+use Rattle.binary_field.specs.Product.{product}
+use Rattle.binary_field.specs.ProductLaws.{product-zero}
+use Rattle.binary_field.specs.SumLaws.{sum-ext}
 use Rattle.code.specs.Edition.{Edition, bytes, times}
 use Rattle.code.specs.Word.{groupSum, localSum, coefficient, twisted}
 use Rattle.code.specs.Marks.{lost, lostIn}
-use Rattle.code.specs.Stretch.{stretch, withStretch, stretch-at, stretch-length, with-length, with-inside, with-before, with-after, stretch-count, place-cases, own-place}
+use Rattle.code.specs.Stretch.{stretch, withStretch}
+use Rattle.code.specs.StretchLaws.{stretch-at, stretch-length, with-length, with-inside, with-before, with-after, stretch-count, place-cases, own-place}
 use Rattle.code.specs.Combined.{combined}
-use Rattle.code.specs.Lone.{lone, lone-inside, lone-before, lone-after, lone-word}
+use Rattle.code.specs.Lone.{lone}
+use Rattle.code.specs.LoneLaws.{lone-inside, lone-before, lone-after, lone-word}
 use Rattle.shape.specs.Shapes.{Good}
 use Rattle.fill.specs.Filled.{Filled}
 use Rattle.erasures.specs.Whole.{KeptAll}
 use Rattle.erasures.specs.Places.{FreePlaces, freeAt}
 use Rattle.solve.specs.Elimination.{entry, eliminated}
 use Rattle.solve.specs.Solution.{OnlySolution}
-use Rattle.solve.specs.Bytes.{solution}
+use Rattle.solve.specs.BytesLaws.{solution}
 use Rattle.syndrome.specs.Across.{acrossOf}
 use Rattle.syndrome.specs.declared.Sums.{Sums}
 use Rattle.candidate.specs.Steps.{GroupsFilled, Direction, Added}
-use Rattle.candidate.specs.Solved.{twoRows, pairAt, Solved, combined-length, combined-one}
+use Rattle.candidate.specs.Solved.{twoRows, pairAt, Solved}
+use Rattle.candidate.specs.SolvedLaws.{combined-length, combined-one}
 use Rattle.candidate.specs.Mended.{KeptFew}
 
 -- ---- writes

@@ -11,7 +11,7 @@ use Rattle.code.specs.Stretch.{stretch}
 use Rattle.erasures.specs.Whole.{KeptAll}
 use Rattle.erasures.specs.Places.{FreePlaces, freeAt}
 use Rattle.candidate.specs.Steps.{Direction}
-use Rattle.candidate.specs.Assembly.{wayOf}
+use Rattle.candidate.specs.AssemblyLaws.{wayOf}
 
 -- What is left for the equations across once each group's own equations are used.
 pub record Left (m w c : ℕ) (marks : List ℕ) : Type 0 where

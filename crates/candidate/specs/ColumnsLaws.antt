@@ -9,20 +9,27 @@ use native.Mathlib.Decide.{decLt, ℕ-discrete}
 use borrow.Author.Tests.{eq-eqb, ne-eqb}
 use lib.Dec.{eqb}
 use lib.ListN.{length, getD}
-use Rattle.counting.specs.Count.{one, countBelow, total-zero, total-bump}
+use Rattle.counting.specs.Count.{one, countBelow}
+use Rattle.counting.specs.CountLaws.{total-zero, total-bump}
 use Rattle.shape.specs.Shapes.{Good}
-use Rattle.code.specs.Edition.{bytes, bytes-sound, bytes-few}
+use Rattle.code.specs.Edition.{bytes, bytes-sound}
+use Rattle.code.specs.EditionLaws.{bytes-few}
 use Rattle.code.specs.Marks.{lost, excess}
-use Rattle.code.specs.Blank.{blank, blank-at, blank-symbols, blank-group}
-use Rattle.code.specs.Stretch.{stretch, stretch-at}
+use Rattle.code.specs.Blank.{blank}
+use Rattle.code.specs.BlankLaws.{blank-at, blank-symbols, blank-group}
+use Rattle.code.specs.Stretch.{stretch}
+use Rattle.code.specs.StretchLaws.{stretch-at}
 use Rattle.code.specs.OneGroup.{LocalWay}
 use Rattle.code.specs.OneGroupLaws.{local-way}
 use Rattle.erasures.specs.Kept.{free}
-use Rattle.erasures.specs.Whole.{KeptAll, KeptUpTo, upto-none, upto-more, kept-all}
-use Rattle.erasures.specs.Places.{FreePlaces, NextFree, freeAt, free-none, free-one, free-two}
-use Rattle.candidate.specs.Frame.{Frame, ways-independent}
+use Rattle.erasures.specs.Whole.{KeptAll, KeptUpTo}
+use Rattle.erasures.specs.WholeLaws.{upto-none, upto-more, kept-all}
+use Rattle.erasures.specs.Places.{FreePlaces, NextFree, freeAt}
+use Rattle.erasures.specs.PlacesLaws.{free-none, free-one, free-two}
+use Rattle.candidate.specs.Frame.{Frame}
+use Rattle.candidate.specs.FrameLaws.{ways-independent}
 use Rattle.candidate.specs.Steps.{Direction}
-use Rattle.candidate.specs.Assembly.{wayOf, frame}
+use Rattle.candidate.specs.AssemblyLaws.{wayOf, frame}
 use Rattle.candidate.specs.Solved.{pairAt}
 use Rattle.candidate.specs.Columns.{Left, Independent, ColumnsIndependent}
 

@@ -1,8 +1,10 @@
 pub mod Frame
+pub mod FrameLaws
 pub mod Steps
-pub mod Assembly
+pub mod AssemblyLaws
 pub mod Solved
+pub mod SolvedLaws
 pub mod Mended
-pub mod Whole
+pub mod WholeLaws
 pub mod Columns
 pub mod ColumnsLaws

@@ -1,15 +1,18 @@
 -- An edition of the code: the width of its symbols, the field's polynomial, the size q of the small field and the locators.
 -- The edition of bytes is the one that stands; a wider one is another value of the same record.
 use mathlib.Core.Path.{_≡_, refl}
-use Prim.Native.Nat.{ℕ, suc, _<_, _≤_, _^_}
+use Prim.Native.Nat.{ℕ, suc, _<_, _^_}
 use lib.Dec.{lit<}
 use lib.ListN.{getD}
 use Rattle.binary_field.specs.Product.{product}
 use Rattle.binary_field.specs.Power.{power}
 use Rattle.binary_field.specs.Element.{Facts}
-use Rattle.gf256.specs.Bytes.{halving, is-field, order-two}
-use Rattle.gf256.specs.Locators.{locators, locator-lt, locators-apart, locator-fixed}
+use Rattle.gf256.specs.Bytes.{halving}
+use Rattle.gf256.specs.BytesLaws.{is-field, order-two}
+use Rattle.gf256.specs.Locators.{locators}
+use Rattle.gf256.specs.LocatorsLaws.{locator-lt, locators-apart, locator-fixed}
 
+-- the numbers that tell one edition from another
 pub record Edition : Type 0 where
   -- binary digits of a symbol
   pub bits : ℕ
@@ -24,6 +27,7 @@ pub record Edition : Type 0 where
 abbrev pub times : Edition → ℕ → ℕ → ℕ
 times E = product (E .bits) (E .poly)
 
+-- a symbol to a power
 abbrev pub raised : Edition → ℕ → ℕ → ℕ
 raised E = power (E .bits) (E .poly)
 
@@ -59,8 +63,3 @@ bytes-sound = record {
   locator-apart = locators-apart;
   locator-fixed = locator-fixed;
 }
-
--- fifteen groups are not too many
-pub bytes-few : {m : ℕ} → m ≤ 15 → m ≤ bytes-sound .r
-unfolding bytes-sound
-bytes-few h = h

@@ -11,20 +11,28 @@ use lib.ListN.{length, getD, List·getD-eq-default}
 use lib.Seq.{ext-getD}
 use Rattle.algebra.specs.Lists.{_∈_, filter}
 use Rattle.algebra.specs.Vandermonde.{psum}
-use Rattle.algebra.specs.Flat.{Geometry, group, group-at}
+use Rattle.algebra.specs.Flat.{Geometry, group}
+use Rattle.algebra.specs.FlatLaws.{group-at}
 use Rattle.algebra.specs.Flat as Flat
-use Rattle.algebra.specs.OneGroup.{beyond-group, way-group}
-use Rattle.binary_field.specs.Element.{Element, field, tower, element-lt, same-value}
+use Rattle.algebra.specs.FlatLaws as FlatLaws
+use Rattle.algebra.specs.OneGroupLaws.{beyond-group, way-group}
+use Rattle.binary_field.specs.Element.{Element}
+use Rattle.binary_field.specs.ElementLaws.{field, tower, element-lt, same-value}
 use Rattle.code.specs.Edition.{Edition, Sound}
-use Rattle.code.specs.Word.{localSum, local-zero, zero-local, Symbols}
+use Rattle.code.specs.Word.{localSum, Symbols}
+use Rattle.code.specs.WordLaws.{local-zero, zero-local}
 use Rattle.code.specs.Marks.{lost, lostIn, Agree}
-use Rattle.code.specs.Blank.{blank, blank-at, blank-symbols, blank-group}
+use Rattle.code.specs.Blank.{blank}
+use Rattle.code.specs.BlankLaws.{blank-at, blank-symbols, blank-group}
 use Rattle.code.specs.Bridge as Bridge
-use Rattle.code.specs.Determined.{listOf, list-length, list-at, local-unique}
-use Rattle.code.specs.Filling.{filling-symbols}
+use Rattle.code.specs.BridgeLaws as BridgeLaws
+use Rattle.code.specs.Determined.{listOf}
+use Rattle.code.specs.DeterminedLaws.{list-length, list-at, local-unique}
+use Rattle.code.specs.FillingLaws.{filling-symbols}
 use Rattle.code.specs.Answer.{Outcome}
-use Rattle.code.specs.Stretch.{own-place}
-use Rattle.code.specs.Repair.{repaired, Satisfies, repaired-eight, repaired-nine, repaired-done, eight-many, nine-contradictory, done-single}
+use Rattle.code.specs.StretchLaws.{own-place}
+use Rattle.code.specs.Repair.{repaired, Satisfies}
+use Rattle.code.specs.RepairLaws.{repaired-eight, repaired-nine, repaired-done, eight-many, nine-contradictory, done-single}
 use Rattle.code.specs.OneGroup.{LocalWord, LocallyAgrees, LocallyUndetermined, LocalWay}
 
 -- the fillings that satisfy the group's own equations are the stretches that agree
@@ -50,20 +58,20 @@ module _ (E : Edition) (S : Sound E) (w : ℕ) (wide : 0 < w) (narrow : w ≤ E 
   none = omega arith
 
   G : Geometry (field (S .facts)) (tower (S .facts))
-  G = Bridge.geometry E S 0 w 0 none wide narrow
+  G = BridgeLaws.geometry E S 0 w 0 none wide narrow
 
   -- the places of the only group
   in-group : (p : ℕ) → p ∈ group G 0 → p < w
-  unfolding G Bridge.geometry
+  unfolding G BridgeLaws.geometry
   in-group p h = let t = group-at G 0 p h in let e = t .2 ∙ own-place w (t .0) in let k = t .1 in omega arith
 
   place-in : (j : ℕ) → j < w → j ∈ group G 0
-  unfolding G Bridge.geometry
-  place-in j l = subst (λ i. j ∈ group G i) (div-eq-of-lt l) (Flat.in-group G j)
+  unfolding G BridgeLaws.geometry
+  place-in j l = subst (λ i. j ∈ group G i) (div-eq-of-lt l) (FlatLaws.in-group G j)
 
   group-lost : (marks : List ℕ) → length (filter (lost marks) (group G 0)) ≡ lostIn w marks 0
   unfolding G
-  group-lost marks = Bridge.group-lost E S 0 w 0 none wide narrow marks 0
+  group-lost marks = BridgeLaws.group-lost E S 0 w 0 none wide narrow marks 0
 
   module _ (x : ℕ → Element (E .bits)) (outside : (p : ℕ) → ¬ (p ∈ group G 0) → x p ≡ field (S .facts) .𝟘) where
     symbols : List ℕ
@@ -92,7 +100,7 @@ module _ (E : Edition) (S : Sound E) (w : ℕ) (wide : 0 < w) (narrow : w ≤ E 
     symbols-zero : (e : ℕ) → psum (field (S .facts)) (Flat.locator G) (group G 0) x e ≡ field (S .facts) .𝟘 → localSum E w symbols 0 e ≡ 0
     unfolding G
     symbols-zero e z =
-        sym (Bridge.local-value E S 0 w 0 none wide narrow symbols 0 e)
+        sym (BridgeLaws.local-value E S 0 w 0 none wide narrow symbols 0 e)
         ∙ ap (λ x. (psum (field (S .facts)) (Flat.locator G) (group G 0) x e) .0) (λ i p. sym (symbols-same p) i)
         ∙ ap (λ (s : Element (E .bits)). s .0) z
 

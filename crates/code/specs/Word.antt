@@ -1,11 +1,11 @@
 -- A word of m groups of w places, and when it is a codeword. The place j of group g is the place g·w + j of the word.
-use mathlib.Core.Path.{_≡_, refl, sym, ap, _∙_}
-use mathlib.Core.Bool.{Bool, true, false}
+use mathlib.Core.Path.{_≡_}
+use mathlib.Core.Bool.{Bool}
 use mathlib.Core.List.{List}
 use Prim.Native.Nat.{ℕ, suc, _+_, _*_, _<_, _^_}
-use lib.Dec.{T, eqb, eqb→eq, eqb-refl}
+use lib.Dec.{T, eqb}
 use lib.ListN.{length, getD}
-use Rattle.counting.specs.Test.{both, both-l, both-r, both-intro, allBelow, all-at, all-intro}
+use Rattle.counting.specs.Test.{both, allBelow}
 use Rattle.binary_field.specs.Xor.{_⊕_}
 use Rattle.binary_field.specs.Sum.{sumBelow}
 use Rattle.code.specs.Edition.{Edition, times, raised}
@@ -52,21 +52,10 @@ module _ (E : Edition) where
     pub size : length word ≡ n
     pub each : (p : ℕ) → getD word p 0 < 2 ^ E .bits
 
+  -- a word of symbols that passes the test
   pub record Codeword (m w c : ℕ) (word : List ℕ) : Type 0 where
     pub symbols : Symbols (m * w) word
     pub zero : T (isCodeword m w c word)
-
-  -- ---- laws
-  pub local-zero : (w v : ℕ) (word : List ℕ) (g : ℕ) → T (isLocal w v word g) → (e : ℕ) → e < v → localSum w word g e ≡ 0
-  unfolding isLocal
-  local-zero w v word g t e h = eqb→eq (localSum w word g e) 0 (all-at v (λ e. eqb (localSum w word g e) 0) t e h)
-
-  pub zero-local : (w v : ℕ) (word : List ℕ) (g : ℕ) → ((e : ℕ) → e < v → localSum w word g e ≡ 0) → T (isLocal w v word g)
-  unfolding isLocal
-  zero-local w v word g z = all-intro v (λ e. eqb (localSum w word g e) 0) (λ e h. zero-eqb (z e h))
-    where
-      zero-eqb : {a : ℕ} → a ≡ 0 → T (eqb a 0)
-      zero-eqb {a} e = rw e tt
 
   module _ (m w c : ℕ) (word : List ℕ) where
     -- the equations of a codeword, one by one
@@ -74,19 +63,3 @@ module _ (E : Edition) where
       pub locals : (g : ℕ) → g < m → (e : ℕ) → e < c → localSum w word g e ≡ 0
       pub first : firstAcross m w c word ≡ 0
       pub second : secondAcross m w c word ≡ 0
-
-    pub equations : T (isCodeword m w c word) → Equations
-    unfolding isCodeword
-    equations t =
-        let across = both-r (allBelow m (isLocal w c word)) _ t in
-        record {
-          locals = λ g l. local-zero w c word g (all-at m (isLocal w c word) (both-l (allBelow m (isLocal w c word)) _ t) g l);
-          first = eqb→eq (firstAcross m w c word) 0 (both-l (eqb (firstAcross m w c word) 0) _ across);
-          second = eqb→eq (secondAcross m w c word) 0 (both-r (eqb (firstAcross m w c word) 0) _ across);
-        }
-
-    pub is-codeword : Equations → T (isCodeword m w c word)
-    unfolding isCodeword
-    is-codeword Q =
-        both-intro (allBelow m (isLocal w c word)) _ (all-intro m (isLocal w c word) (λ g l. zero-local w c word g (Q .locals g l)))
-        (both-intro (eqb (firstAcross m w c word) 0) _ (rw (Q .first) tt) (rw (Q .second) tt))

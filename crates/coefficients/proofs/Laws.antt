@@ -5,11 +5,14 @@ use Prim.Native.Nat.{ℕ, _<_, _≤_}
 use native.Mathlib.Omega.{arith}
 use lib.Dec.{lit<}
 use lib.ListN.{length, getD, List·getD-eq-default}
-use Rattle.binary_field.specs.Product.{product, product-one}
-use Rattle.binary_field.specs.Power.{power-zero}
-use Rattle.binary_field.specs.Sum.{sumBelow, sum-ext, innerProduct}
+use Rattle.binary_field.specs.Product.{product}
+use Rattle.binary_field.specs.ProductLaws.{product-one}
+use Rattle.binary_field.specs.PowerLaws.{power-zero}
+use Rattle.binary_field.specs.Sum.{sumBelow, innerProduct}
+use Rattle.binary_field.specs.SumLaws.{sum-ext}
 use Rattle.code.specs.Edition.{bytes}
-use Rattle.coefficients.specs.Rows.{powerRows, noRow, power-at}
+use Rattle.coefficients.specs.Rows.{powerRows, noRow}
+use Rattle.coefficients.specs.RowsLaws.{power-at}
 
 module _ (rows : List (List ℕ)) (e : ℕ) where
   pub chosen : (k : ℕ) → e ≡ k → getD rows k noRow ≡ getD rows e noRow

@@ -1,2 +1,4 @@
 pub mod Test
+pub mod TestLaws
 pub mod Count
+pub mod CountLaws

@@ -8,7 +8,7 @@ use native.Mathlib.Omega.{arith}
 use borrow.Author.Tests.{eqb-false, not-false}
 use lib.ListN.{length, getD, take, set, replicate}
 use lib.Seq.{length-take-le, set-at, take-suc}
-use Rattle.shape.specs.Refusals.{refuse-zero, orElse-zero}
+use Rattle.shape.specs.RefusalsLaws.{refuse-zero, orElse-zero}
 use Rattle.judge.specs.Answer.{judgedNumberOf}
 use Rattle.desk.specs.declared.Job.{Job}
 use Rattle.desk.specs.declared.Desk.{Desk}

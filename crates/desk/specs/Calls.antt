@@ -68,6 +68,7 @@ pub record Opening : Type 0 where
   pub handle : ℕ
   pub desk : Desk
 
+-- by its number: the desk with the new job, or the desk as it was
 abbrev pub openBy : ℕ → ℕ → ℕ → ℕ → List ℕ → Desk → Opening
 openBy zero m w c marks desk = record {
   number = 0;
@@ -76,6 +77,7 @@ openBy zero m w c marks desk = record {
 }
 openBy (suc r) m w c marks desk = record { number = suc r; handle = 0; desk = desk }
 
+-- the whole call
 unfoldable pub openOf : ℕ → ℕ → ℕ → List ℕ → Desk → Opening
 openOf m w c marks desk = openBy (openNumber m w c marks desk) m w c marks desk
 
@@ -108,6 +110,7 @@ pub record Reading : Type 0 where
   pub number : ℕ
   pub served : ℕ
 
+-- by its number
 abbrev pub readBy : ℕ → ℕ → Desk → Reading
 readBy zero handle desk = record { number = 0; served = jobAt desk (slotOf handle) .served }
 readBy (suc r) handle desk = record { number = suc r; served = 0 }
@@ -116,6 +119,7 @@ readBy (suc r) handle desk = record { number = suc r; served = 0 }
 unfoldable pub readOf : ℕ → Desk → Reading
 readOf handle desk = readBy (handleRefusal handle desk) handle desk
 
+-- the answer by its number and figure
 abbrev pub countedAt : ℕ → ℕ → Counted
 countedAt zero served = Counted.Served served
 countedAt (suc r) served = Counted.Refused (suc r)
@@ -143,6 +147,7 @@ pub record Closing : Type 0 where
   pub number : ℕ
   pub desk : Desk
 
+-- by its number: the desk with that slot emptied, or the desk as it was
 abbrev pub closeBy : ℕ → ℕ → Desk → Closing
 closeBy zero handle desk = record { number = 0; desk = withJob desk (slotOf handle) emptyJob }
 closeBy (suc r) handle desk = record { number = suc r; desk = desk }
@@ -170,6 +175,7 @@ jobNumber job word =
     orElse refuse 13 (eqb (job .served) 4294967295)
     orElse (recoveryOf job word) .number
 
+-- 31, 12, and then what the job says
 unfoldable pub serveNumber : ℕ → List ℕ → Desk → ℕ
 serveNumber handle word desk = handleRefusal handle desk orElse jobNumber (jobAt desk (slotOf handle)) word
 
@@ -191,6 +197,7 @@ pub record Serving : Type 0 where
   pub word : List ℕ
   pub desk : Desk
 
+-- by its number: the recovered word and the count raised, or all as it was
 abbrev pub serveBy : ℕ → ℕ → List ℕ → Desk → Serving
 serveBy zero handle word desk = record {
   number = 0;
@@ -199,6 +206,7 @@ serveBy zero handle word desk = record {
 }
 serveBy (suc r) handle word desk = record { number = suc r; word = word; desk = desk }
 
+-- the whole call
 unfoldable pub serveOf : ℕ → List ℕ → Desk → Serving
 serveOf handle word desk = serveBy (serveNumber handle word desk) handle word desk
 

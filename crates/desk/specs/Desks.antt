@@ -27,9 +27,11 @@ noJob = record { taken = 0; m = 0; w = 0; c = 0; served = 0; handle = 0; marks =
 abbrev pub jobAt : Desk → ℕ → Job
 jobAt desk s = getD (desk .jobs) s noJob
 
+-- the byte of a free slot is 0
 abbrev pub isFree : Job → Bool
 isFree job = eqb (job .taken) 0
 
+-- and that of a taken one is 1
 abbrev pub isTaken : Job → Bool
 isTaken job = eqb (job .taken) 1
 
@@ -37,6 +39,7 @@ isTaken job = eqb (job .taken) 1
 abbrev pub issueOf : ℕ → ℕ
 issueOf handle = handle / 8
 
+-- and its slot
 abbrev pub slotOf : ℕ → ℕ
 slotOf handle = handle % 8
 

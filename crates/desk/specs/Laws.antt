@@ -8,10 +8,12 @@ use native.Mathlib.Omega.{arith}
 use borrow.Author.Tests.{not-true, eqb-true, ne-eqb, leb-true, le-leb}
 use lib.Dec.{T, not-T, eqb}
 use lib.Ieee.Bits.{is-true}
-use Rattle.counting.specs.Test.{anyBelow, all-at, all-intro, any-intro}
-use Rattle.shape.specs.Refusals.{orElse-zero}
+use Rattle.counting.specs.Test.{anyBelow}
+use Rattle.counting.specs.TestLaws.{all-at, all-intro, any-intro}
+use Rattle.shape.specs.RefusalsLaws.{orElse-zero}
 use Rattle.shape.specs.Laws.{places-most}
-use Rattle.marks.specs.Refusal.{Marked, good-of-marks}
+use Rattle.marks.specs.Refusal.{Marked}
+use Rattle.marks.specs.RefusalLaws.{good-of-marks}
 use Rattle.judge.specs.Answer.{judgedNumberOf}
 use Rattle.desk.specs.declared.Job.{Job}
 use Rattle.desk.specs.declared.Desk.{Desk}

@@ -1,6 +1,6 @@
 pub mod Desks
 pub mod Calls
 pub mod Laws
-pub mod Slots
+pub mod SlotsLaws
 pub mod CallLaws
 pub mod ServeLaws

@@ -9,15 +9,16 @@ use lib.Dec.{eqb, ltb}
 use lib.ListN.{length}
 use Rattle.shape.specs.declared.Answer.{Answer}
 use Rattle.shape.specs.Answers.{answerAt}
-use Rattle.shape.specs.Refusals.{refuse, _orElse_, unlessRefused, refuse-zero, orElse-zero}
+use Rattle.shape.specs.Refusals.{refuse, _orElse_, unlessRefused}
+use Rattle.shape.specs.RefusalsLaws.{refuse-zero, orElse-zero}
 use Rattle.shape.specs.Shapes.{placeCount}
 use Rattle.shape.specs.Laws.{places-most}
-use Rattle.marks.specs.Refusal.{orElse-first}
+use Rattle.marks.specs.RefusalLaws.{orElse-first}
 use Rattle.judge.specs.Answer.{judgedNumberOf}
 use Rattle.code.specs.Edition.{bytes}
 use Rattle.code.specs.Word.{isCodeword}
 use Rattle.code.specs.Marks.{excess}
-use Rattle.code.specs.Answer.{refused-unchanged}
+use Rattle.code.specs.AnswerLaws.{refused-unchanged}
 use Rattle.code.specs.Recovery.{recovered}
 use Rattle.recover.specs.Service.{recoverRefusal, recoverOf, unlessBefore}
 use Rattle.desk.specs.declared.Job.{Job}

@@ -8,27 +8,25 @@ use native.Mathlib.Omega.{arith}
 use native.Mathlib.Decide.{decLt}
 use lib.Dec.{eqb}
 use lib.ListN.{length, getD}
-use Rattle.counting.specs.Count.{totalBelow, countBelow, total-ext, total-suc, total-zero, count-ext}
+use Rattle.counting.specs.Count.{totalBelow, countBelow}
+use Rattle.counting.specs.CountLaws.{total-ext, total-suc, total-zero, count-ext}
 use Rattle.shape.specs.Refusals.{unlessRefused}
 use Rattle.shape.specs.Shapes.{Good, placeCount, dataCount, bufferRefusal}
 use Rattle.shape.specs.Laws.{word-of-good, good-of-buffers}
 use Rattle.places.specs.Places.{isCheck, extractOf, placedOf, placedWord, checkMarks, mark}
 use Rattle.places.specs.Laws.{checks-inner, checks-last, marks-length, marks-at, marks-small, placed-length, placed-word, placed-below, extract-placed, extract-agree, agree-extract}
-use Rattle.marks.specs.Refusal.{marks-of-good}
-use Rattle.code.specs.Edition.{bytes, bytes-sound, bytes-few}
+use Rattle.marks.specs.RefusalLaws.{marks-of-good}
+use Rattle.code.specs.Edition.{bytes, bytes-sound}
+use Rattle.code.specs.EditionLaws.{bytes-few}
 use Rattle.code.specs.Word.{Symbols, Codeword}
 use Rattle.code.specs.Marks.{lost, lostIn, excess}
 use Rattle.code.specs.Answer.{Outcome, written}
-use Rattle.code.specs.Recovery.{Agrees, recovered, recovered-done, only-one}
-use Rattle.code.specs.Encoding.{carried, carried-agrees}
+use Rattle.code.specs.Recovery.{Agrees, recovered}
+use Rattle.code.specs.RecoveryLaws.{recovered-done, only-one}
+use Rattle.code.specs.EncodingLaws.{carried, carried-agrees}
 use Rattle.recover.specs.Service.{unlessBefore, recoverRefusal, recoverOf}
 use Rattle.encode.specs.Service.{encodedWord, encodedBuffer}
-
--- a word is the one codeword that carries these data
-pub record Encoded (m w c : ℕ) (bytes′ word : List ℕ) : Type 0 where
-  pub codeword : Codeword bytes m w c word
-  pub carries : extractOf m w c word ≡ bytes′
-  pub only : (y : List ℕ) → Codeword bytes m w c y → extractOf m w c y ≡ bytes′ → y ≡ word
+use Rattle.encode.specs.DemandTwo.{Encoded}
 
 module _ {m w c : ℕ} (good : Good m w c) where
   -- the lost places are the check places

@@ -10,7 +10,8 @@ use lib.Seq.{drop-cons, take-suc, take-suc-set, drop-set-lt, take-all, drop-drop
 use borrow.Author.Tests.{eq-eqb, ne-eqb}
 use Rattle.code.specs.Stretch.{stretch, withStretch}
 use Rattle.erasures.specs.Kept.{keptOf}
-use Rattle.erasures.specs.Whole.{KeptUpTo, upto-more}
+use Rattle.erasures.specs.Whole.{KeptUpTo}
+use Rattle.erasures.specs.WholeLaws.{upto-more}
 
 module _ (xs : List ℕ) (i : ℕ) (h : i < length xs) where
   pub pass-step : (d : ℕ) → (getD xs i 0 ≡ 1 → ⊥) → take (i + 1) xs ++ keptOf d (drop (i + 1) xs) ≡ take i xs ++ keptOf d (drop i xs)

@@ -1,14 +1,10 @@
 -- The lost places of one group: the first c are kept for the group's own equations, the others are free.
-use mathlib.Core.Path.{_≡_, refl, sym, ap, _∙_}
 use mathlib.Core.Bool.{Bool, true, false, not, _&&_}
 use mathlib.Core.List.{List, [], _∷_}
-use Prim.Native.Nat.{ℕ, zero, suc, _+_, _-_, _≤_, min}
-use native.Mathlib.Omega.{arith}
+use Prim.Native.Nat.{ℕ, zero, suc, _-_}
 use lib.Dec.{eqb}
-use lib.ListN.{length}
-use Rattle.counting.specs.Count.{one, countBelow, total-none, total-first, total-ext}
-use Rattle.code.specs.Marks.{lost, lostIn}
-use Rattle.code.specs.Stretch.{own-place}
+use Rattle.counting.specs.Count.{one}
+use Rattle.code.specs.Marks.{lost}
 
 -- a place that is lost and not kept
 abbrev pub free : List ℕ → List ℕ → ℕ → Bool
@@ -24,69 +20,3 @@ keptMark (suc c) true x = x
 unfoldable pub keptOf : ℕ → List ℕ → List ℕ
 keptOf c [] = []
 keptOf c (x ∷ xs) = keptMark c (eqb x 1) x ∷ keptOf (c - one (eqb x 1)) xs
-
-pub kept-length : (c : ℕ) (marks : List ℕ) → length (keptOf c marks) ≡ length marks
-unfolding keptOf
-kept-length c [] = refl
-kept-length c (x ∷ xs) = ap suc (kept-length (c - one (eqb x 1)) xs)
-
--- a present place is not kept
-pub kept-present : (c : ℕ) (marks : List ℕ) (p : ℕ) → lost marks p ≡ false → lost (keptOf c marks) p ≡ false
-unfolding keptOf
-kept-present c [] p e = e
-kept-present c (x ∷ xs) zero e = ap (λ b. eqb (keptMark c b x) 1) e ∙ e
-kept-present c (x ∷ xs) (suc p) e = kept-present (c - one (eqb x 1)) xs p e
-
--- at how many of the places of marks kept has a lost mark
-unfoldable lostCount : List ℕ → List ℕ → ℕ
-lostCount marks kept = countBelow (length marks) (lost kept)
-
-count-cons : (x y : ℕ) (xs ys : List ℕ) → lostCount (x ∷ xs) (y ∷ ys) ≡ one (eqb y 1) + lostCount xs ys
-unfolding lostCount
-count-cons x y xs ys = total-first (length xs) (λ i. one (lost (y ∷ ys) i))
-
-count-nil : lostCount [] [] ≡ 0
-unfolding lostCount
-count-nil = total-none (λ i. one (lost [] i))
-
-mark-count : (c x n : ℕ) → one (eqb (keptMark c (eqb x 1) x) 1) + min (c - one (eqb x 1)) n ≡ min c (one (eqb x 1) + n)
-mark-count c x n = go c (eqb x 1) refl
-  where
-    go : (d : ℕ) (b : Bool) → eqb x 1 ≡ b → one (eqb (keptMark d b x) 1) + min (d - one b) n ≡ min d (one b + n)
-    go d false e = rw e (omega arith)
-    go zero true e = omega arith
-    go (suc d) true e = rw e (omega arith)
-
-count-kept : (c : ℕ) (marks : List ℕ) → lostCount marks (keptOf c marks) ≡ min c (lostCount marks marks)
-unfolding keptOf
-count-kept c [] = let z = count-nil in omega arith
-count-kept c (x ∷ xs) =
-    count-cons x (keptMark c (eqb x 1) x) xs (keptOf (c - one (eqb x 1)) xs)
-    ∙ ap (λ n. one (eqb (keptMark c (eqb x 1) x) 1) + n) (count-kept (c - one (eqb x 1)) xs) ∙ mark-count c x (lostCount xs xs)
-    ∙ ap (min c) (sym (count-cons x x xs xs))
-
--- where a lost place is not kept, c or more are lost
-enough : (c : ℕ) (marks : List ℕ) (j : ℕ) → lost marks j ≡ true → lost (keptOf c marks) j ≡ false → c ≤ lostCount marks marks
-unfolding keptOf
-enough c [] j e f = let z : _≡_ {A = ℕ} 0 1 = cc in absurd (omega arith)
-enough c (x ∷ xs) zero e f = go c (ap (λ b. eqb (keptMark c b x) 1) (sym e) ∙ f)
-  where
-    go : (d : ℕ) → eqb (keptMark d true x) 1 ≡ false → d ≤ lostCount (x ∷ xs) (x ∷ xs)
-    go zero q = omega arith
-    go (suc d) q = let z : _≡_ {A = ℕ} 0 1 = cc in absurd (omega arith)
-enough c (x ∷ xs) (suc j) e f = let l = enough (c - one (eqb x 1)) xs j e f in omega (arith, count-cons x x xs xs)
-
-count-in : (w : ℕ) (marks : List ℕ) → lostIn w marks 0 ≡ countBelow w (lost marks)
-unfolding lostIn
-count-in w marks = total-ext w _ _ (λ j l. ap (λ n. one (lost marks n)) (own-place w j))
-
-pub kept-count : (c : ℕ) (marks : List ℕ) → lostIn (length marks) (keptOf c marks) 0 ≡ min c (lostIn (length marks) marks 0)
-unfolding lostCount
-kept-count c marks = count-in (length marks) (keptOf c marks) ∙ count-kept c marks ∙ ap (min c) (sym (count-in (length marks) marks))
-
--- where a lost place is not kept, c are kept
-pub kept-full : (c : ℕ) (marks : List ℕ) (j : ℕ) → lost marks j ≡ true → lost (keptOf c marks) j ≡ false → lostIn (length marks) (keptOf c marks) 0 ≡ c
-unfolding lostCount
-kept-full c marks j e f =
-    let l = enough c marks j e f in
-    kept-count c marks ∙ omega (arith, count-in (length marks) marks)

@@ -6,7 +6,8 @@ ghost use Rattle.shape.specs.Shapes.{Good};
 ghost use Rattle.erasures.specs.Kept.{free, keptOf};
 ghost use Rattle.erasures.specs.Whole.{keptGroups, KeptAll};
 ghost use Rattle.erasures.specs.Places.{FreePlaces, NextFree};
-ghost use Rattle.erasures.specs.FirstTwo.{freePlaces, firstTwo};
+ghost use Rattle.erasures.specs.FirstTwo.{firstTwo};
+ghost use Rattle.erasures.specs.FirstTwoLaws.{freePlaces};
 
 // The number of free places that were found, two at most, and where they are; a place that was not found is 0.
 pub struct Free {

@@ -1,16 +1,14 @@
 -- The sums done by hand that are shown of the definitions: one list of pairs, what the definition gives and what the paper has, under one claim.
-use mathlib.Core.Path.{_≡_, refl}
+use mathlib.Core.Path.{_≡_}
 use mathlib.Core.List.{List, [], _∷_}
 use Prim.Native.Nat.{ℕ}
-use Rattle.binary_field.specs.Xor.{_⊕_, masked}
-use Rattle.binary_field.specs.Product.{double, bitSum, product}
+use Rattle.binary_field.specs.Product.{product}
 use Rattle.binary_field.specs.Power.{power}
-use Rattle.shape.specs.Shapes.{sureCount, shapeRefusal, describedOf, describedNumber, describedFigures}
+use Rattle.shape.specs.Shapes.{describedOf, describedNumber, describedFigures}
 use Rattle.code.specs.Marks.{excess}
-use Rattle.code.specs.Answer.{Outcome}
 use Rattle.recover.specs.Service.{recoverOf}
 use Rattle.encode.specs.Service.{encodedWord}
-use Rattle.evidence.specs.WordSums.{number, outcomeList, encoded-first, encoded-second, three-lost, three-done, three-excess, five-lost, five-excess, last-byte}
+use Rattle.evidence.specs.WordSums.{number, outcomeList}
 
 -- in each pair the two are the same
 abbrev pub AllSame : List (List ℕ × List ℕ) → Type 0
@@ -42,22 +40,3 @@ handSums =
       outcomeList (recoverOf 2 3 1 (1 ∷ 1 ∷ 0 ∷ 78 ∷ 206 ∷ 129 ∷ []) (0 ∷ 0 ∷ 0 ∷ 0 ∷ 0 ∷ 0 ∷ [])),
       9 ∷ 1 ∷ 1 ∷ 0 ∷ 78 ∷ 206 ∷ 129 ∷ 0 ∷ 0 ∷ 0 ∷ 0 ∷ 0 ∷ 0 ∷ [],
     ) ∷ []
-
-pub hand-sums : AllSame handSums
-unfolding power product bitSum double masked _⊕_ sureCount shapeRefusal describedOf
-hand-sums = (
-  refl,
-  (
-    refl,
-    (
-      refl,
-      (
-        refl,
-        (
-          refl,
-          (refl, (refl, (encoded-first, (encoded-second, (three-excess, (three-done, (three-lost, (five-excess, (five-lost, (last-byte, tt)))))))))),
-        ),
-      ),
-    ),
-  ),
-)

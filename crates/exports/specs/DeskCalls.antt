@@ -1,11 +1,11 @@
 -- What the desk's calls give to C: a number, and what the lent desk, word, handle and served count hold then.
-use mathlib.Core.Path.{_≡_, refl, ap, _∙_}
+use mathlib.Core.Path.{_≡_}
 use mathlib.Core.List.{List}
 use Prim.Native.Nat.{ℕ, zero, suc}
 use Rattle.desk.specs.declared.Desk.{Desk}
 use Rattle.desk.specs.declared.Opened.{Opened}
 use Rattle.desk.specs.declared.Counted.{Counted}
-use Rattle.desk.specs.Calls.{Opening, OpenGives, openedAt, openedNumber, Reading, ReadGives, countedAt, countedNumber, Closing, Serving}
+use Rattle.desk.specs.Calls.{Opening, Reading, Closing, Serving}
 
 -- "On every refusal all lent buffers [..] stay as they were": what a lent number holds at the end
 abbrev pub keptUnlessDone : ℕ → ℕ → ℕ → ℕ
@@ -39,30 +39,7 @@ abbrev pub handleOr : Opened → ℕ → ℕ
 handleOr (Opened.Handle handle) lent = handle
 handleOr (Opened.Refused r) lent = lent
 
-handle-or : (r handle lent : ℕ) → handleOr (openedAt r handle) lent ≡ keptUnlessDone r handle lent
-handle-or zero handle lent = refl
-handle-or (suc r) handle lent = refl
-
-pub opens-number : (o : Opening) (lent : ℕ) (desk : Desk) (answer : Opened) (handle number : ℕ)
-    → (number ≡ openedNumber answer) × (handle ≡ handleOr answer lent) → OpenGives o desk answer → OpensNumber o lent desk handle number
-opens-number o lent desk answer handle number k e = record {
-  number-is = k .0 ∙ e .number-is;
-  desk-is = e .desk-is;
-  handle-is = k .1 ∙ (ap (λ a. handleOr a lent) (e .answer-is) ∙ handle-or (o .number) (o .handle) lent);
-}
-
 -- the served count of an answer, or what was lent
 abbrev pub servedOr : Counted → ℕ → ℕ
 servedOr (Counted.Served served) lent = served
 servedOr (Counted.Refused r) lent = lent
-
-served-or : (r served lent : ℕ) → servedOr (countedAt r served) lent ≡ keptUnlessDone r served lent
-served-or zero served lent = refl
-served-or (suc r) served lent = refl
-
-pub reads-number : (o : Reading) (lent : ℕ) (answer : Counted) (served number : ℕ)
-    → (number ≡ countedNumber answer) × (served ≡ servedOr answer lent) → ReadGives o answer → ReadsNumber o lent served number
-reads-number o lent answer served number k e = record {
-  number-is = k .0 ∙ e .number-is;
-  served-is = k .1 ∙ (ap (λ a. servedOr a lent) (e .answer-is) ∙ served-or (o .number) (o .served) lent);
-}

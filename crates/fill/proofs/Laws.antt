@@ -8,21 +8,27 @@ use native.Mathlib.Decide.{ℕ-discrete, decLt}
 use native.Mathlib.Omega.{arith}
 use lib.ListN.{length, getD, set, replicate}
 use lib.Seq.{getD-set-same, getD-set-other}
-use Rattle.counting.specs.Count.{countBelow, one, total-suc, total-ext}
-use Rattle.binary_field.specs.Xor.{_⊕_, ⊕-self}
-use Rattle.binary_field.specs.Product.{product, product-comm}
-use Rattle.binary_field.specs.Sum.{sumBelow, innerProduct, sum-ext}
+use Rattle.counting.specs.Count.{countBelow, one}
+use Rattle.counting.specs.CountLaws.{total-suc, total-ext}
+use Rattle.binary_field.specs.Xor.{_⊕_}
+use Rattle.binary_field.specs.XorLaws.{⊕-self}
+use Rattle.binary_field.specs.Product.{product}
+use Rattle.binary_field.specs.ProductLaws.{product-comm}
+use Rattle.binary_field.specs.Sum.{sumBelow, innerProduct}
+use Rattle.binary_field.specs.SumLaws.{sum-ext}
 use Rattle.code.specs.Edition.{bytes, bytes-sound, times, raised}
 use Rattle.code.specs.Word.{groupSum, localSum}
 use Rattle.code.specs.Marks.{lost, lostIn}
-use Rattle.code.specs.Stretch.{own-place}
-use Rattle.coefficients.specs.Rows.{powerRows, noRow, power-at}
+use Rattle.code.specs.StretchLaws.{own-place}
+use Rattle.coefficients.specs.Rows.{powerRows, noRow}
+use Rattle.coefficients.specs.RowsLaws.{power-at}
 use Rattle.solve.specs.Elimination.{entry, eliminated}
 use Rattle.solve.specs.Steps.{System}
-use Rattle.solve.specs.Bytes.{solution}
+use Rattle.solve.specs.BytesLaws.{solution}
 use Rattle.fill.specs.Positions.{Positions}
-use Rattle.fill.specs.Placed.{placed, length-placed, placed-other, placed-at, placed-sum}
-use Rattle.fill.specs.Equations.{Equations, independent}
+use Rattle.fill.specs.Placed.{placed}
+use Rattle.fill.specs.PlacedLaws.{length-placed, placed-other, placed-at, placed-sum}
+use Rattle.fill.specs.EquationsLaws.{Equations, independent}
 use Rattle.fill.specs.Filled.{Filled}
 
 -- what holds of each element before i, and of v, holds up to i once v is written there

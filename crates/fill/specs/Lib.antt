@@ -1,5 +1,6 @@
 pub mod Positions
-pub mod Change
+pub mod ChangeLaws
 pub mod Placed
-pub mod Equations
+pub mod PlacedLaws
+pub mod EquationsLaws
 pub mod Filled

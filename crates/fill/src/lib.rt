@@ -5,7 +5,7 @@ ghost use lib.ListN.{length};
 ghost use Rattle.fill.specs.Filled.{Filled};
 ghost use Rattle.fill.specs.Positions.{Inside, Found};
 ghost use Rattle.fill.specs.Placed.{placed};
-ghost use Rattle.fill.specs.Equations.{Equation, Equations};
+ghost use Rattle.fill.specs.EquationsLaws.{Equation, Equations};
 
 // The positions of the first four lost places, in order, and how many places are lost.
 struct Erasures {

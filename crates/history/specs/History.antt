@@ -3,6 +3,7 @@ use mathlib.Core.Bool.{Bool, true, false, not, _&&_, _||_}
 use mathlib.Core.List.{List, [], _∷_}
 use Prim.Native.Nat.{ℕ, zero, suc, _+_}
 use lib.Dec.{eqb}
+use Rattle.counting.specs.Count.{one}
 use Rattle.desk.specs.declared.Desk.{Desk}
 use Rattle.desk.specs.Desks.{freshDesk}
 use Rattle.desk.specs.Calls.{openOf, readOf, closeOf, serveOf}
@@ -21,6 +22,7 @@ pub record Step : Type 0 where
   pub value : ℕ
   pub desk : Desk
 
+-- what one call leaves and answers
 unfoldable pub step : Call → Desk → Step
 step Fresh desk = record { number = 0; value = 0; desk = freshDesk }
 step (Open m w c marks) desk = record {
@@ -47,6 +49,7 @@ pub record Answered : Type 0 where
   pub number : ℕ
   pub value : ℕ
 
+-- the calls with what they answered, in order
 unfoldable pub answers : Desk → List Call → List Answered
 answers desk [] = []
 answers desk (call ∷ calls) = record { call = call; number = step call desk .number; value = step call desk .value } ∷ answers (step call desk .desk) calls
@@ -66,6 +69,7 @@ abbrev pub ifDone : ℕ → Ledger → Ledger → Ledger
 ifDone zero a b = a
 ifDone (suc r) a b = b
 
+-- what a call that was answered so adds to the ledger
 abbrev pub noteBy : Call → ℕ → ℕ → Ledger → Ledger
 noteBy Fresh number value ledger = emptyLedger
 noteBy (Open m w c marks) number value ledger =
@@ -80,6 +84,7 @@ noteBy (Close handle) number value ledger =
 abbrev pub note : Answered → Ledger → Ledger
 note a ledger = noteBy (a .call) (a .number) (a .value) ledger
 
+-- the ledger after some answered calls
 unfoldable pub noted : Ledger → List Answered → Ledger
 noted ledger [] = ledger
 noted ledger (a ∷ rest) = noted (note a ledger) rest
@@ -93,14 +98,10 @@ unfoldable pub isIn : ℕ → List ℕ → Bool
 isIn h [] = false
 isIn h (x ∷ xs) = eqb h x || isIn h xs
 
-abbrev pub tally : Bool → ℕ
-tally true = 1
-tally false = 0
-
 -- how often a number is in a list
 unfoldable pub times : ℕ → List ℕ → ℕ
 times h [] = 0
-times h (x ∷ xs) = times h xs + tally (eqb h x)
+times h (x ∷ xs) = times h xs + one (eqb h x)
 
 -- no number twice in a list
 unfoldable pub isDistinct : List ℕ → Bool

@@ -10,7 +10,8 @@ use borrow.Author.Tests.{eqb-true, eq-eqb}
 use lib.ListN.{length, getD, List·getD-eq-default}
 use lib.Seq.{getD-take}
 use Rattle.code.specs.Marks.{excess}
-use Rattle.marks.specs.Refusal.{Marked, marks-of-good}
+use Rattle.marks.specs.Refusal.{Marked}
+use Rattle.marks.specs.RefusalLaws.{marks-of-good}
 use Rattle.judge.specs.Answer.{judgedNumberOf}
 use Rattle.judge.specs.Laws.{zero-excess}
 use Rattle.desk.specs.declared.Job.{Job}
@@ -19,9 +20,10 @@ use Rattle.desk.specs.Desks.{jobAt, isFree, isTaken, issueOf, slotOf, marksOf, 
 use Rattle.desk.specs.Calls.{freeSlot, newHandle, newJob, openNumber, openBy, openOf}
 use Rattle.desk.specs.Laws.{judged-marked, Sound, sound-parts, sound-of, Taken, taken-of}
 use Rattle.desk.specs.CallLaws.{free-most, open-parts}
-use Rattle.history.specs.Put.{Unique, unique-of, once-of, issued-of, issued-to, slot-of-free, slot-of-taken, free-or-taken, put-same, put-other}
-use Rattle.history.specs.Effects.{open-held, open-by-slot, spot-of, free-slot}
-use Rattle.history.specs.Put.{and-to}
+use Rattle.history.specs.Put.{Unique}
+use Rattle.history.specs.PutLaws.{unique-of, once-of, issued-of, issued-to, slot-of-free, slot-of-taken, free-or-taken, put-same, put-other}
+use Rattle.history.specs.EffectsLaws.{open-held, open-by-slot, spot-of, free-slot}
+use Rattle.history.specs.PutLaws.{and-to}
 use Rattle.history.specs.Meaning.{TakenAt, Holds, SoundDesk, HeldIn, IsHeld, LowestFree, Opens, AllTaken}
 
 -- ---- soundness

@@ -12,14 +12,16 @@ use lib.ListN.{length, getD}
 use Rattle.shape.specs.Refusals.{refuse, _orElse_}
 use Rattle.shape.specs.Shapes.{placeCount, dataCount, shapeRefusal, wordRefusal}
 use Rattle.shape.specs.Laws.{word-of-good}
-use Rattle.marks.specs.Refusal.{areMarks, marksRefusal, marks-of-good}
+use Rattle.marks.specs.Refusal.{areMarks, marksRefusal}
+use Rattle.marks.specs.RefusalLaws.{marks-of-good}
 use Rattle.judge.specs.Answer.{judgedNumberOf}
 use Rattle.code.specs.Edition.{bytes}
 use Rattle.code.specs.Word.{isCodeword}
 use Rattle.code.specs.Marks.{excess}
 use Rattle.code.specs.Answer.{Outcome, eight, nine, done}
-use Rattle.code.specs.Answer as Answer
-use Rattle.code.specs.Recovery.{recovered, agrees-passing, passing-agrees}
+use Rattle.code.specs.AnswerLaws as AnswerLaws
+use Rattle.code.specs.Recovery.{recovered}
+use Rattle.code.specs.RecoveryLaws.{agrees-passing, passing-agrees}
 use Rattle.recover.specs.Service.{recoverRefusal, recoverOf, unlessBefore}
 use Rattle.desk.specs.declared.Job.{Job}
 use Rattle.desk.specs.declared.Desk.{Desk}
@@ -109,7 +111,7 @@ data JobCase (job : Job) (word : List ℕ) (number : ℕ) : Type 0 where
 module _ (job : Job) (word : List ℕ) (good : isGood job ≡ true) where
   recovery-case : length word ≡ job .m * job .w → ¬ (job .served ≡ 4294967295) → JobCase job word (jobNumber job word)
   recovery-case h k =
-      elim (Answer.cases 256 (isCodeword bytes (job .m) (job .w) (job .c)) (ltb 2 (excess (job .m) (job .w) (job .c) (marksOf job))) word (marksOf job)) [
+      elim (AnswerLaws.cases 256 (isCodeword bytes (job .m) (job .w) (job .c)) (ltb 2 (excess (job .m) (job .w) (job .c) (marksOf job))) word (marksOf job)) [
         | eight l e ↦ (
             let a = ltb-true 2 (excess (job .m) (job .w) (job .c) (marksOf job)) l in
             let b = good-iff job .0 good .1 in

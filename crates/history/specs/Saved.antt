@@ -4,28 +4,12 @@
 -- So all that `history` says holds of the copy too, with its own ledger: the one of the time it was saved, carried on by its own answers.
 -- A number issued afterwards on the original is unknown to the copy,
 -- which can issue the same: as of any two desks, such handles can't be told apart.
-use mathlib.Core.Path.{_≡_, refl, sym, ap, _∙_}
-use mathlib.Core.List.{List, [], _∷_, _++_}
-use Rattle.desk.specs.declared.Desk.{Desk}
+use mathlib.Core.Path.{_≡_}
+use mathlib.Core.List.{List, _++_}
 use Rattle.desk.specs.Desks.{freshDesk}
-use Rattle.history.specs.History.{Call, step, after, grown, Answered, answers, Ledger, emptyLedger, note, noted, ledgerOf}
-use Rattle.history.specs.Theorem.{fresh-kept, kept-all, Agrees, agrees}
-
-after-append : (desk : Desk) (before calls : List Call) → after (after desk before) calls ≡ after desk (before ++ calls)
-unfolding after
-after-append desk [] calls = refl
-after-append desk (call ∷ before) calls = after-append (step call desk .desk) before calls
-
-answers-append : (desk : Desk) (before calls : List Call) → answers desk (before ++ calls) ≡ answers desk before ++ answers (after desk before) calls
-unfolding answers after
-answers-append desk [] calls = refl
-answers-append desk (call ∷ before) calls =
-    ap (λ l. record { call = call; number = step call desk .number; value = step call desk .value } ∷ l) (answers-append (step call desk .desk) before calls)
-
-noted-append : (ledger : Ledger) (x y : List Answered) → noted ledger (x ++ y) ≡ noted (noted ledger x) y
-unfolding noted
-noted-append ledger [] y = refl
-noted-append ledger (a ∷ x) y = noted-append (note a ledger) x y
+use Rattle.history.specs.History.{Call, after, grown, answers, noted, ledgerOf}
+use Rattle.history.specs.Theorem.{Agrees}
+use Rattle.history.specs.TheoremLaws.{agrees}
 
 -- calls on a copy saved after `before`
 pub record Saved (before calls : List Call) : Type 0 where
@@ -33,15 +17,3 @@ pub record Saved (before calls : List Call) : Type 0 where
   pub told : answers freshDesk (before ++ calls) ≡ answers freshDesk before ++ answers (grown before) calls
   pub ledger : noted (ledgerOf before) (answers (grown before) calls) ≡ ledgerOf (before ++ calls)
   pub agrees : Agrees (after (grown before) calls) (noted (ledgerOf before) (answers (grown before) calls))
-
-pub saved : (before calls : List Call) → Saved before calls
-saved before calls = record {
-  desk = after-append freshDesk before calls;
-  told = answers-append freshDesk before calls;
-  ledger =
-      sym (noted-append emptyLedger (answers freshDesk before) (answers (grown before) calls))
-      ∙ ap (noted emptyLedger) (sym (answers-append freshDesk before calls));
-  agrees =
-      agrees (after (grown before) calls) (noted (ledgerOf before) (answers (grown before) calls))
-      (kept-all calls (grown before) (ledgerOf before) (kept-all before freshDesk emptyLedger fresh-kept));
-}

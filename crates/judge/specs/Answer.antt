@@ -11,10 +11,12 @@ use Rattle.judge.specs.declared.Judged.{Judged}
 unfoldable pub judgedNumberOf : ℕ → ℕ → ℕ → List ℕ → ℕ
 judgedNumberOf m w c marks = marksRefusal m w c marks orElse refuse 8 (ltb 2 (excess m w c marks))
 
+-- the answer by its number
 abbrev pub judgedAt : ℕ → Judged
 judgedAt zero = Judged.Determined
 judgedAt (suc r) = Judged.Refused (suc r)
 
+-- of any call
 unfoldable pub judgedOf : ℕ → ℕ → ℕ → List ℕ → Judged
 judgedOf m w c marks = judgedAt (judgedNumberOf m w c marks)
 

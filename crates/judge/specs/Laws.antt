@@ -12,11 +12,15 @@ use Rattle.shape.specs.Refusals.{refuse}
 use Rattle.shape.specs.Shapes.{Good, sureCount}
 use Rattle.code.specs.Edition.{bytes, bytes-sound}
 use Rattle.code.specs.Marks.{lost, excess}
-use Rattle.code.specs.Determined.{Undetermined, above-two, undetermined}
-use Rattle.marks.specs.Refusal.{Marked, marksRefusal, good-of-marks, marks-of-good}
+use Rattle.code.specs.Determined.{Undetermined}
+use Rattle.code.specs.DeterminedLaws.{above-two, undetermined}
+use Rattle.marks.specs.Refusal.{Marked, marksRefusal}
+use Rattle.marks.specs.RefusalLaws.{good-of-marks, marks-of-good}
 use Rattle.judge.specs.declared.Judged.{Judged}
 use Rattle.judge.specs.Answer.{judgedNumberOf, judgedAt, judgedOf, judgedNumber}
-use Rattle.judge.specs.Sure.{firstLost, first-length, first-mark, first-count, sure-excess, first-many}
+use Rattle.judge.specs.Sure.{firstLost}
+use Rattle.judge.specs.SureLaws.{first-length, first-mark, first-count, sure-excess, first-many}
+use Rattle.judge.specs.SureCount.{IsSure, Fails}
 
 pub judged-refused : (r : ℕ) → (r ≡ 0 → ⊥) → judgedAt r ≡ Judged.Refused r
 judged-refused zero h = absurd (h refl)
@@ -86,17 +90,6 @@ module _ (m w c : ℕ) (marks : List ℕ) (accepted : marksRefusal m w c marks �
   -- a loss of that many places or fewer is judged 0
   pub sure : countBelow (m * w) (lost marks) ≤ sureCount w c → judgedNumberOf m w c marks ≡ 0
   sure h = low (sure-excess m w c marks h)
-
--- "every pattern of that many losses or fewer is judged 0"
-abbrev pub IsSure : ℕ → ℕ → ℕ → ℕ → Type 0
-IsSure m w c s = (marks : List ℕ) → marksRefusal m w c marks ≡ 0 → countBelow (m * w) (lost marks) ≤ s → judgedNumberOf m w c marks ≡ 0
-
--- a pattern of so many losses that is judged 8
-pub record Fails (m w c losses : ℕ) : Type 0 where
-  pub marks : List ℕ
-  pub accepted : marksRefusal m w c marks ≡ 0
-  pub count : countBelow (m * w) (lost marks) ≡ losses
-  pub eight : judgedNumberOf m w c marks ≡ 8
 
 module _ {m w c : ℕ} (g : Good m w c) where
   -- one loss more can fail

@@ -1,4 +1,6 @@
 pub mod Answer
 pub mod Sure
+pub mod SureLaws
+pub mod SureCount
 pub mod Laws
-pub mod AnyTwo
+pub mod AnyTwoLaws

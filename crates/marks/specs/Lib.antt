@@ -1,2 +1,3 @@
 pub mod Refusal
-pub mod Counts
+pub mod RefusalLaws
+pub mod CountsLaws

@@ -1,18 +1,13 @@
 -- The refusals of a service that is lent marks.
-use mathlib.Core.Path.{_≡_, refl, sym, subst}
-use mathlib.Core.Bool.{Bool, true, false, not}
+use mathlib.Core.Path.{_≡_}
+use mathlib.Core.Bool.{Bool, not}
 use mathlib.Core.List.{List}
-use Prim.Native.Nat.{ℕ, zero, suc, _*_, _<_, _≤_}
-use native.Mathlib.Omega.{arith}
-use native.Mathlib.Decide.{decLt}
-use borrow.Author.Tests.{not-true, not-false}
-use lib.Dec.{T, not-T, ltb, ltb→lt, lt→ltb}
-use lib.Ieee.Bits.{is-true}
-use lib.ListN.{length, getD, List·getD-eq-default}
-use Rattle.counting.specs.Test.{allBelow, all-at, all-intro}
-use Rattle.shape.specs.Refusals.{refuse, _orElse_, refuse-zero, orElse-zero}
+use Prim.Native.Nat.{ℕ, _*_, _<_}
+use lib.Dec.{ltb}
+use lib.ListN.{length, getD}
+use Rattle.counting.specs.Test.{allBelow}
+use Rattle.shape.specs.Refusals.{refuse, _orElse_}
 use Rattle.shape.specs.Shapes.{Good, wordRefusal}
-use Rattle.groups.specs.Lent.{lent, not-refused}
 
 -- "n bytes, 1 for lost and 0 for present"
 unfoldable pub areMarks : List ℕ → Bool
@@ -22,45 +17,8 @@ areMarks marks = allBelow (length marks) (λ p. ltb (getD marks p 0) 2)
 unfoldable pub marksRefusal : ℕ → ℕ → ℕ → List ℕ → ℕ
 marksRefusal m w c marks = wordRefusal m w c (length marks) orElse refuse 6 (not (areMarks marks))
 
--- the first number that is not 0
-pub orElse-first : (r s : ℕ) → (r ≡ 0 → ⊥) → r orElse s ≡ r
-orElse-first zero s h = absurd (h refl)
-orElse-first (suc r) s h = refl
-
-pub each-mark : (marks : List ℕ) → T (areMarks marks) → (p : ℕ) → getD marks p 0 < 2
-unfolding areMarks
-each-mark marks t p = elim (decLt p (length marks)) [
-  | yes h ↦ ltb→lt (getD marks p 0) 2 (all-at (length marks) (λ p. ltb (getD marks p 0) 2) t p h)
-  | no h ↦ (let k : length marks ≤ p = omega arith in subst (λ n. n < 2) (sym (List·getD-eq-default marks 0 k)) (omega arith))
-]
-
-pub marks-each : (marks : List ℕ) → ((p : ℕ) → p < length marks → getD marks p 0 < 2) → areMarks marks ≡ true
-unfolding areMarks
-marks-each marks h = is-true _ (all-intro (length marks) (λ p. ltb (getD marks p 0) 2) (λ p l. lt→ltb (getD marks p 0) 2 (h p l)))
-
-pub other-mark : (marks : List ℕ) (p : ℕ) → 1 < getD marks p 0 → areMarks marks ≡ false
-other-mark marks p h = not-true (areMarks marks) (is-true _ (not-T (areMarks marks) (λ t. let k = each-mark marks t p in omega arith)))
-
 -- a good shape with marks of its length, each 0 or 1
 pub record Marked (m w c : ℕ) (marks : List ℕ) : Type 0 where
   pub good : Good m w c
   pub size : length marks ≡ m * w
   pub each : (p : ℕ) → getD marks p 0 < 2
-
-module _ (m w c : ℕ) (marks : List ℕ) where
-  pub good-of-marks : marksRefusal m w c marks ≡ 0 → Marked m w c marks
-  unfolding marksRefusal
-  good-of-marks e =
-      let z = orElse-zero _ _ e in
-      let L = lent m w c marks (z .0) in
-      let t : areMarks marks ≡ true = not-false _ (refuse-zero 5 _ (z .1)) in
-      record {
-        good = L .good;
-        size = L .size;
-        each = each-mark marks (rw t tt);
-      }
-
-  pub marks-of-good : Marked m w c marks → marksRefusal m w c marks ≡ 0
-  unfolding marksRefusal
-  marks-of-good M =
-      simp (not-refused m w c marks (record { good = M .good; size = M .size }), marks-each marks (λ p _. M .each p))

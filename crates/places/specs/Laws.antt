@@ -12,9 +12,10 @@ use borrow.Author.Tests.{le-leb, lt-leb, eq-eqb, ne-eqb}
 use Rattle.shape.specs.Shapes.{Good, placeCount, dataCount}
 use Rattle.shape.specs.Laws.{data-and-checks, word-of-good, buffers-of-good}
 use Rattle.places.specs.Places.{isCheck, othersFrom, dataPlaces, bytesAt, extractOf, placedOf, mark, checkMarks, extractedData, placedWord, markedChecks}
-use Rattle.counting.specs.Count.{totalBelow, countBelow, one, total-append, count-ext}
-use Rattle.places.specs.Count.{count-from}
-use Rattle.places.specs.From as From
+use Rattle.counting.specs.Count.{totalBelow, countBelow, one}
+use Rattle.counting.specs.CountLaws.{total-append, count-ext}
+use Rattle.places.specs.CountLaws.{count-from}
+use Rattle.places.specs.FromLaws as FromLaws
 
 -- place j of group g
 pub check-at : (m w c g j : ℕ) → j < w → isCheck m w c (g * w + j) ≡ (leb w (j + c) || (eqb (g + 1) m && leb w (j + (c + 2))))
@@ -68,7 +69,7 @@ module _ {m w c : ℕ} (good : Good m w c) where
   unfolding dataPlaces totalBelow
   data-length =
       let n = placeCount m w in
-      omega (arith, From.others-length (isCheck m w c) 0 n, ap (λ x. countBelow x (isCheck m w c)) (zero-add n), checks-all, data-and-checks good, mul-comm m c)
+      omega (arith, FromLaws.others-length (isCheck m w c) 0 n, ap (λ x. countBelow x (isCheck m w c)) (zero-add n), checks-all, data-and-checks good, mul-comm m c)
 
   pub extract-length : (word : List ℕ) → length (extractOf m w c word) ≡ dataCount m w c
   unfolding extractOf bytesAt
@@ -76,7 +77,7 @@ module _ {m w c : ℕ} (good : Good m w c) where
 
   pub extract-placed : (bytes : List ℕ) → length bytes ≡ dataCount m w c → extractOf m w c (placedOf m w c bytes) ≡ bytes
   unfolding extractOf placedOf dataPlaces bytesAt
-  extract-placed bytes e = From.others-spread (isCheck m w c) 0 (placeCount m w) [] bytes refl (e ∙ sym data-length)
+  extract-placed bytes e = FromLaws.others-spread (isCheck m w c) 0 (placeCount m w) [] bytes refl (e ∙ sym data-length)
 
   -- what a call that is not refused leaves
   pub extracted-data : (word bytes : List ℕ) → length word ≡ placeCount m w → length bytes ≡ dataCount m w c → extractedData m w c word bytes ≡ extractOf m w c word
@@ -94,44 +95,44 @@ module _ {m w c : ℕ} (good : Good m w c) where
 module _ (m w c : ℕ) where
   pub placed-length : (bytes : List ℕ) → length (placedOf m w c bytes) ≡ placeCount m w
   unfolding placedOf
-  placed-length bytes = From.spread-length (isCheck m w c) 0 (placeCount m w) bytes
+  placed-length bytes = FromLaws.spread-length (isCheck m w c) 0 (placeCount m w) bytes
 
   pub placed-check : (bytes : List ℕ) (p : ℕ) → p < placeCount m w → isCheck m w c p ≡ true → getD (placedOf m w c bytes) p 0 ≡ 0
   unfolding placedOf
-  placed-check bytes p l e = From.spread-check (isCheck m w c) 0 (placeCount m w) bytes p l (ap (isCheck m w c) (zero-add p) ∙ e)
+  placed-check bytes p l e = FromLaws.spread-check (isCheck m w c) 0 (placeCount m w) bytes p l (ap (isCheck m w c) (zero-add p) ∙ e)
 
   -- numbers below b stay below b
   pub placed-below : (b : ℕ) → 0 < b → (bytes : List ℕ) → ((i : ℕ) → getD bytes i 0 < b) → (p : ℕ) → getD (placedOf m w c bytes) p 0 < b
   unfolding placedOf
-  placed-below b l bytes h p = From.spread-below (isCheck m w c) b l 0 (placeCount m w) bytes h p
+  placed-below b l bytes h p = FromLaws.spread-below (isCheck m w c) b l 0 (placeCount m w) bytes h p
 
   pub extract-below : (b : ℕ) → 0 < b → (word : List ℕ) → ((p : ℕ) → getD word p 0 < b) → (i : ℕ) → getD (extractOf m w c word) i 0 < b
   unfolding extractOf
-  extract-below b l word h i = From.bytes-below b l word h (dataPlaces m w c) i
+  extract-below b l word h i = FromLaws.bytes-below b l word h (dataPlaces m w c) i
 
   pub marks-length : length (checkMarks m w c) ≡ placeCount m w
   unfolding checkMarks
-  marks-length = From.marks-length (isCheck m w c) 0 (placeCount m w)
+  marks-length = FromLaws.marks-length (isCheck m w c) 0 (placeCount m w)
 
   pub marks-at : (p : ℕ) → p < placeCount m w → getD (checkMarks m w c) p 0 ≡ mark (isCheck m w c p)
   unfolding checkMarks
-  marks-at p l = From.marks-from (isCheck m w c) 0 (placeCount m w) p l ∙ ap (λ q. mark (isCheck m w c q)) (zero-add p)
+  marks-at p l = FromLaws.marks-from (isCheck m w c) 0 (placeCount m w) p l ∙ ap (λ q. mark (isCheck m w c q)) (zero-add p)
 
   pub marks-small : (p : ℕ) → getD (checkMarks m w c) p 0 ≤ 1
   unfolding checkMarks
-  marks-small p = From.marks-small (isCheck m w c) 0 (placeCount m w) p
+  marks-small p = FromLaws.marks-small (isCheck m w c) 0 (placeCount m w) p
 
   -- words that agree at the data places have the same data
   pub extract-agree : (x y : List ℕ) → ((p : ℕ) → p < placeCount m w → isCheck m w c p ≡ false → getD x p 0 ≡ getD y p 0) → extractOf m w c x ≡ extractOf m w c y
   unfolding extractOf dataPlaces bytesAt
   extract-agree x y h =
-      From.others-ext (isCheck m w c) (λ p. getD x p 0) (λ p. getD y p 0) 0 (placeCount m w) (λ p a b e. h p (omega arith) e)
+      FromLaws.others-ext (isCheck m w c) (λ p. getD x p 0) (λ p. getD y p 0) 0 (placeCount m w) (λ p a b e. h p (omega arith) e)
 
   -- and those that have the same data agree there
   pub agree-extract : (x y : List ℕ) → extractOf m w c x ≡ extractOf m w c y → (p : ℕ) → p < placeCount m w → isCheck m w c p ≡ false → getD x p 0 ≡ getD y p 0
   unfolding extractOf dataPlaces bytesAt
   agree-extract x y h p l e =
-      From.ext-others (isCheck m w c) (λ p. getD x p 0) (λ p. getD y p 0) 0 (placeCount m w) h p (omega arith) (omega arith) e
+      FromLaws.ext-others (isCheck m w c) (λ p. getD x p 0) (λ p. getD y p 0) 0 (placeCount m w) h p (omega arith) (omega arith) e
 
 -- "m 2, w 3, c 1, data 1, 1: word 1, 1, 0, 78, 206, 128."
 pub extract-2-3-1 : extractOf 2 3 1 (1 ∷ 1 ∷ 0 ∷ 78 ∷ 206 ∷ 128 ∷ []) ≡ 1 ∷ 1 ∷ []

@@ -1,4 +1,4 @@
 pub mod Places
-pub mod Count
-pub mod From
+pub mod CountLaws
+pub mod FromLaws
 pub mod Laws

@@ -67,5 +67,6 @@ extractedData m w c word bytes = unlessRefused (bufferRefusal m w c (length word
 unfoldable pub placedWord : ℕ → ℕ → ℕ → List ℕ → List ℕ → List ℕ
 placedWord m w c bytes word = unlessRefused (bufferRefusal m w c (length word) (length bytes)) (placedOf m w c bytes) word
 
+-- unless shape or length is refused
 unfoldable pub markedChecks : ℕ → ℕ → ℕ → List ℕ → List ℕ
 markedChecks m w c marks = unlessRefused (wordRefusal m w c (length marks)) (checkMarks m w c) marks

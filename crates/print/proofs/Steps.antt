@@ -9,8 +9,9 @@ use lib.ListN.{length, getD, take, set, length-append}
 use lib.Seq.{sets, length-take-le, take-suc}
 use Rattle.text.specs.Decimal.{decimal}
 use Rattle.text.specs.Lines.{cells, lineOf}
-use Rattle.print.specs.Written.{written, written-on, written-next, length-written, sets-written}
-use Rattle.print.specs.Cells.{one-digit, two-digits, three-digits, digits-most, cells-most, cells-next}
+use Rattle.print.specs.Written.{written}
+use Rattle.print.specs.WrittenLaws.{written-on, written-next, length-written, sets-written}
+use Rattle.print.specs.CellsLaws.{one-digit, two-digits, three-digits, digits-most, cells-most, cells-next}
 
 -- the position after a number, and the buffer
 abbrev pub Put : List ℕ → ℕ → ℕ → ℕ → List ℕ → Type 0

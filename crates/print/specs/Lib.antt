@@ -1,3 +1,4 @@
 pub mod Written
-pub mod Cells
+pub mod WrittenLaws
+pub mod CellsLaws
 pub mod Holds

@@ -17,6 +17,7 @@ module _ (m w c : ℕ) (word marks : List ℕ) where
   abbrev pub end : Outcome
   end = recoverOf m w c word marks
 
+  -- what demand 2 says of a call that is not refused 1 to 6
   pub record DemandTwo : Type 0 where
     -- 8 exactly when two different codewords agree at every present place
     pub eight : (end .number ≡ 8) ↔ Undetermined bytes m w c marks

@@ -8,13 +8,17 @@ use lib.ListN.{length, getD, replicate}
 use Rattle.shape.specs.Refusals.{_orElse_}
 use Rattle.shape.specs.Shapes.{Good, wordRefusal}
 use Rattle.shape.specs.Laws.{word-of-good}
-use Rattle.marks.specs.Refusal.{Marked, marksRefusal, marks-of-good}
-use Rattle.code.specs.Edition.{bytes, bytes-sound, bytes-few}
+use Rattle.marks.specs.Refusal.{Marked, marksRefusal}
+use Rattle.marks.specs.RefusalLaws.{marks-of-good}
+use Rattle.code.specs.Edition.{bytes, bytes-sound}
+use Rattle.code.specs.EditionLaws.{bytes-few}
 use Rattle.code.specs.Word.{isCodeword, Symbols}
 use Rattle.code.specs.Marks.{excess, Agree}
-use Rattle.code.specs.Answer.{Outcome, SameEnd, same-refusal, same-present, refused-unchanged}
-use Rattle.code.specs.Recovery.{Agrees, recovered, Single, eight-undetermined, undetermined-eight, nine-contradictory, contradictory-nine}
-use Rattle.code.specs.Recovery.{done-determined, determined-done, done-single}
+use Rattle.code.specs.Answer.{Outcome, SameEnd}
+use Rattle.code.specs.AnswerLaws.{same-refusal, same-present, refused-unchanged}
+use Rattle.code.specs.Recovery.{Agrees, recovered, Single}
+use Rattle.code.specs.RecoveryLaws.{eight-undetermined, undetermined-eight, nine-contradictory, contradictory-nine}
+use Rattle.code.specs.RecoveryLaws.{done-determined, determined-done, done-single}
 use Rattle.recover.specs.Service.{unlessBefore, recoverRefusal, recoverOf}
 use Rattle.recover.specs.DemandTwo.{end, DemandTwo}
 

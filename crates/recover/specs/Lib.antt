@@ -1,4 +1,6 @@
 pub mod Service
+pub mod ServiceLaws
 pub mod Attempt
+pub mod AttemptLaws
 pub mod DemandTwo
 pub mod DemandTwoLaws

@@ -1,10 +1,7 @@
 -- What the service Recover answers, and what word and marks hold then.
-use mathlib.Core.Path.{_≡_, refl}
 use mathlib.Core.List.{List}
 use Prim.Native.Nat.{ℕ, zero, suc}
 use lib.ListN.{length}
-use Rattle.shape.specs.declared.Answer.{Answer}
-use Rattle.shape.specs.Answers.{answerAt}
 use Rattle.shape.specs.Refusals.{_orElse_}
 use Rattle.shape.specs.Shapes.{wordRefusal}
 use Rattle.marks.specs.Refusal.{marksRefusal}
@@ -16,10 +13,6 @@ use Rattle.code.specs.Recovery.{recovered}
 abbrev pub unlessBefore : ℕ → Outcome → List ℕ → List ℕ → Outcome
 unlessBefore zero o word marks = o
 unlessBefore (suc r) o word marks = refused (suc r) word marks
-
-pub unless-before : (r : ℕ) (o : Outcome) (word marks : List ℕ) → (r ≡ 0 → ⊥) → unlessBefore r o word marks ≡ refused r word marks
-unless-before zero o word marks h = absurd (h refl)
-unless-before (suc r) o word marks h = refl
 
 -- 1 to 6: the shape, the lengths of word and marks, the marks
 unfoldable pub recoverRefusal : ℕ → ℕ → ℕ → List ℕ → List ℕ → ℕ

@@ -29,6 +29,7 @@ module _ (m w c g : ℕ) (word marks : List ℕ) where
   abbrev pub OwnUndetermined : Type 0
   OwnUndetermined = LocallyUndetermined bytes w c (stretch w g marks)
 
+  -- what demand 2 says of a call that is not refused 1 to 7
   pub record DemandTwo : Type 0 where
     -- 8 exactly when two different such stretches agree, and that is "exactly if more than c of its places are lost"
     pub eight : (end .number ≡ 8) ↔ OwnUndetermined

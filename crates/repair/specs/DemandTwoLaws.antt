@@ -10,23 +10,29 @@ use native.Mathlib.Decide.{ℕ-discrete}
 use borrow.Author.Tests.{lt-ltb, ltb-true, not-false}
 use lib.Dec.{ltb, eqb}
 use lib.ListN.{length, getD, replicate}
-use Rattle.shape.specs.Refusals.{refuse, _orElse_, refuse-zero, orElse-zero}
+use Rattle.shape.specs.Refusals.{refuse, _orElse_}
+use Rattle.shape.specs.RefusalsLaws.{refuse-zero, orElse-zero}
 use Rattle.shape.specs.Shapes.{Good, wordRefusal}
 use Rattle.marks.specs.Refusal.{Marked, marksRefusal}
 use Rattle.code.specs.Edition.{bytes, bytes-sound}
 use Rattle.code.specs.Word.{isLocal, Symbols}
 use Rattle.code.specs.Marks.{lost, lostIn}
-use Rattle.code.specs.Answer.{Outcome, SameEnd, same-present, refused-unchanged, answered-length, answered-marks}
+use Rattle.code.specs.Answer.{Outcome, SameEnd}
+use Rattle.code.specs.AnswerLaws.{same-present, refused-unchanged, answered-length, answered-marks}
 use Rattle.code.specs.Answer as Answer
-use Rattle.code.specs.Stretch.{stretch, withStretch, stretch-at, stretch-length, stretch-below, stretch-count, stretch-with}
-use Rattle.code.specs.Stretch.{with-same, with-length, with-before, with-after}
-use Rattle.code.specs.Repair.{repaired, repairedGroup, done-single}
+use Rattle.code.specs.Stretch.{stretch, withStretch}
+use Rattle.code.specs.StretchLaws.{stretch-at, stretch-length, stretch-below, stretch-count, stretch-with}
+use Rattle.code.specs.StretchLaws.{with-same, with-length, with-before, with-after}
+use Rattle.code.specs.Repair.{repaired, repairedGroup}
+use Rattle.code.specs.RepairLaws.{done-single}
 use Rattle.code.specs.OneGroup.{LocallyAgrees, LocallyUndetermined}
 use Rattle.code.specs.OneGroupLaws.{agrees-satisfies, satisfies-agrees, undetermined-exactly, local-eight, local-nine, local-done}
 use Rattle.recover.specs.Service.{unlessBefore, recoverRefusal}
-use Rattle.recover.specs.Attempt.{Accepted, accepted}
+use Rattle.recover.specs.Attempt.{Accepted}
+use Rattle.recover.specs.AttemptLaws.{accepted}
 use Rattle.recover.specs.DemandTwoLaws.{good-start}
-use Rattle.repair.specs.Service.{repairOf, repairRefusal, service-refused}
+use Rattle.repair.specs.Service.{repairOf, repairRefusal}
+use Rattle.repair.specs.ServiceLaws.{service-refused}
 use Rattle.repair.specs.DemandTwo.{Outside, end, OwnAgrees, DemandTwo, SameRepair}
 
 -- ---- of a call that is not refused 1 to 7: the repair of the group's stretch, put in its place

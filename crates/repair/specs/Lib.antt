@@ -1,3 +1,4 @@
 pub mod Service
+pub mod ServiceLaws
 pub mod DemandTwo
 pub mod DemandTwoLaws

@@ -8,7 +8,7 @@ use Rattle.code.specs.Answer.{Outcome}
 use Rattle.shape.specs.declared.Answer.{Answer}
 use Rattle.shape.specs.declared.Described.{Described}
 use Rattle.shape.specs.Answers.{answerAt}
-use Rattle.shape.specs.Refusals.{orElse-zero}
+use Rattle.shape.specs.RefusalsLaws.{orElse-zero}
 use Rattle.shape.specs.Shapes.{placeCount, dataCount, sureCount, shapeRefusal, bufferRefusal, describedOf, describedAt}
 use Rattle.shape.specs.Laws.{Unshaped, good-of-refusal, good-of-word, good-of-buffers, buffers-unshaped, places-most, data-and-checks}
 use Rattle.recover.specs.Service.{recoverOf, recoverRefusal, unlessBefore}

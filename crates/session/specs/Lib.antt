@@ -1,4 +1,5 @@
 pub mod Turn
 pub mod Replies
+pub mod RepliesLaws
 pub mod Laws
-pub mod Lines
+pub mod LinesLaws

@@ -43,6 +43,7 @@ dataTurn bytes m w c = turnUnless (bufferRefusal m w c (placeCount m w) (length 
 abbrev pub recoveredTurn : Outcome → ℕ → ℕ → ℕ → Turn
 recoveredTurn o m w c = turnUnless (o .number) (turn (wordLine (o .word)) m w c) m w c
 
+-- the turn of a word with its marks
 unfoldable pub wordTurn : List ℕ → List ℕ → ℕ → ℕ → ℕ → Turn
 wordTurn bytes marks m w c = recoveredTurn (recoverOf m w c bytes marks) m w c
 

@@ -10,7 +10,7 @@ use native.Mathlib.Decide.{ℕ-discrete}
 use borrow.Author.Tests.{eqb-true, eqb-false, ltb-false, not-false, eq-eqb, ne-eqb, le-ltb}
 use Rattle.shape.specs.declared.Shape.{Shape}
 use Rattle.shape.specs.declared.Made.{Made}
-use Rattle.shape.specs.Refusals.{refuse-zero, orElse-zero}
+use Rattle.shape.specs.RefusalsLaws.{refuse-zero, orElse-zero}
 use Rattle.shape.specs.Shapes.{Good, placeCount, dataCount, sureCount, shapeRefusal, wordRefusal, bufferRefusal, madeOf, madeAt, madeNumber, describedOf, describedNumber, describedFigures}
 
 or-none : (a b : Bool) → (a || b) ≡ false → (a ≡ false) × (b ≡ false)

@@ -51,6 +51,7 @@ abbrev pub madeAt : ℕ → Shape → Made
 madeAt zero s = Made.Good s
 madeAt (suc r) s = Made.Refused (suc r)
 
+-- of three numbers of any size
 unfoldable pub madeOf : ℕ → ℕ → ℕ → Made
 madeOf m w c = madeAt (shapeRefusal m w c) (record { m = m; w = w; c = c })
 
@@ -64,6 +65,7 @@ abbrev pub describedAt : ℕ → ℕ → ℕ → ℕ → Described
 describedAt zero n k sure = Described.Figures n k sure
 describedAt (suc r) n k sure = Described.Refused (suc r)
 
+-- n is m·w, k and the sure count as above; a refused shape has no figures
 unfoldable pub describedOf : ℕ → ℕ → ℕ → Described
 describedOf m w c = describedAt (shapeRefusal m w c) (placeCount m w) (dataCount m w c) (sureCount w c)
 
@@ -77,5 +79,6 @@ abbrev pub describedFigures : Described → List ℕ
 describedFigures (Described.Figures n k sure) = n ∷ k ∷ sure ∷ []
 describedFigures (Described.Refused r) = []
 
+-- the figures of three numbers of any size, none where they are refused
 unfoldable pub figuresOf : ℕ → ℕ → ℕ → List ℕ
 figuresOf m w c = unlessRefused (shapeRefusal m w c) (placeCount m w ∷ dataCount m w c ∷ sureCount w c ∷ []) []

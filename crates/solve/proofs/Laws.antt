@@ -10,14 +10,15 @@ use lib.Dec.{eqb}
 use lib.ListN.{length, getD, take, drop, set, drop-of-length-le}
 use lib.Bits.{bitXor}
 use lib.Seq.{drop-cons, take-suc-set, drop-set-lt, take-all, set-getD, ext-getD, getD-set-same, getD-set-other}
-use Rattle.binary_field.specs.Xor.{⊕-bits}
+use Rattle.binary_field.specs.XorLaws.{⊕-bits}
 use Rattle.binary_field.specs.Product.{product}
 use native.Mathlib.Decide.{ℕ-discrete}
 use Rattle.binary_field.specs.Inverse.{inverse}
 use Rattle.code.specs.Stretch.{stretch, withStretch}
 use Rattle.solve.specs.Elimination.{row, entry, scaled, added, exchanged, normalized, clearedRow, cleared, pivotFrom, pivot, eliminateColumn, eliminatedTo}
-use Rattle.solve.specs.Rows.{length-scaled, length-added, cleared-pivot}
-use Rattle.solve.specs.Flat.{rowsOf, row-of, entry-of, row-long, rows-with}
+use Rattle.solve.specs.RowsLaws.{length-scaled, length-added, cleared-pivot}
+use Rattle.solve.specs.Flat.{rowsOf}
+use Rattle.solve.specs.FlatLaws.{row-of, entry-of, row-long, rows-with}
 
 module _ (k m : ℕ) where
   -- ---- along two rows

@@ -2,9 +2,12 @@ pub mod Session
 pub mod Points
 pub mod States
 pub mod Places
-pub mod Cut
+pub mod CutLaws
 pub mod Whole
-pub mod Room
+pub mod WholeLaws
+pub mod RoomLaws
 pub mod Steps
+pub mod StepsLaws
 pub mod OutputLines
-pub mod Again
+pub mod OutputLinesLaws
+pub mod AgainLaws

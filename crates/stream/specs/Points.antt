@@ -33,6 +33,7 @@ longer p x = record { line = p .line ++ (x ∷ []); m = p .m; w = p .w; c = p .c
 unfoldable pub next : Point → ℕ → Point
 next p x = cond (eqb x 10) (onward (turnAt p)) (longer p x)
 
+-- after some bytes
 unfoldable pub after : Point → List ℕ → Point
 after p [] = p
 after p (x ∷ xs) = after (next p x) xs
@@ -41,6 +42,7 @@ after p (x ∷ xs) = after (next p x) xs
 unfoldable pub said : Point → ℕ → List ℕ
 said p x = cond (eqb x 10) ((turnAt p) .output) []
 
+-- what some bytes bring
 unfoldable pub adds : Point → List ℕ → List ℕ
 adds p [] = []
 adds p (x ∷ xs) = said p x ++ adds (next p x) xs
@@ -50,6 +52,7 @@ abbrev pub unlessEmpty : List ℕ → List ℕ → List ℕ
 unlessEmpty [] output = []
 unlessEmpty (x ∷ line) output = output
 
+-- what the end of the input brings
 unfoldable pub closing : Point → List ℕ
 closing p = unlessEmpty (p .line) ((turnAt p) .output)
 

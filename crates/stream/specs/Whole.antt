@@ -1,19 +1,10 @@
 -- Whatever parts the input comes in, the output is that of the whole session.
-use mathlib.Core.Path.{_≡_, refl, sym, ap, ap₂, _∙_}
-use mathlib.Core.Bool.{Bool, true, false, cond}
-use mathlib.Core.List.{List, [], _∷_, _++_, append-assoc, append-nil}
+use mathlib.Core.Path.{_≡_}
+use mathlib.Core.List.{List, [], _∷_, _++_}
 use Prim.Native.Nat.{ℕ}
-use borrow.Author.Tests.{eqb-true}
-use lib.Dec.{T, eqb}
-use Rattle.text.specs.Input.{lines}
-use Rattle.text.specs.InputLaws.{lines-feed, lines-last}
-use Rattle.text.specs.DecimalLaws.{without}
-use Rattle.text.specs.ReadBack.{without-append}
 use Rattle.stream.specs.declared.State.{State}
 use Rattle.stream.specs.States.{pointOf}
-use Rattle.stream.specs.Session.{answers, joined, sessionOf}
-use Rattle.stream.specs.Points.{Point, clear, onward, turnAt, longer, next, after, said, adds, closing, kept}
-use Rattle.stream.specs.Cut.{closing-kept, kept-after, kept-adds, after-append, adds-append, kept-kept}
+use Rattle.stream.specs.Points.{Point, after, adds, closing, kept}
 
 -- the output of parts of an input, one after the other and then its end, by what is kept between them
 unfoldable pub inParts : Point → List (List ℕ) → List ℕ
@@ -24,57 +15,8 @@ inParts p (part ∷ rest) = adds p part ++ inParts (kept (after p part)) rest
 abbrev pub atOnce : Point → List ℕ → List ℕ
 atOnce p input = adds p input ++ closing (after p input)
 
-parts-kept : (parts : List (List ℕ)) (p q : Point) → kept p ≡ kept q → inParts p parts ≡ atOnce q (joined parts)
-unfolding inParts joined adds after
-parts-kept [] p q e = sym (closing-kept p) ∙ ap closing e ∙ closing-kept q
-parts-kept (part ∷ rest) p q e =
-    let k : kept (kept (after p part)) ≡ kept (after q part) = kept-kept (after p part) ∙ kept-after p q part e in
-    let i = parts-kept rest (kept (after p part)) (after q part) k in
-    rw (kept-adds p q part e, i, adds-append q part (joined rest), after-append q part (joined rest), append-assoc)
-
--- ---- the line so far has no line feed
-clean-next : (p : Point) (x : ℕ) → T (without 10 (p .line)) → T (without 10 ((next p x) .line))
-unfolding next without
-clean-next p x t = go (eqb x 10) refl
-  where
-    go : (b : Bool) → eqb x 10 ≡ b → T (without 10 ((cond b (onward (turnAt p)) (longer p x)) .line))
-    go true e = tt
-    go false e = without-append 10 (p .line) (x ∷ []) t (rw e tt)
-
--- the lines of what is left, the line so far before it
-abbrev rest-of : Point → List ℕ → List ℕ
-rest-of p xs = joined (answers (lines (p .line ++ xs)) (p .m) (p .w) (p .c))
-
-at-end : (line : List ℕ) (m w c : ℕ) → T (without 10 line) → closing (record { line = line; m = m; w = w; c = c }) ≡ joined (answers (lines line) m w c)
-unfolding closing answers joined lines
-at-end [] m w c t = refl
-at-end (x ∷ line) m w c t = rw (lines-last x line t, append-nil)
-
-at-once : (xs : List ℕ) (p : Point) → T (without 10 (p .line)) → atOnce p xs ≡ rest-of p xs
-unfolding adds after said next answers joined
-at-once [] p t = rw append-nil (at-end (p .line) (p .m) (p .w) (p .c) t)
-at-once (x ∷ xs) p t = rw append-assoc (ap (λ l. said p x ++ l) (at-once xs (next p x) (clean-next p x t)) ∙ go (eqb x 10) refl)
-  where
-    go : (b : Bool) → eqb x 10 ≡ b → said p x ++ rest-of (next p x) xs ≡ rest-of p (x ∷ xs)
-    go true e = rw (eqb-true x 10 e, lines-feed (p .line) xs t)
-    go false e = rw (e, append-assoc)
-
--- "Whole session": by any parts
-pub whole-session : (parts : List (List ℕ)) → inParts (clear 0 0 0) parts ≡ sessionOf (joined parts)
-unfolding sessionOf without
-whole-session parts = parts-kept parts (clear 0 0 0) (clear 0 0 0) refl ∙ at-once (joined parts) (clear 0 0 0) tt
-
 -- A run of the code, by its contracts: a state, the parts of the input that come then, and all that is written.
 pub data Run : State → List (List ℕ) → List ℕ → Type 0 where
   ended : {s : State} {output : List ℕ} → output ≡ closing (pointOf s) → Run s [] output
   took : {s t : State} {part : List ℕ} {rest : List (List ℕ)} {output more : List ℕ}
       → pointOf t ≡ kept (after (pointOf s) part) → output ≡ adds (pointOf s) part → Run t rest more → Run s (part ∷ rest) (output ++ more)
-
-run-in-parts : {s : State} {parts : List (List ℕ)} {output : List ℕ} → Run s parts output → output ≡ inParts (pointOf s) parts
-unfolding inParts
-run-in-parts (ended e) = e
-run-in-parts (took {rest = rest} n e r) = ap₂ _++_ e (run-in-parts r ∙ ap (λ p. inParts p rest) n)
-
--- from the first state on, what is written is the output of the whole input, however it is cut
-pub run-session : {s : State} {parts : List (List ℕ)} {output : List ℕ} → pointOf s ≡ clear 0 0 0 → Run s parts output → output ≡ sessionOf (joined parts)
-run-session {s} {parts} {output} z r = run-in-parts r ∙ ap (λ p. inParts p parts) z ∙ whole-session parts

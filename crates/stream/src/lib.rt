@@ -7,7 +7,8 @@ ghost use Rattle.stream.specs.Points.{clear, after, adds, closing, kept}
 ghost use Rattle.stream.specs.States.{pointOf};
 ghost use Rattle.stream.specs.Places.{pointAt, turnOn, endedBy, Taken, Passed};
 
-// The line so far, of which 1,025 bytes are kept, and the shape in force; m is 0 for no shape yet.
+// The line so far, of which 1,025 bytes are kept, and the shape in force; m is 0 for no shape yet. What stands past the length has no meaning.
+// A length above 1,025, which no run has, means the same as 1,025.
 pub struct State {
     pub line: [u8; 1025],
     pub length: usize,
@@ -31,6 +32,7 @@ struct Place {
     c: usize,
 }
 
+// The smaller of two numbers.
 fn least(a: usize, b: usize) -> usize
     ensures { λ r. ⌜ (r ≤ a) × (r ≤ b) × (r ≡ min a b) ⌝ }
 {
@@ -119,7 +121,8 @@ pub fn start() -> State
     }
 }
 
-// Takes the next bytes of the input, of which there are count, and 1,024 at most. What they add to the output stands at the start of out.
+// Takes the next bytes of the input: count of them, and 1,024 at most. What they add to the output stands at the start of out, and the rest of it stays.
+// An answer has at most 12 bytes for each byte of its line, the line feed counted: hence the room of 12 times 1,025 + 1,024.
 pub fn take(state: State, input: &[u8; 1024], count: usize, out: &mut [u8; 24588]) -> Step
     ensures state { λ r. ⌜ pointOf (r .state) ≡ kept (after (pointOf state) (take count (now (input .entry)))) ⌝ }
     ensures size { λ r. ⌜ r .length ≡ length (adds (pointOf state) (take count (now (input .entry)))) ⌝ }
@@ -148,7 +151,7 @@ pub fn take(state: State, input: &[u8; 1024], count: usize, out: &mut [u8; 24588
     }
 }
 
-// The end of the input: a line that isn't empty is answered. Gives how many bytes at the start of out this adds to the output.
+// The end of the input: a line that isn't empty is answered. Gives how many bytes this adds to the output; they stand at the start of out.
 pub fn finish(state: State, out: &mut [u8; 24588]) -> usize
     ensures size { λ r. ⌜ r ≡ length (closing (pointOf state)) ⌝ }
     ensures output { λ _. ⌜ now (out .exit) ≡ written (now (out .entry)) 0 (closing (pointOf state)) ⌝ }

@@ -10,6 +10,7 @@ decimal n =
     cond (ltb n 10) ((48 + n) ∷ [])
     (cond (ltb n 100) ((48 + n / 10) ∷ (48 + n % 10) ∷ []) ((48 + n / 100) ∷ (48 + n / 10 % 10) ∷ (48 + n % 10) ∷ []))
 
+-- the bytes of the digits 0 to 9
 abbrev pub isDigit : ℕ → Bool
 isDigit x = leb 48 x && ltb x 58
 

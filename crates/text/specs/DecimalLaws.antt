@@ -9,7 +9,8 @@ use borrow.Author.Tests.{lt-ltb, le-ltb, leb-true, ltb-true, eqb-false, eq-eqb, 
 use lib.Dec.{T, eqb, leb, ltb, eqb→eq, leb→le, not-T}
 use lib.ListN.{length, getD}
 use Rattle.text.specs.Decimal.{decimal, isDigit, unreadable, digitsAfter, numberOf}
-use Rattle.counting.specs.Test.{both, both-l, both-r, both-intro, allBelow, all-at}
+use Rattle.counting.specs.Test.{both, allBelow}
+use Rattle.counting.specs.TestLaws.{both-l, both-r, both-intro, all-at}
 
 -- the number a with one digit more, where it is at most 255
 unfoldable pub digitAfter : ℕ → ℕ → ℕ

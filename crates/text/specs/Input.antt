@@ -5,6 +5,7 @@ use Prim.Native.Nat.{ℕ}
 use lib.Dec.{eqb}
 use Rattle.text.specs.Fields.{withFirst}
 
+-- the bytes between line feeds
 unfoldable pub lines : List ℕ → List (List ℕ)
 lines [] = []
 lines (x ∷ xs) = cond (eqb x 10) ([] ∷ lines xs) (withFirst x (lines xs))

@@ -8,4 +8,5 @@ pub mod DecimalLaws
 pub mod FieldLaws
 pub mod RecordLaws
 pub mod ReadBack
+pub mod ReadBackLaws
 pub mod InputLaws

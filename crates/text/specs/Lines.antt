@@ -13,11 +13,14 @@ cells (x ∷ xs) = 9 ∷ (decimal x ++ cells xs)
 unfoldable pub lineOf : List ℕ → List ℕ → List ℕ
 lineOf name numbers = name ++ (cells numbers ++ (10 ∷ []))
 
+-- ok, n, k
 unfoldable pub okLine : ℕ → ℕ → List ℕ
 okLine n k = lineOf (111 ∷ 107 ∷ []) (n ∷ k ∷ [])
 
+-- refused and the number
 unfoldable pub refusedLine : ℕ → List ℕ
 refusedLine r = lineOf (114 ∷ 101 ∷ 102 ∷ 117 ∷ 115 ∷ 101 ∷ 100 ∷ []) (r ∷ [])
 
+-- word and its bytes
 unfoldable pub wordLine : List ℕ → List ℕ
 wordLine word = lineOf wordName word

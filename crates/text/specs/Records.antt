@@ -10,9 +10,11 @@ use Rattle.text.specs.Fields.{fields, same, meaning}
 abbrev pub shapeName : List ℕ
 shapeName = 115 ∷ 104 ∷ 97 ∷ 112 ∷ 101 ∷ []
 
+-- data
 abbrev pub dataName : List ℕ
 dataName = 100 ∷ 97 ∷ 116 ∷ 97 ∷ []
 
+-- word
 abbrev pub wordName : List ℕ
 wordName = 119 ∷ 111 ∷ 114 ∷ 100 ∷ []
 
@@ -24,6 +26,7 @@ nameKind name = cond (same name shapeName) 1 (cond (same name dataName) 2 (cond 
 unfoldable pub lineName : List ℕ → List ℕ
 lineName line = getD (fields line) 0 []
 
+-- what the fields after the name mean
 unfoldable pub contents : List ℕ → List ℕ
 contents line = map meaning (drop 1 (fields line))
 
@@ -41,6 +44,7 @@ boundOf kind = cond (eqb kind 3) 257 256
 abbrev pub kindIf : List ℕ → ℕ → List ℕ → ℕ
 kindIf line kind values = cond (leb (length line) 1024 && allUnder (boundOf kind) values && (not (eqb kind 1) || eqb (length values) 3)) kind 0
 
+-- the kind of a line, 0 where it can't be read
 unfoldable pub lineKind : List ℕ → ℕ
 lineKind line = kindIf line (nameKind (lineName line)) (contents line)
 
@@ -48,5 +52,6 @@ lineKind line = kindIf line (nameKind (lineName line)) (contents line)
 unfoldable pub lineBytes : List ℕ → List ℕ
 lineBytes line = map (λ v. v % 256) (contents line)
 
+-- and their marks, 1 for a lost place
 unfoldable pub lineMarks : List ℕ → List ℕ
 lineMarks line = map (λ v. v / 256) (contents line)

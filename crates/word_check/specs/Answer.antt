@@ -32,5 +32,6 @@ checkedFigures Checked.Codeword = 1 ∷ []
 checkedFigures Checked.Other = 0 ∷ []
 checkedFigures (Checked.Refused r) = []
 
+-- the figure of any call
 unfoldable pub figuresOf : ℕ → ℕ → ℕ → List ℕ → List ℕ
 figuresOf m w c word = unlessRefused (wordRefusal m w c (length word)) (one (isCodeword bytes m w c word) ∷ []) []

@@ -4,7 +4,8 @@ use Prim.Native.Nat.{ℕ, _-_, _≤_, _<_}
 use native.Mathlib.Omega.{arith}
 use lib.ListN.{length, getD, length-set}
 use borrow.Author.Needs.{needs}
-use Rattle.binary_field.specs.Xor.{_⊕_, ⊕-bits}
+use Rattle.binary_field.specs.Xor.{_⊕_}
+use Rattle.binary_field.specs.XorLaws.{⊕-bits}
 use Rattle.code.specs.Edition.{bytes, times}
 use Rattle.fill.proofs.Laws.{each-set}
 use Rattle.candidate.proofs.Laws.{rest-set}

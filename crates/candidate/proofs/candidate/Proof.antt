@@ -3,7 +3,8 @@ use native.Mathlib.Omega.{arith}
 use lib.ListN.{length, length-take}
 use borrow.Author.Needs.{needs}
 use Rattle.shape.specs.Laws.{word-of-good, places-most}
-use Rattle.groups.specs.Lent.{Lent, lent}
+use Rattle.groups.specs.Lent.{Lent}
+use Rattle.groups.specs.LentLaws.{lent}
 use Rattle.candidate.proofs.candidate.Statement.{statement}
 use Rattle.candidate.proofs.candidate.Tie as tie
 

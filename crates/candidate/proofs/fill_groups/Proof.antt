@@ -5,7 +5,7 @@ use native.Mathlib.Omega.{arith}
 use borrow.Author.Needs.{needs}
 use Rattle.shape.specs.Laws.{places-most}
 use Rattle.candidate.specs.Steps.{GroupsFilled}
-use Rattle.groups.specs.Lent.{stretch-lent, with-lent}
+use Rattle.groups.specs.LentLaws.{stretch-lent, with-lent}
 use Rattle.candidate.proofs.Laws.{stretch-end, group-filled}
 use Rattle.candidate.proofs.fill_groups.Statement.{statement}
 use Rattle.candidate.proofs.fill_groups.Tie as tie

@@ -3,7 +3,7 @@ use Prim.Native.Nat.{_*_}
 use lib.ListN.{length, take}
 use borrow.Author.Needs.{needs}
 use Rattle.code.specs.Edition.{bytes}
-use Rattle.candidate.specs.Solved.{combined-length}
+use Rattle.candidate.specs.SolvedLaws.{combined-length}
 use Rattle.candidate.proofs.Laws.{group-lt, solved-sums}
 use Rattle.candidate.proofs.mend_two.Statement.{statement}
 use Rattle.candidate.proofs.mend_two.Tie as tie

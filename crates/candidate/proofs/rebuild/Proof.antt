@@ -1,7 +1,7 @@
 use mathlib.Core.Path.{sym, _∙_}
 use borrow.Author.Needs.{needs}
 use Rattle.erasures.specs.Whole.{KeptAll}
-use Rattle.candidate.specs.Whole.{is-candidate}
+use Rattle.candidate.specs.WholeLaws.{is-candidate}
 use Rattle.candidate.proofs.Laws.{kept-copy}
 use Rattle.candidate.proofs.rebuild.Statement.{statement}
 use Rattle.candidate.proofs.rebuild.Tie as tie

@@ -1,6 +1,6 @@
 use native.Mathlib.Omega.{arith}
 use borrow.Author.Needs.{needs}
-use Rattle.groups.specs.Lent.{stretch-lent}
+use Rattle.groups.specs.LentLaws.{stretch-lent}
 use Rattle.candidate.proofs.Laws.{group-end, way-asked, way-given}
 use Rattle.candidate.proofs.way.Statement.{statement}
 use Rattle.candidate.proofs.way.Tie as tie

@@ -1,5 +1,5 @@
 use mathlib.Core.Path.{_≡_, refl, sym, ap, _∙_}
-use Rattle.shape.specs.Answers.{answer-refused}
+use Rattle.shape.specs.AnswersLaws.{answer-refused}
 use Rattle.desk.specs.Desks.{slotOf, emptyJob}
 use Rattle.desk.specs.Calls.{closeOf, closeBy, withJob}
 use Rattle.desk.specs.CallLaws.{close-refused}

@@ -5,7 +5,7 @@ use native.Mathlib.Omega.{arith}
 use borrow.Author.Tests.{eq-eqb, ne-eqb}
 use lib.ListN.{length, drop}
 use Rattle.desk.specs.Calls.{freeFrom}
-use Rattle.desk.specs.Slots.{free-here, free-later, free-end}
+use Rattle.desk.specs.SlotsLaws.{free-here, free-later, free-end}
 use Rattle.desk.proofs.free_slot.Statement.{statement}
 use Rattle.desk.proofs.free_slot.Tie as tie
 

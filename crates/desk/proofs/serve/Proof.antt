@@ -1,8 +1,10 @@
 use mathlib.Core.Path.{_≡_, refl, sym, ap, _∙_}
 use native.Mathlib.Omega.{arith}
 use Rattle.shape.specs.declared.Answer.{Answer}
-use Rattle.shape.specs.Answers.{answerAt, answer-refused}
-use Rattle.shape.specs.Refusals.{unlessRefused, unless-refused}
+use Rattle.shape.specs.Answers.{answerAt}
+use Rattle.shape.specs.AnswersLaws.{answer-refused}
+use Rattle.shape.specs.Refusals.{unlessRefused}
+use Rattle.shape.specs.RefusalsLaws.{unless-refused}
 use Rattle.desk.specs.Desks.{slotOf, jobAt}
 use Rattle.desk.specs.Calls.{withJob, recoveryOf, jobNumber, serveBy, serveOf}
 use Rattle.desk.specs.CallLaws.{serve-refused}

@@ -2,10 +2,11 @@ use mathlib.Core.Path.{_≡_, refl, sym, ap, _∙_, subst}
 use Prim.Native.Nat.{_≤_}
 use lib.ListN.{length}
 use lib.Seq.{length-take-le}
-use Rattle.shape.specs.Refusals.{unless-refused}
+use Rattle.shape.specs.RefusalsLaws.{unless-refused}
 use Rattle.shape.specs.Shapes.{bufferRefusal}
 use Rattle.shape.specs.Laws.{good-of-buffers, places-most}
-use Rattle.shape.specs.Answers.{answerAt, answer-refused}
+use Rattle.shape.specs.Answers.{answerAt}
+use Rattle.shape.specs.AnswersLaws.{answer-refused}
 use Rattle.encode.specs.Service.{encodeOf, encodedBuffer}
 use Rattle.encode.specs.Laws.{after-size, buffer-end}
 use borrow.Author.Needs.{needs}

@@ -1,6 +1,6 @@
 use borrow.Author.Needs.{needs}
-use Rattle.erasures.specs.Places.{free-none, free-one, free-two}
-use Rattle.erasures.specs.FirstTwo.{two-none, two-one, two-two}
+use Rattle.erasures.specs.PlacesLaws.{free-none, free-one, free-two}
+use Rattle.erasures.specs.FirstTwoLaws.{two-none, two-one, two-two}
 use Rattle.erasures.proofs.free_places.Statement.{statement}
 use Rattle.erasures.proofs.free_places.Tie as tie
 

@@ -5,7 +5,8 @@ use lib.ListN.{length}
 use borrow.Author.Needs.{needs}
 use Rattle.shape.specs.Shapes.{Good}
 use Rattle.shape.specs.Laws.{good-of-word, word-of-good}
-use Rattle.erasures.specs.Whole.{KeptUpTo, upto-none, kept-all}
+use Rattle.erasures.specs.Whole.{KeptUpTo}
+use Rattle.erasures.specs.WholeLaws.{upto-none, kept-all}
 use Rattle.erasures.proofs.Laws.{room, group-step}
 use Rattle.erasures.proofs.keep.Statement.{statement}
 use Rattle.erasures.proofs.keep.Tie as tie

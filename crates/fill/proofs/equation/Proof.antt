@@ -4,7 +4,8 @@ use Prim.Native.Nat.{ℕ, zero, suc, _%_, _<_}
 use native.Mathlib.Nat.{mod-eq-of-lt}
 use native.Mathlib.Omega.{arith}
 use lib.ListN.{length, getD}
-use Rattle.coefficients.specs.Rows.{powerRows, noRow, power-at}
+use Rattle.coefficients.specs.Rows.{powerRows, noRow}
+use Rattle.coefficients.specs.RowsLaws.{power-at}
 use Rattle.fill.proofs.Laws.{syndrome}
 use borrow.Author.Needs.{needs}
 use Rattle.fill.proofs.equation.Statement.{statement}

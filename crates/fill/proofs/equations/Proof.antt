@@ -5,7 +5,7 @@ use native.Mathlib.Omega.{arith}
 use lib.ListN.{length, length-set}
 use borrow.Author.Needs.{needs}
 use Rattle.solve.specs.Elimination.{row}
-use Rattle.fill.specs.Equations.{Equation}
+use Rattle.fill.specs.EquationsLaws.{Equation}
 use Rattle.fill.proofs.Laws.{each-set}
 use Rattle.fill.proofs.equations.Statement.{statement}
 use Rattle.fill.proofs.equations.Tie as tie

@@ -6,7 +6,8 @@ use Prim.Native.Nat.{ℕ, _+_, _-_, _≤_}
 use native.Mathlib.Omega.{arith}
 use lib.ListN.{length, getD, set, length-set}
 use borrow.Author.Tests.{eq-eqb, ne-eqb}
-use Rattle.counting.specs.Count.{countBelow, count-le, total-none}
+use Rattle.counting.specs.Count.{countBelow}
+use Rattle.counting.specs.CountLaws.{count-le, total-none}
 use Rattle.code.specs.Marks.{lost}
 use Rattle.fill.specs.Positions.{Positions}
 use Rattle.fill.proofs.Laws.{lost-below, count-next, found-next, found-none}

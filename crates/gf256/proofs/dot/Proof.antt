@@ -4,8 +4,9 @@ use Prim.Native.Nat.{ℕ, _≤_, _-_}
 use native.Mathlib.Numerals.{add-one}
 use native.Mathlib.Omega.{arith}
 use borrow.Author.Needs.{needs}
-use Rattle.binary_field.specs.Xor.{⊕-bits}
-use Rattle.binary_field.specs.Sum.{innerProduct, inner-none, inner-suc, inner-whole}
+use Rattle.binary_field.specs.XorLaws.{⊕-bits}
+use Rattle.binary_field.specs.Sum.{innerProduct}
+use Rattle.binary_field.specs.SumLaws.{inner-none, inner-suc, inner-whole}
 use Rattle.gf256.proofs.dot.Statement.{statement}
 use Rattle.gf256.proofs.dot.Tie as tie
 use Rattle.gf256.proofs.dot.Reads as reads

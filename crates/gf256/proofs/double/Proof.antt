@@ -5,8 +5,10 @@ use native.Mathlib.Decide.{decLt}
 use native.Mathlib.Omega.{arith}
 use lib.Bits.{bitXor}
 use borrow.Author.Needs.{needs}
-use Rattle.binary_field.specs.Xor.{_⊕_, ⊕-bits, ⊕-zero-r}
-use Rattle.binary_field.specs.Product.{double, double-low, double-high}
+use Rattle.binary_field.specs.Xor.{_⊕_}
+use Rattle.binary_field.specs.XorLaws.{⊕-bits, ⊕-zero-r}
+use Rattle.binary_field.specs.Product.{double}
+use Rattle.binary_field.specs.ProductLaws.{double-low, double-high}
 use Rattle.gf256.proofs.double.Statement.{statement}
 use Rattle.gf256.proofs.double.Tie as tie
 

@@ -1,5 +1,5 @@
 use native.Mathlib.Omega.{arith}
-use Rattle.gf256.specs.Tables.{tables-inverse}
+use Rattle.gf256.specs.TablesLaws.{tables-inverse}
 use borrow.Author.Needs.{needs}
 use Rattle.gf256.proofs.inverse.Statement.{statement}
 use Rattle.gf256.proofs.inverse.Tie as tie

@@ -3,7 +3,8 @@ use Prim.Native.Nat.{_≤_, _-_}
 use native.Mathlib.Numerals.{add-one}
 use native.Mathlib.Omega.{arith}
 use borrow.Author.Needs.{needs}
-use Rattle.binary_field.specs.Power.{power, power-zero, power-suc}
+use Rattle.binary_field.specs.Power.{power}
+use Rattle.binary_field.specs.PowerLaws.{power-zero, power-suc}
 use Rattle.gf256.proofs.power.Statement.{statement}
 use Rattle.gf256.proofs.power.Tie as tie
 use Rattle.gf256.proofs.power.Reads as reads

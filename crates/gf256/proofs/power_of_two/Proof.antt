@@ -5,8 +5,10 @@ use native.Mathlib.Numerals.{add-one}
 use native.Mathlib.Omega.{arith}
 use lib.Dec.{lit<}
 use borrow.Author.Needs.{needs}
-use Rattle.binary_field.specs.Product.{double, double-low, double-product, product, one-product}
-use Rattle.binary_field.specs.Power.{power, power-zero, power-suc}
+use Rattle.binary_field.specs.Product.{double, product}
+use Rattle.binary_field.specs.ProductLaws.{double-low, double-product, one-product}
+use Rattle.binary_field.specs.Power.{power}
+use Rattle.binary_field.specs.PowerLaws.{power-zero, power-suc}
 use Rattle.gf256.proofs.power_of_two.Statement.{statement}
 use Rattle.gf256.proofs.power_of_two.Tie as tie
 

@@ -1,5 +1,5 @@
 use native.Mathlib.Omega.{arith}
-use Rattle.gf256.specs.Tables.{tables-product}
+use Rattle.gf256.specs.TablesLaws.{tables-product}
 use borrow.Author.Needs.{needs}
 use Rattle.gf256.proofs.product.Statement.{statement}
 use Rattle.gf256.proofs.product.Tie as tie

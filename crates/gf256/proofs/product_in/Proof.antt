@@ -1,6 +1,7 @@
 use borrow.Author.Tests.{eq-eqb, ne-eqb}
 use native.Mathlib.Omega.{arith}
-use Rattle.gf256.specs.Tables.{throughTables, through-low, through-high}
+use Rattle.gf256.specs.Tables.{throughTables}
+use Rattle.gf256.specs.TablesLaws.{through-low, through-high}
 use borrow.Author.Needs.{needs}
 use Rattle.gf256.proofs.product_in.Statement.{statement}
 use Rattle.gf256.proofs.product_in.Tie as tie

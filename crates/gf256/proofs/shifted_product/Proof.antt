@@ -3,8 +3,10 @@ use Prim.Native.Nat.{ℕ, suc, _+_, _-_, _%_, _≤_, _<_}
 use native.Mathlib.Omega.{arith}
 use borrow.Author.Needs.{needs}
 use mathlib.Core.Logic.{⊎-elim}
-use Rattle.binary_field.specs.Xor.{_⊕_, ⊕-zero-l, ⊕-zero-r, ⊕-bits}
-use Rattle.binary_field.specs.Product.{double, bitSum, product, product-of, bits-set, bits-clear, bits-none}
+use Rattle.binary_field.specs.Xor.{_⊕_}
+use Rattle.binary_field.specs.XorLaws.{⊕-zero-l, ⊕-zero-r, ⊕-bits}
+use Rattle.binary_field.specs.Product.{double, bitSum, product}
+use Rattle.binary_field.specs.ProductLaws.{product-of, bits-set, bits-clear, bits-none}
 use Rattle.gf256.proofs.shifted_product.Statement.{statement}
 use Rattle.gf256.proofs.shifted_product.Tie as tie
 use Rattle.gf256.proofs.shifted_product.Reads as reads

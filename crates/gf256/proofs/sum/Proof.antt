@@ -5,8 +5,9 @@ use native.Mathlib.Numerals.{add-one}
 use native.Mathlib.Omega.{arith}
 use lib.ListN.{length, getD}
 use borrow.Author.Needs.{needs}
-use Rattle.binary_field.specs.Xor.{⊕-bits}
-use Rattle.binary_field.specs.Sum.{sumBelow, sum-none, sum-suc}
+use Rattle.binary_field.specs.XorLaws.{⊕-bits}
+use Rattle.binary_field.specs.Sum.{sumBelow}
+use Rattle.binary_field.specs.SumLaws.{sum-none, sum-suc}
 use Rattle.gf256.proofs.sum.Statement.{statement}
 use Rattle.gf256.proofs.sum.Tie as tie
 

@@ -5,9 +5,10 @@ use Prim.Native.Nat.{_-_, _≤_}
 use native.Mathlib.Omega.{arith}
 use borrow.Author.Tests.{eq-eqb, ne-eqb}
 use lib.ListN.{length, getD}
-use Rattle.counting.specs.Count.{countBelow, total-none}
+use Rattle.counting.specs.Count.{countBelow}
+use Rattle.counting.specs.CountLaws.{total-none}
 use Rattle.code.specs.Marks.{lost}
-use Rattle.marks.specs.Counts.{count-turn, lost-whole}
+use Rattle.marks.specs.CountsLaws.{count-turn, lost-whole}
 use Rattle.marks.proofs.lost_in.Statement.{statement}
 use Rattle.marks.proofs.lost_in.Tie as tie
 

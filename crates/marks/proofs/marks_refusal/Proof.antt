@@ -4,7 +4,8 @@ use borrow.Author.Needs.{needs}
 use lib.ListN.{length}
 use Rattle.shape.specs.Refusals.{refuse}
 use Rattle.shape.specs.Shapes.{wordRefusal}
-use Rattle.marks.specs.Refusal.{marksRefusal, orElse-first}
+use Rattle.marks.specs.Refusal.{marksRefusal}
+use Rattle.marks.specs.RefusalLaws.{orElse-first}
 use Rattle.marks.proofs.marks_refusal.Statement.{statement}
 use Rattle.marks.proofs.marks_refusal.Tie as tie
 

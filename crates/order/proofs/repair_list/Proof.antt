@@ -3,7 +3,8 @@ use Prim.Native.Nat.{_-_}
 use native.Mathlib.Omega.{arith}
 use borrow.Author.Needs.{needs}
 use lib.ListN.{length, drop}
-use Rattle.order.specs.Service.{held, heldAfterList, list-turn, list-end}
+use Rattle.order.specs.Service.{held, heldAfterList}
+use Rattle.order.specs.ServiceLaws.{list-turn, list-end}
 use Rattle.order.proofs.repair_list.Statement.{statement}
 use Rattle.order.proofs.repair_list.Tie as tie
 use Rattle.order.proofs.repair_list.Reads as reads

@@ -1,4 +1,4 @@
-use Rattle.order.specs.Service.{contract}
+use Rattle.order.specs.ServiceLaws.{contract}
 use borrow.Author.Needs.{needs}
 use Rattle.order.proofs.repair_then_recover.Statement.{statement}
 use Rattle.order.proofs.repair_then_recover.Tie as tie

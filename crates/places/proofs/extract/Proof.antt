@@ -1,10 +1,10 @@
 use mathlib.Core.Path.{_≡_, refl, sym}
 use lib.ListN.{length}
-use Rattle.shape.specs.Refusals.{unless-refused}
+use Rattle.shape.specs.RefusalsLaws.{unless-refused}
 use Rattle.shape.specs.Shapes.{bufferRefusal}
 use Rattle.shape.specs.Laws.{good-of-buffers}
 use Rattle.places.specs.Places.{extractedOf, extractedData}
-use Rattle.shape.specs.Answers.{answer-refused}
+use Rattle.shape.specs.AnswersLaws.{answer-refused}
 use borrow.Author.Needs.{needs}
 use Rattle.places.proofs.extract.Statement.{statement}
 use Rattle.places.proofs.extract.Tie as tie

@@ -1,6 +1,6 @@
 use mathlib.Core.Path.{_≡_, sym}
 use lib.ListN.{length}
-use Rattle.shape.specs.Refusals.{unless-refused}
+use Rattle.shape.specs.RefusalsLaws.{unless-refused}
 use Rattle.shape.specs.Shapes.{wordRefusal}
 use Rattle.shape.specs.Laws.{good-of-word}
 use Rattle.places.specs.Places.{markedChecks}

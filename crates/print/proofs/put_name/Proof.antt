@@ -3,7 +3,8 @@ use Prim.Native.Nat.{_≤_, _-_}
 use native.Mathlib.Omega.{arith}
 use lib.ListN.{length, take, length-set}
 use lib.Seq.{take-all}
-use Rattle.print.specs.Written.{written, written-nothing}
+use Rattle.print.specs.Written.{written}
+use Rattle.print.specs.WrittenLaws.{written-nothing}
 use Rattle.print.proofs.Steps.{name-step}
 use Rattle.print.proofs.put_name.Statement.{statement}
 use Rattle.print.proofs.put_name.Tie as tie

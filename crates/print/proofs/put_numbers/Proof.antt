@@ -4,7 +4,8 @@ use native.Mathlib.Omega.{arith}
 use lib.ListN.{length, take}
 use lib.Seq.{take-all}
 use Rattle.text.specs.Lines.{cells}
-use Rattle.print.specs.Written.{written, written-nothing}
+use Rattle.print.specs.Written.{written}
+use Rattle.print.specs.WrittenLaws.{written-nothing}
 use Rattle.print.proofs.Steps.{numbers-room, numbers-step}
 use Rattle.print.proofs.put_numbers.Statement.{statement}
 use Rattle.print.proofs.put_numbers.Tie as tie

@@ -7,8 +7,9 @@ use lib.ListN.{length, take, drop, drop-of-length-le}
 use lib.Seq.{take-all, length-take-le}
 use borrow.Author.Tests.{not-true, not-false}
 use Rattle.shape.specs.Shapes.{Good}
-use Rattle.groups.specs.Lent.{end-fits}
-use Rattle.recover.specs.Attempt.{Attempt, attempt-done, attempt-failed}
+use Rattle.groups.specs.LentLaws.{end-fits}
+use Rattle.recover.specs.Attempt.{Attempt}
+use Rattle.recover.specs.AttemptLaws.{attempt-done, attempt-failed}
 use borrow.Author.Needs.{needs}
 use Rattle.recover.proofs.attempt.Statement.{statement}
 use Rattle.recover.proofs.attempt.Tie as tie

@@ -1,9 +1,11 @@
 use mathlib.Core.Path.{_≡_, sym, ap, _∙_}
 use Prim.Native.Nat.{_≤_}
 use native.Mathlib.Omega.{arith}
-use Rattle.shape.specs.Answers.{answerAt, answer-refused}
+use Rattle.shape.specs.Answers.{answerAt}
+use Rattle.shape.specs.AnswersLaws.{answer-refused}
 use Rattle.code.specs.Marks.{excess}
-use Rattle.recover.specs.Attempt.{Accepted, accepted, service-refused, service-eight}
+use Rattle.recover.specs.Attempt.{Accepted}
+use Rattle.recover.specs.AttemptLaws.{accepted, service-refused, service-eight}
 use borrow.Author.Needs.{needs}
 use Rattle.recover.proofs.recover.Statement.{statement}
 use Rattle.recover.proofs.recover.Tie as tie

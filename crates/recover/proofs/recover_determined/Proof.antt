@@ -4,7 +4,8 @@ use borrow.Author.Tests.{not-true, not-false}
 use lib.Seq.{length-take-le}
 use Rattle.shape.specs.Answers.{answerAt}
 use Rattle.shape.specs.Laws.{places-most}
-use Rattle.recover.specs.Attempt.{Accepted, accepted, service-nine, service-done}
+use Rattle.recover.specs.Attempt.{Accepted}
+use Rattle.recover.specs.AttemptLaws.{accepted, service-nine, service-done}
 use borrow.Author.Needs.{needs}
 use Rattle.recover.proofs.recover_determined.Statement.{statement}
 use Rattle.recover.proofs.recover_determined.Tie as tie

@@ -1,7 +1,7 @@
 use mathlib.Core.Path.{_≡_, sym, ap, _∙_}
 use native.Mathlib.Omega.{arith}
 use borrow.Author.Needs.{needs}
-use Rattle.marks.specs.Refusal.{orElse-first}
+use Rattle.marks.specs.RefusalLaws.{orElse-first}
 use Rattle.recover.specs.Service.{recoverRefusal}
 use Rattle.recover.proofs.refusal.Statement.{statement}
 use Rattle.recover.proofs.refusal.Tie as tie

@@ -7,7 +7,8 @@ use lib.ListN.{length}
 use Rattle.code.specs.Edition.{bytes}
 use Rattle.code.specs.Word.{isLocal}
 use Rattle.fill.specs.Filled.{Filled}
-use Rattle.repair.specs.Service.{PartAttempt, part-done, part-failed}
+use Rattle.repair.specs.Service.{PartAttempt}
+use Rattle.repair.specs.ServiceLaws.{part-done, part-failed}
 use borrow.Author.Needs.{needs}
 use Rattle.repair.proofs.attempt.Statement.{statement}
 use Rattle.repair.proofs.attempt.Tie as tie

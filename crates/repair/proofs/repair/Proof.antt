@@ -2,11 +2,14 @@ use mathlib.Core.Path.{_≡_, refl, sym, ap, _∙_}
 use Prim.Native.Nat.{_<_, _≤_, _+_, _*_}
 use native.Mathlib.Omega.{arith}
 use lib.ListN.{length}
-use Rattle.shape.specs.Answers.{answerAt, answer-refused}
+use Rattle.shape.specs.Answers.{answerAt}
+use Rattle.shape.specs.AnswersLaws.{answer-refused}
 use Rattle.shape.specs.Laws.{places-most}
-use Rattle.groups.specs.Lent.{Lent, end-fits, part-length, part-narrow}
-use Rattle.recover.specs.Attempt.{Accepted, accepted}
-use Rattle.repair.specs.Service.{service-refused, refused-early, refused-seven, service-lent}
+use Rattle.groups.specs.Lent.{Lent}
+use Rattle.groups.specs.LentLaws.{end-fits, part-length, part-narrow}
+use Rattle.recover.specs.Attempt.{Accepted}
+use Rattle.recover.specs.AttemptLaws.{accepted}
+use Rattle.repair.specs.ServiceLaws.{service-refused, refused-early, refused-seven, service-lent}
 use borrow.Author.Needs.{needs}
 use Rattle.repair.proofs.repair.Statement.{statement}
 use Rattle.repair.proofs.repair.Tie as tie

@@ -5,7 +5,7 @@ use lib.ListN.{length}
 use lib.Seq.{length-take-le}
 use Rattle.code.specs.Edition.{bytes, bytes-sound}
 use Rattle.code.specs.Marks.{lostIn}
-use Rattle.code.specs.Repair.{repaired-eight, repaired-nine, repaired-done}
+use Rattle.code.specs.RepairLaws.{repaired-eight, repaired-nine, repaired-done}
 use borrow.Author.Needs.{needs}
 use Rattle.repair.proofs.repair_part.Statement.{statement}
 use Rattle.repair.proofs.repair_part.Tie as tie

@@ -1,7 +1,7 @@
 use mathlib.Core.Path.{sym}
 use native.Mathlib.Omega.{arith}
 use lib.Seq.{length-take-le}
-use Rattle.session.specs.Lines.{rooms, turn-unreadable, turn-shape, turn-unset, turn-data, turn-word}
+use Rattle.session.specs.LinesLaws.{rooms, turn-unreadable, turn-shape, turn-unset, turn-data, turn-word}
 use borrow.Author.Needs.{needs}
 use Rattle.session.proofs.answer.Statement.{statement}
 use Rattle.session.proofs.answer.Tie as tie

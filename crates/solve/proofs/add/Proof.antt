@@ -4,7 +4,7 @@ use Prim.Native.Nat.{ℕ, _≤_, _<_, _-_}
 use native.Mathlib.Omega.{arith}
 use lib.ListN.{length, getD, take, drop, length-set}
 use borrow.Author.Needs.{needs}
-use Rattle.gf256.specs.Tables.{tables-product}
+use Rattle.gf256.specs.TablesLaws.{tables-product}
 use Rattle.solve.specs.Elimination.{added}
 use Rattle.solve.proofs.Laws.{added-step, added-end}
 use Rattle.solve.proofs.add.Statement.{statement}

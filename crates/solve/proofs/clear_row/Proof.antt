@@ -3,9 +3,10 @@ use mathlib.Core.List.{List}
 use Prim.Native.Nat.{ℕ}
 use native.Mathlib.Omega.{arith}
 use lib.ListN.{length}
-use Rattle.code.specs.Stretch.{stretch-length}
-use Rattle.groups.specs.Lent.{stretch-lent, with-lent}
-use Rattle.solve.specs.Flat.{rowsOf, row-long}
+use Rattle.code.specs.StretchLaws.{stretch-length}
+use Rattle.groups.specs.LentLaws.{stretch-lent, with-lent}
+use Rattle.solve.specs.Flat.{rowsOf}
+use Rattle.solve.specs.FlatLaws.{row-long}
 use Rattle.solve.proofs.Laws.{row-skip, clear-part}
 use borrow.Author.Needs.{needs}
 use Rattle.solve.proofs.clear_row.Statement.{statement}

@@ -5,7 +5,8 @@ use native.Mathlib.Omega.{arith}
 use lib.ListN.{length, getD, length-set}
 use borrow.Author.Needs.{needs}
 use Rattle.solve.specs.Elimination.{row}
-use Rattle.solve.specs.Flat.{rowsOf, rows-length}
+use Rattle.solve.specs.Flat.{rowsOf}
+use Rattle.solve.specs.FlatLaws.{rows-length}
 use mir.Syntax.{w8}
 use Rattle.solve.proofs.Arrays.{array-rows}
 use Rattle.solve.proofs.Laws.{rows-more, rows-all}

@@ -3,8 +3,8 @@ use mathlib.Core.List.{List}
 use Prim.Native.Nat.{ℕ, _+_, _*_, _<_}
 use native.Mathlib.Omega.{arith}
 use lib.ListN.{getD}
-use Rattle.gf256.specs.Tables.{tables-inverse}
-use Rattle.groups.specs.Lent.{stretch-lent, with-lent}
+use Rattle.gf256.specs.TablesLaws.{tables-inverse}
+use Rattle.groups.specs.LentLaws.{stretch-lent, with-lent}
 use Rattle.solve.specs.Flat.{rowsOf}
 use Rattle.solve.proofs.Laws.{normalize-row}
 use borrow.Author.Needs.{needs}

@@ -5,7 +5,8 @@ use native.Mathlib.Omega.{arith}
 use lib.ListN.{length, getD, length-set}
 use borrow.Author.Needs.{needs}
 use Rattle.solve.specs.Elimination.{pivotFrom, pivot}
-use Rattle.solve.specs.Flat.{rowsOf, entry-of}
+use Rattle.solve.specs.Flat.{rowsOf}
+use Rattle.solve.specs.FlatLaws.{entry-of}
 use Rattle.solve.proofs.Laws.{search-on, search-found, search-end}
 use Rattle.solve.proofs.pivot.Statement.{statement}
 use Rattle.solve.proofs.pivot.Tie as tie

@@ -3,9 +3,11 @@ use mathlib.Core.List.{List}
 use Prim.Native.Nat.{ℕ}
 use native.Mathlib.Omega.{arith}
 use lib.ListN.{length, set}
-use Rattle.code.specs.Stretch.{stretch, stretch-length}
-use Rattle.groups.specs.Lent.{stretch-lent, with-lent}
-use Rattle.solve.specs.Flat.{rowsOf, rows-with}
+use Rattle.code.specs.Stretch.{stretch}
+use Rattle.code.specs.StretchLaws.{stretch-length}
+use Rattle.groups.specs.LentLaws.{stretch-lent, with-lent}
+use Rattle.solve.specs.Flat.{rowsOf}
+use Rattle.solve.specs.FlatLaws.{rows-with}
 use borrow.Author.Needs.{needs}
 use Rattle.solve.proofs.put_row.Statement.{statement}
 use Rattle.solve.proofs.put_row.Tie as tie

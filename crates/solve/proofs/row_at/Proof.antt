@@ -3,9 +3,10 @@ use mathlib.Core.List.{List}
 use Prim.Native.Nat.{ℕ}
 use native.Mathlib.Omega.{arith}
 use lib.ListN.{length}
-use Rattle.code.specs.Stretch.{stretch, stretch-length}
-use Rattle.groups.specs.Lent.{stretch-lent}
-use Rattle.solve.specs.Flat.{row-of}
+use Rattle.code.specs.Stretch.{stretch}
+use Rattle.code.specs.StretchLaws.{stretch-length}
+use Rattle.groups.specs.LentLaws.{stretch-lent}
+use Rattle.solve.specs.FlatLaws.{row-of}
 use borrow.Author.Needs.{needs}
 use Rattle.solve.proofs.row_at.Statement.{statement}
 use Rattle.solve.proofs.row_at.Tie as tie

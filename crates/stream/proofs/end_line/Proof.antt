@@ -2,8 +2,8 @@ use mathlib.Core.Path.{sym, ap, _∙_}
 use native.Mathlib.Omega.{arith}
 use lib.Seq.{length-take-le}
 use Rattle.print.specs.Written.{written}
-use Rattle.session.specs.Replies.{reply-room}
-use Rattle.stream.specs.Steps.{reply-line, reply-fits, answered-place}
+use Rattle.session.specs.RepliesLaws.{reply-room}
+use Rattle.stream.specs.StepsLaws.{reply-line, reply-fits, answered-place}
 use borrow.Author.Needs.{needs}
 use Rattle.stream.proofs.end_line.Statement.{statement}
 use Rattle.stream.proofs.end_line.Tie as tie

@@ -1,9 +1,9 @@
 use mathlib.Core.Path.{refl, sym, ap, _∙_}
 use native.Mathlib.Nat.{zero-add}
 use native.Mathlib.Omega.{arith}
-use Rattle.print.specs.Written.{written-nothing}
+use Rattle.print.specs.WrittenLaws.{written-nothing}
 use Rattle.stream.specs.declared.Place.{Place}
-use Rattle.stream.specs.Steps.{closing-none, closing-some}
+use Rattle.stream.specs.StepsLaws.{closing-none, closing-some}
 use borrow.Author.Needs.{needs}
 use Rattle.stream.proofs.finish.Statement.{statement}
 use Rattle.stream.proofs.finish.Tie as tie

@@ -1,7 +1,7 @@
 use mathlib.Core.Path.{refl}
 use native.Mathlib.Omega.{arith}
 use Rattle.stream.specs.declared.Place.{Place}
-use Rattle.stream.specs.Steps.{took}
+use Rattle.stream.specs.StepsLaws.{took}
 use borrow.Author.Needs.{needs}
 use Rattle.stream.proofs.take.Statement.{statement}
 use Rattle.stream.proofs.take.Tie as tie

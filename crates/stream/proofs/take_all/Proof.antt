@@ -3,7 +3,8 @@ use Prim.Native.Nat.{_-_, _≤_}
 use native.Mathlib.Omega.{arith}
 use lib.ListN.{length}
 use Rattle.stream.specs.Places.{pointAt}
-use Rattle.stream.specs.Steps.{Midway, midway-first, midway-room, midway-more}
+use Rattle.stream.specs.Steps.{Midway}
+use Rattle.stream.specs.StepsLaws.{midway-first, midway-room, midway-more}
 use Rattle.stream.proofs.take_all.Statement.{statement}
 use Rattle.stream.proofs.take_all.Tie as tie
 

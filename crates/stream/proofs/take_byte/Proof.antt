@@ -1,5 +1,5 @@
 use native.Mathlib.Omega.{arith}
-use Rattle.stream.specs.Steps.{taken-feed, taken-kept, taken-past}
+use Rattle.stream.specs.StepsLaws.{taken-feed, taken-kept, taken-past}
 use borrow.Author.Needs.{needs}
 use Rattle.stream.proofs.take_byte.Statement.{statement}
 use Rattle.stream.proofs.take_byte.Tie as tie

@@ -6,9 +6,10 @@ use lib.ListN.{length}
 use Rattle.shape.specs.Laws.{word-of-good}
 use Rattle.code.specs.Edition.{bytes}
 use Rattle.code.specs.Word.{coefficient, twisted, firstAcross, secondAcross}
-use Rattle.groups.specs.Lent.{Lent, lent, end-fits, part-narrow}
+use Rattle.groups.specs.Lent.{Lent}
+use Rattle.groups.specs.LentLaws.{lent, end-fits, part-narrow}
 use Rattle.syndrome.specs.Across.{acrossOf}
-use Rattle.syndrome.specs.Parts.{word-none, sum-turn}
+use Rattle.syndrome.specs.PartsLaws.{word-none, sum-turn}
 use Rattle.syndrome.proofs.across.Statement.{statement}
 use Rattle.syndrome.proofs.across.Tie as tie
 

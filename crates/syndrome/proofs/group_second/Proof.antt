@@ -2,7 +2,7 @@ use mathlib.Core.Path.{refl}
 use native.Mathlib.Omega.{arith}
 use borrow.Author.Needs.{needs}
 use borrow.Author.Tests.{not-true, not-false}
-use Rattle.syndrome.specs.Parts.{second-group}
+use Rattle.syndrome.specs.PartsLaws.{second-group}
 use Rattle.syndrome.proofs.group_second.Statement.{statement}
 use Rattle.syndrome.proofs.group_second.Tie as tie
 

@@ -6,8 +6,9 @@ use borrow.Author.Needs.{needs}
 use lib.Ieee.Bits.{is-true}
 use lib.ListN.{length}
 use Rattle.code.specs.Edition.{bytes}
-use Rattle.code.specs.Word.{localSum, local-zero, zero-local}
-use Rattle.syndrome.specs.Parts.{is-false, power-group}
+use Rattle.code.specs.Word.{localSum}
+use Rattle.code.specs.WordLaws.{local-zero, zero-local}
+use Rattle.syndrome.specs.PartsLaws.{is-false, power-group}
 use Rattle.syndrome.proofs.local_zero.Statement.{statement}
 use Rattle.syndrome.proofs.local_zero.Tie as tie
 

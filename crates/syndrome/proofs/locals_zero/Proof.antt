@@ -8,12 +8,13 @@ use borrow.Author.Tests.{not-true, not-false}
 use lib.Dec.{T}
 use lib.Ieee.Bits.{is-true}
 use lib.ListN.{length}
-use Rattle.counting.specs.Test.{all-at, all-intro}
+use Rattle.counting.specs.TestLaws.{all-at, all-intro}
 use Rattle.shape.specs.Laws.{word-of-good}
 use Rattle.code.specs.Edition.{bytes}
 use Rattle.code.specs.Word.{isLocal}
-use Rattle.groups.specs.Lent.{Lent, lent, end-fits, part-narrow}
-use Rattle.syndrome.specs.Parts.{is-false, part-local}
+use Rattle.groups.specs.Lent.{Lent}
+use Rattle.groups.specs.LentLaws.{lent, end-fits, part-narrow}
+use Rattle.syndrome.specs.PartsLaws.{is-false, part-local}
 use Rattle.syndrome.proofs.locals_zero.Statement.{statement}
 use Rattle.syndrome.proofs.locals_zero.Tie as tie
 

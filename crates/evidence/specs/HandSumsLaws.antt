@@ -1,0 +1,27 @@
+-- Laws: The sums done by hand that are shown of the definitions: one list of pairs, what the definition gives and what the paper has, under one claim.
+use mathlib.Core.Path.{refl}
+use Rattle.binary_field.specs.Xor.{_⊕_, masked}
+use Rattle.binary_field.specs.Product.{double, bitSum, product}
+use Rattle.binary_field.specs.Power.{power}
+use Rattle.shape.specs.Shapes.{sureCount, shapeRefusal, describedOf}
+use Rattle.evidence.specs.WordSumsLaws.{encoded-first, encoded-second, three-lost, three-done, three-excess, five-lost, five-excess, last-byte}
+use Rattle.evidence.specs.HandSums.{AllSame, handSums}
+
+pub hand-sums : AllSame handSums
+unfolding power product bitSum double masked _⊕_ sureCount shapeRefusal describedOf
+hand-sums = (
+  refl,
+  (
+    refl,
+    (
+      refl,
+      (
+        refl,
+        (
+          refl,
+          (refl, (refl, (encoded-first, (encoded-second, (three-excess, (three-done, (three-lost, (five-excess, (five-lost, (last-byte, tt)))))))))),
+        ),
+      ),
+    ),
+  ),
+)

@@ -1,0 +1,211 @@
+-- Laws: The words done by hand: each is shown a codeword by its sums, and the theorems on encoding and recovery say the rest.
+use mathlib.Core.Path.{_≡_, refl, sym, ap, _∙_, subst}
+use mathlib.Core.Bool.{Bool, true, false, not}
+use mathlib.Core.List.{List, [], _∷_}
+use Prim.Native.Nat.{ℕ, _<_, _≤_}
+use native.Mathlib.Omega.{arith}
+use native.Mathlib.Decide.{decLt}
+use lib.Dec.{T, ltb, ltb→lt, eqb, eqb→eq}
+use lib.ListN.{length, getD, List·getD-eq-default}
+use lib.Seq.{ext-getD}
+use Rattle.counting.specs.Test.{allBelow, either}
+use Rattle.counting.specs.TestLaws.{all-at}
+use Rattle.counting.specs.Count.{totalBelow}
+use Rattle.binary_field.specs.Xor.{_⊕_, masked}
+use Rattle.binary_field.specs.Product.{double, bitSum, product}
+use Rattle.binary_field.specs.Power.{power}
+use Rattle.binary_field.specs.Sum.{sumBelow}
+use Rattle.gf256.specs.Locators.{locators}
+use Rattle.shape.specs.Shapes.{shapeRefusal, wordRefusal}
+use Rattle.shape.specs.Laws.{good-of-refusal}
+use Rattle.places.specs.Laws.{extract-1-4-1, extract-2-3-1}
+use Rattle.code.specs.Edition.{bytes}
+use Rattle.code.specs.Word.{coefficient, twisted, groupSum, wordSum, isLocal, isCodeword, Codeword}
+use Rattle.code.specs.Marks.{lost, lostIn, excess, Agree}
+use Rattle.code.specs.Answer.{refused, written}
+use Rattle.code.specs.Recovery.{Agrees}
+use Rattle.marks.specs.Refusal.{marksRefusal, areMarks}
+use Rattle.recover.specs.Service.{recoverRefusal, recoverOf}
+use Rattle.recover.specs.AttemptLaws.{accepted, service-eight, service-nine, service-done}
+use Rattle.encode.specs.Service.{encodedWord}
+use Rattle.encode.specs.Laws.{encoded}
+use Rattle.evidence.specs.WordSums.{number, outcomeList}
+
+-- ---- computed tests
+-- all bytes of a list
+small : (xs : List ℕ) → T (allBelow (length xs) (λ p. ltb (getD xs p 0) 256)) → (p : ℕ) → getD xs p 0 < 256
+small xs t p = elim (decLt p (length xs)) [
+  | yes h ↦ ltb→lt (getD xs p 0) 256 (all-at (length xs) (λ p. ltb (getD xs p 0) 256) t p h)
+  | no h ↦ (let k : length xs ≤ p = omega arith in subst (λ n. n < 256) (sym (List·getD-eq-default xs 0 k)) (omega arith))
+]
+
+-- two words at the present places
+agree : (n : ℕ) (marks x y : List ℕ) → T (allBelow n (λ p. either (lost marks p) (eqb (getD x p 0) (getD y p 0)))) → Agree n marks x y
+agree n marks x y t p l e = eqb→eq (getD x p 0) (getD y p 0) (subst (λ v. T (either v (eqb (getD x p 0) (getD y p 0)))) e (all-at n _ t p l))
+
+-- ---- m 1, w 4, c 1, data 1
+firstWord : List ℕ
+firstWord = 1 ∷ 79 ∷ 147 ∷ 221 ∷ []
+
+first-codeword : Codeword bytes 1 4 1 firstWord
+unfolding firstWord isCodeword isLocal wordSum groupSum sumBelow coefficient twisted power product bitSum double masked _⊕_ locators
+first-codeword = record { symbols = record { size = refl; each = small firstWord tt }; zero = tt }
+
+good-1-4-1 : shapeRefusal 1 4 1 ≡ 0
+unfolding shapeRefusal
+good-1-4-1 = refl
+
+pub encoded-first : encodedWord 1 4 1 (1 ∷ []) ≡ 1 ∷ 79 ∷ 147 ∷ 221 ∷ []
+unfolding firstWord
+encoded-first = sym (encoded (good-of-refusal 1 4 1 good-1-4-1) (1 ∷ []) refl (small (1 ∷ []) tt) .only firstWord first-codeword extract-1-4-1)
+
+-- ---- m 2, w 3, c 1, data 1, 1
+secondWord : List ℕ
+secondWord = 1 ∷ 1 ∷ 0 ∷ 78 ∷ 206 ∷ 128 ∷ []
+
+second-codeword : Codeword bytes 2 3 1 secondWord
+unfolding secondWord isCodeword isLocal wordSum groupSum sumBelow coefficient twisted power product bitSum double masked _⊕_ locators
+second-codeword = record { symbols = record { size = refl; each = small secondWord tt }; zero = tt }
+
+good-2-3-1 : shapeRefusal 2 3 1 ≡ 0
+unfolding shapeRefusal
+good-2-3-1 = refl
+
+pub encoded-second : encodedWord 2 3 1 (1 ∷ 1 ∷ []) ≡ 1 ∷ 1 ∷ 0 ∷ 78 ∷ 206 ∷ 128 ∷ []
+unfolding secondWord
+encoded-second =
+    sym (encoded (good-of-refusal 2 3 1 good-2-3-1) (1 ∷ 1 ∷ []) refl (small (1 ∷ 1 ∷ []) tt) .only secondWord second-codeword extract-2-3-1)
+
+-- ---- recoveries of that word; other bytes stand in the lost places
+-- a call with six bytes and six marks, and the excess, by computing
+called : List ℕ → List ℕ → ℕ → Type 0
+called word marks x = (0 ≡ recoverRefusal 2 3 1 word marks) × (excess 2 3 1 marks ≡ x)
+
+-- "In that word the first three lost: recovered (excess 2)"
+threeLost : List ℕ
+threeLost = 255 ∷ 255 ∷ 255 ∷ 78 ∷ 206 ∷ 128 ∷ []
+
+firstThree : List ℕ
+firstThree = 1 ∷ 1 ∷ 1 ∷ 0 ∷ 0 ∷ 0 ∷ []
+
+three-called : called threeLost firstThree 2
+unfolding called threeLost firstThree recoverRefusal wordRefusal marksRefusal shapeRefusal areMarks excess lostIn totalBelow
+three-called = (refl, refl)
+
+three-agrees : Agrees bytes 2 3 1 firstThree threeLost secondWord
+unfolding threeLost firstThree secondWord
+three-agrees = record { codeword = second-codeword; agree = agree 6 firstThree secondWord threeLost tt }
+
+pub three-lost : outcomeList (recoverOf 2 3 1 (255 ∷ 255 ∷ 255 ∷ 78 ∷ 206 ∷ 128 ∷ []) (1 ∷ 1 ∷ 1 ∷ 0 ∷ 0 ∷ 0 ∷ []))
+    ≡ 0 ∷ 1 ∷ 1 ∷ 0 ∷ 78 ∷ 206 ∷ 128 ∷ 0 ∷ 0 ∷ 0 ∷ 0 ∷ 0 ∷ 0 ∷ []
+unfolding called threeLost firstThree secondWord
+three-lost =
+    let e = three-called .1 in
+    ap outcomeList
+    (service-done 2 3 1 threeLost firstThree (accepted 2 3 1 threeLost firstThree 0 (three-called .0) refl) (small threeLost tt) secondWord (omega arith) three-agrees)
+
+pub three-done : number ((recoverOf 2 3 1 (255 ∷ 255 ∷ 255 ∷ 78 ∷ 206 ∷ 128 ∷ []) (1 ∷ 1 ∷ 1 ∷ 0 ∷ 0 ∷ 0 ∷ [])) .number) ≡ number 0
+three-done = ap (λ l. number (getD l 0 0)) three-lost
+
+pub three-excess : number (excess 2 3 1 (1 ∷ 1 ∷ 1 ∷ 0 ∷ 0 ∷ 0 ∷ [])) ≡ number 2
+unfolding called firstThree
+three-excess = ap number (three-called .1)
+
+-- "The first five lost: 8 (excess 3)"
+firstFive : List ℕ
+firstFive = 1 ∷ 1 ∷ 1 ∷ 1 ∷ 1 ∷ 0 ∷ []
+
+five-called : called secondWord firstFive 3
+unfolding called secondWord firstFive recoverRefusal wordRefusal marksRefusal shapeRefusal areMarks excess lostIn totalBelow
+five-called = (refl, refl)
+
+pub five-lost : outcomeList (recoverOf 2 3 1 (1 ∷ 1 ∷ 0 ∷ 78 ∷ 206 ∷ 128 ∷ []) (1 ∷ 1 ∷ 1 ∷ 1 ∷ 1 ∷ 0 ∷ []))
+    ≡ 8 ∷ 1 ∷ 1 ∷ 0 ∷ 78 ∷ 206 ∷ 128 ∷ 1 ∷ 1 ∷ 1 ∷ 1 ∷ 1 ∷ 0 ∷ []
+unfolding called firstFive secondWord
+five-lost =
+    let e = five-called .1 in
+    ap outcomeList (service-eight 2 3 1 secondWord firstFive (accepted 2 3 1 secondWord firstFive 0 (five-called .0) refl) (small secondWord tt) (omega arith))
+
+pub five-excess : number (excess 2 3 1 (1 ∷ 1 ∷ 1 ∷ 1 ∷ 1 ∷ 0 ∷ [])) ≡ number 3
+unfolding called firstFive
+five-excess = ap number (five-called .1)
+
+-- ---- the two words of the paper's session, with 0 in the lost places
+-- the second and the fifth lost: recovered
+twoLost : List ℕ
+twoLost = 1 ∷ 0 ∷ 0 ∷ 78 ∷ 0 ∷ 128 ∷ []
+
+secondFifth : List ℕ
+secondFifth = 0 ∷ 1 ∷ 0 ∷ 0 ∷ 1 ∷ 0 ∷ []
+
+two-called : called twoLost secondFifth 0
+unfolding called twoLost secondFifth recoverRefusal wordRefusal marksRefusal shapeRefusal areMarks excess lostIn totalBelow
+two-called = (refl, refl)
+
+two-agrees : Agrees bytes 2 3 1 secondFifth twoLost secondWord
+unfolding twoLost secondFifth secondWord
+two-agrees = record { codeword = second-codeword; agree = agree 6 secondFifth secondWord twoLost tt }
+
+pub two-lost : recoverOf 2 3 1 (1 ∷ 0 ∷ 0 ∷ 78 ∷ 0 ∷ 128 ∷ []) (0 ∷ 1 ∷ 0 ∷ 0 ∷ 1 ∷ 0 ∷ [])
+    ≡ written (1 ∷ 1 ∷ 0 ∷ 78 ∷ 206 ∷ 128 ∷ []) (0 ∷ 1 ∷ 0 ∷ 0 ∷ 1 ∷ 0 ∷ [])
+unfolding called twoLost secondFifth secondWord
+two-lost =
+    let e = two-called .1 in
+    service-done 2 3 1 twoLost secondFifth (accepted 2 3 1 twoLost secondFifth 0 (two-called .0) refl) (small twoLost tt) secondWord (omega arith) two-agrees
+
+-- the first five lost
+fiveLost : List ℕ
+fiveLost = 0 ∷ 0 ∷ 0 ∷ 0 ∷ 0 ∷ 128 ∷ []
+
+five-again : called fiveLost firstFive 3
+unfolding called fiveLost firstFive recoverRefusal wordRefusal marksRefusal shapeRefusal areMarks excess lostIn totalBelow
+five-again = (refl, refl)
+
+pub five-lost-again : recoverOf 2 3 1 (0 ∷ 0 ∷ 0 ∷ 0 ∷ 0 ∷ 128 ∷ []) (1 ∷ 1 ∷ 1 ∷ 1 ∷ 1 ∷ 0 ∷ [])
+    ≡ refused 8 (0 ∷ 0 ∷ 0 ∷ 0 ∷ 0 ∷ 128 ∷ []) (1 ∷ 1 ∷ 1 ∷ 1 ∷ 1 ∷ 0 ∷ [])
+unfolding called firstFive fiveLost
+five-lost-again =
+    let e = five-again .1 in
+    service-eight 2 3 1 fiveLost firstFive (accepted 2 3 1 fiveLost firstFive 0 (five-again .0) refl) (small fiveLost tt) (omega arith)
+
+-- "Nothing lost, last byte 129: 9"
+lastChanged : List ℕ
+lastChanged = 1 ∷ 1 ∷ 0 ∷ 78 ∷ 206 ∷ 129 ∷ []
+
+noneLost : List ℕ
+noneLost = 0 ∷ 0 ∷ 0 ∷ 0 ∷ 0 ∷ 0 ∷ []
+
+none-called : called lastChanged noneLost 0
+unfolding called lastChanged noneLost recoverRefusal wordRefusal marksRefusal shapeRefusal areMarks excess lostIn totalBelow
+none-called = (refl, refl)
+
+no-codeword : isCodeword bytes 2 3 1 lastChanged ≡ false
+unfolding lastChanged isCodeword isLocal wordSum groupSum sumBelow coefficient twisted power product bitSum double masked _⊕_ locators
+no-codeword = refl
+
+none-lost : (p : ℕ) → p < 6 → lost noneLost p ≡ false
+unfolding noneLost
+none-lost p l = go (lost noneLost p) (all-at 6 (λ q. not (lost noneLost q)) tt p l)
+  where
+    go : (b : Bool) → T (not b) → b ≡ false
+    go true t = absurd t
+    go false t = refl
+
+last-size : length lastChanged ≡ 6
+unfolding lastChanged
+last-size = refl
+
+never : (y : List ℕ) → Agrees bytes 2 3 1 noneLost lastChanged y → ⊥
+never y Y = subst T (ap (isCodeword bytes 2 3 1) same ∙ no-codeword) (Y .codeword .zero)
+  where
+    same : y ≡ lastChanged
+    same =
+        ext-getD 0 y lastChanged (Y .codeword .symbols .size ∙ sym last-size)
+        (λ p l. let k : p < 6 = subst (λ n. p < n) (Y .codeword .symbols .size) l in Y .agree p k (none-lost p k))
+
+pub last-byte : outcomeList (recoverOf 2 3 1 (1 ∷ 1 ∷ 0 ∷ 78 ∷ 206 ∷ 129 ∷ []) (0 ∷ 0 ∷ 0 ∷ 0 ∷ 0 ∷ 0 ∷ []))
+    ≡ 9 ∷ 1 ∷ 1 ∷ 0 ∷ 78 ∷ 206 ∷ 129 ∷ 0 ∷ 0 ∷ 0 ∷ 0 ∷ 0 ∷ 0 ∷ []
+unfolding called lastChanged noneLost
+last-byte =
+    let e = none-called .1 in
+    ap outcomeList (service-nine 2 3 1 lastChanged noneLost (accepted 2 3 1 lastChanged noneLost 0 (none-called .0) refl) (small lastChanged tt) (omega arith) never)

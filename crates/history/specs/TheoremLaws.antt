@@ -1,0 +1,280 @@
+-- Laws: On a desk grown from fresh by any list of calls, refused ones included, the desk and the ledger agree.
+use mathlib.Core.Path.{_≡_, refl, sym, ap, _∙_, subst}
+use mathlib.Core.Bool.{Bool, true, false, not, _&&_, _||_, and-true, and-false, or-true, true≢false, false≢true}
+use mathlib.Core.List.{List, [], _∷_}
+use Prim.Native.Nat.{ℕ, zero, suc, _+_, _≤_}
+use native.Mathlib.Nat.{add-zero}
+use native.Mathlib.Omega.{arith}
+use native.Mathlib.Decide.{ℕ-discrete}
+use borrow.Author.Tests.{eqb-true, eqb-false, eq-eqb, ne-eqb, not-true}
+use lib.Dec.{eqb}
+use Rattle.shape.specs.Refusals.{refuse, _orElse_}
+use Rattle.desk.specs.declared.Desk.{Desk}
+use Rattle.desk.specs.Desks.{freshDesk, emptyJob, jobAt, issueOf, slotOf, isOpen}
+use Rattle.desk.specs.Calls.{handleRefusal, freeSlot, newHandle, newJob, openNumber, openBy, openOf, readBy, readOf, closeBy, closeOf}
+use Rattle.desk.specs.Calls.{serveNumber, serveBy, serveOf, servedOnce}
+use Rattle.desk.specs.Laws.{sound-of, false-of}
+use Rattle.desk.specs.CallLaws.{Openable, open-parts}
+use Rattle.desk.specs.ServeLaws.{job-room}
+use Rattle.history.specs.History.{Call, Fresh, Open, Serve, Read, Close, step, after, grown, answers, Ledger, emptyLedger, noteBy, note, noted, ledgerOf}
+use Rattle.counting.specs.Count.{one}
+use Rattle.history.specs.History.{isIn, times, isDistinct, isLive, servesOf}
+use Rattle.history.specs.SoundLaws.{serve-parts}
+use Rattle.history.specs.PutLaws.{and-of, and-to, put-size}
+use Rattle.history.specs.Effects.{holdsHandle, opened}
+use Rattle.history.specs.EffectsLaws.{slot-below, fresh-size, fresh-zero, fresh-free, fresh-sound, empty-not, open-by-slot}
+use Rattle.history.specs.Effects.{closed}
+use Rattle.history.specs.EffectsLaws.{opened-sound, opened-open, opened-new, opened-job, new-issue, handle-parts, handle-done, closed-sound}
+use Rattle.history.specs.Effects.{served}
+use Rattle.history.specs.EffectsLaws.{closed-open, other-job, served-sound, served-open, served-job}
+use Rattle.history.specs.Theorem.{Kept, Agrees}
+
+or-right : (a b : Bool) → a || b ≡ false → b ≡ false
+or-right true b e = absurd (true≢false e)
+or-right false b e = e
+
+fresh-shut : (h : ℕ) → isOpen freshDesk h ≡ false
+fresh-shut h =
+    open-by-slot freshDesk fresh-sound h
+    ∙ ap (λ j. holdsHandle j h) (fresh-free (slotOf h) (slot-below h))
+    ∙ ap (λ b. b && eqb (emptyJob .handle) h) empty-not
+
+pub fresh-kept : Kept freshDesk emptyLedger
+unfolding isLive isIn times isDistinct
+fresh-kept = record {
+  size = fresh-size;
+  sound = fresh-sound;
+  live = fresh-shut;
+  numbers = λ h e. absurd (false≢true e);
+  distinct = refl;
+  count = sym fresh-zero;
+  shut = λ h e. absurd (false≢true e);
+  counted = λ h o. absurd (true≢false (sym o ∙ fresh-shut h));
+  early = λ h e. refl;
+  most = λ h o. absurd (true≢false (sym o ∙ fresh-shut h));
+}
+
+-- ---- Open
+module _ (m w c : ℕ) (marks : List ℕ) (desk : Desk) (ledger : Ledger) (K : Kept desk ledger) (P : Openable m w c marks desk) where
+  abbrev H : ℕ
+  H = newHandle desk
+
+  abbrev then : Desk
+  then = opened m w c marks desk (K .size) (K .sound) (P .judged) (P .early) (P .room)
+
+  abbrev openLedger : Ledger
+  openLedger = record { issued = H ∷ ledger .issued; closed = ledger .closed; serves = ledger .serves }
+
+  H-issue : issueOf H ≡ desk .t + 1
+  H-issue = new-issue m w c marks desk (K .size) (K .sound) (P .judged) (P .early) (P .room)
+
+  is-open : (h : ℕ) → isOpen then h ≡ (eqb h H || isOpen desk h)
+  is-open = opened-open m w c marks desk (K .size) (K .sound) (P .judged) (P .early) (P .room)
+
+  not-issued : isIn H (ledger .issued) ≡ false
+  not-issued = false-of _ (λ e. let n = K .numbers H e .1 in let i = H-issue in omega arith)
+
+  not-closed : isIn H (ledger .closed) ≡ false
+  not-closed = false-of _ (λ e. true≢false (sym (K .shut H e) ∙ not-issued))
+
+  open-live : (h : ℕ) → isOpen then h ≡ isLive openLedger h
+  unfolding isLive isIn
+  open-live h = is-open h ∙ ap (λ b. eqb h H || b) (K .live h) ∙ go (eqb h H) refl
+    where
+      go : (b : Bool) → eqb h H ≡ b
+          → (b || isIn h (ledger .issued) && not (isIn h (ledger .closed))) ≡ ((b || isIn h (ledger .issued)) && not (isIn h (ledger .closed)))
+      go true e = sym (ap (λ x. not (isIn x (ledger .closed))) (eqb-true h H e) ∙ ap not not-closed)
+      go false e = refl
+
+  open-numbers : (h : ℕ) → isIn h (H ∷ ledger .issued) ≡ true → (1 ≤ issueOf h) × (issueOf h ≤ desk .t + 1)
+  unfolding isIn
+  open-numbers h = go (eqb h H) refl
+    where
+      go : (b : Bool) → eqb h H ≡ b → (b || isIn h (ledger .issued)) ≡ true → (1 ≤ issueOf h) × (issueOf h ≤ desk .t + 1)
+      go true e k = let i : issueOf h ≡ desk .t + 1 = ap issueOf (eqb-true h H e) ∙ H-issue in (omega arith, omega arith)
+      go false e k = let n = K .numbers h k in let a = n .0 in let b = n .1 in (a, omega arith)
+
+  -- an open handle is the new one, or was open
+  was-open : (h : ℕ) → (h ≡ H → ⊥) → isOpen then h ≡ true → isOpen desk h ≡ true
+  was-open h n o = sym (is-open h ∙ ap (λ b. b || isOpen desk h) (ne-eqb h H n)) ∙ o
+
+  new-served : newJob m w c marks H .served ≡ 0
+  unfolding newJob
+  new-served = refl
+
+  new-count : jobAt then (slotOf H) .served ≡ 0
+  new-count = ap (λ j. j .served) (opened-new m w c marks desk (K .size) (K .sound) (P .judged) (P .early) (P .room)) ∙ new-served
+
+  old-count : (h : ℕ) → isOpen desk h ≡ true → jobAt then (slotOf h) .served ≡ jobAt desk (slotOf h) .served
+  old-count h o = ap (λ j. j .served) (opened-job m w c marks desk (K .size) (K .sound) (P .judged) (P .early) (P .room) h o)
+
+  open-kept : Kept then openLedger
+  unfolding isIn isDistinct
+  open-kept = record {
+    size = put-size desk (K .size) (desk .t + 1) (freeSlot desk) (P .room) (newJob m w c marks H);
+    sound = opened-sound m w c marks desk (K .size) (K .sound) (P .judged) (P .early) (P .room);
+    live = open-live;
+    numbers = open-numbers;
+    distinct = and-to (not (isIn H (ledger .issued))) (isDistinct (ledger .issued)) (ap not not-issued) (K .distinct);
+    count = let e = K .count in omega arith;
+    shut = λ h e. ap (λ b. eqb h H || b) (K .shut h e) ∙ or-true (eqb h H);
+    counted = λ h o. elim (ℕ-discrete h H) [
+      | yes e ↦ ap (λ x. jobAt then (slotOf x) .served) e ∙ new-count ∙ sym (ap (λ x. servesOf ledger x) e ∙ K .early H not-issued)
+      | no n ↦ old-count h (was-open h n o) ∙ K .counted h (was-open h n o)
+    ];
+    early = λ h e. K .early h (or-right (eqb h H) _ e);
+    most = λ h o. elim (ℕ-discrete h H) [
+      | yes e ↦ subst (λ n. n ≤ 4294967295) (sym (ap (λ x. jobAt then (slotOf x) .served) e ∙ new-count)) (omega arith)
+      | no n ↦ subst (λ n. n ≤ 4294967295) (sym (old-count h (was-open h n o))) (K .most h (was-open h n o))
+    ];
+  }
+
+open-step : (m w c : ℕ) (marks : List ℕ) (desk : Desk) (ledger : Ledger) → Kept desk ledger → (r : ℕ) → openNumber m w c marks desk ≡ r
+    → Kept (openBy r m w c marks desk .desk) (noteBy (Open m w c marks) (openBy r m w c marks desk .number) (openBy r m w c marks desk .handle) ledger)
+open-step m w c marks desk ledger K zero e = open-kept m w c marks desk ledger K (open-parts m w c marks desk (K .size) e)
+open-step m w c marks desk ledger K (suc r) e = K
+
+-- ---- Serve and Close
+module _ (desk : Desk) (ledger : Ledger) (K : Kept desk ledger) (H : ℕ) (o : isOpen desk H ≡ true) where
+  live-parts : (isIn H (ledger .issued) ≡ true) × (not (isIn H (ledger .closed)) ≡ true)
+  unfolding isLive
+  live-parts = and-of (isIn H (ledger .issued)) (not (isIn H (ledger .closed))) (sym (K .live H) ∙ o)
+
+  abbrev closeLedger : Ledger
+  closeLedger = record { issued = ledger .issued; closed = H ∷ ledger .closed; serves = ledger .serves }
+
+  close-live : (h : ℕ) → isOpen (closed desk (K .size) (K .sound) H o) h ≡ isLive closeLedger h
+  unfolding isLive isIn
+  close-live h = closed-open desk (K .size) (K .sound) H o h ∙ ap (λ b. b && not (eqb h H)) (K .live h) ∙ go (eqb h H)
+    where
+      go : (b : Bool) → (isIn h (ledger .issued) && not (isIn h (ledger .closed)) && not b) ≡ (isIn h (ledger .issued) && not (b || isIn h (ledger .closed)))
+      go true = and-false (isIn h (ledger .issued) && not (isIn h (ledger .closed))) ∙ sym (and-false (isIn h (ledger .issued)))
+      go false = and-true (isIn h (ledger .issued) && not (isIn h (ledger .closed)))
+
+  close-shut : (h : ℕ) → isIn h (H ∷ ledger .closed) ≡ true → isIn h (ledger .issued) ≡ true
+  unfolding isIn
+  close-shut h = go (eqb h H) refl
+    where
+      go : (b : Bool) → eqb h H ≡ b → (b || isIn h (ledger .closed)) ≡ true → isIn h (ledger .issued) ≡ true
+      go true e k = ap (λ x. isIn x (ledger .issued)) (eqb-true h H e) ∙ live-parts .0
+      go false e k = K .shut h k
+
+  close-parts : (h : ℕ) → isOpen (closed desk (K .size) (K .sound) H o) h ≡ true → (isOpen desk h ≡ true) × (not (eqb h H) ≡ true)
+  close-parts h p = and-of (isOpen desk h) (not (eqb h H)) (sym (closed-open desk (K .size) (K .sound) H o h) ∙ p)
+
+  close-job : (h : ℕ) → isOpen (closed desk (K .size) (K .sound) H o) h ≡ true
+      → jobAt (closed desk (K .size) (K .sound) H o) (slotOf h) .served ≡ jobAt desk (slotOf h) .served
+  close-job h p =
+      let q = close-parts h p in
+      ap (λ j. j .served) (other-job desk (K .size) (K .sound) H o (desk .t) emptyJob h (q .0) (eqb-false h H (not-true _ (q .1))))
+
+  close-kept : Kept (closed desk (K .size) (K .sound) H o) closeLedger
+  close-kept = record {
+    size = put-size desk (K .size) (desk .t) (slotOf H) (slot-below H) emptyJob;
+    sound = closed-sound desk (K .size) (K .sound) H o;
+    live = close-live;
+    numbers = K .numbers;
+    distinct = K .distinct;
+    count = K .count;
+    shut = close-shut;
+    counted = λ h p. close-job h p ∙ K .counted h (close-parts h p .0);
+    early = K .early;
+    most = λ h p. subst (λ n. n ≤ 4294967295) (sym (close-job h p)) (K .most h (close-parts h p .0));
+  }
+
+  abbrev serveLedger : Ledger
+  serveLedger = record { issued = ledger .issued; closed = ledger .closed; serves = H ∷ ledger .serves }
+
+  serve-live : (h : ℕ) → isOpen (served desk (K .size) (K .sound) H o) h ≡ isLive serveLedger h
+  unfolding isLive
+  serve-live h = served-open desk (K .size) (K .sound) H o h ∙ K .live h
+
+  serve-was : (h : ℕ) → isOpen (served desk (K .size) (K .sound) H o) h ≡ true → isOpen desk h ≡ true
+  serve-was h p = sym (served-open desk (K .size) (K .sound) H o h) ∙ p
+
+  -- the handle served, and another
+  serve-this : (h : ℕ) → h ≡ H → jobAt (served desk (K .size) (K .sound) H o) (slotOf h) .served ≡ jobAt desk (slotOf h) .served + 1
+  serve-this h e =
+      ap (λ x. jobAt (served desk (K .size) (K .sound) H o) (slotOf x) .served) e
+      ∙ ap (λ j. j .served) (served-job desk (K .size) (K .sound) H o)
+      ∙ ap (λ x. jobAt desk (slotOf x) .served + 1) (sym e)
+
+  serve-other : (h : ℕ) → (h ≡ H → ⊥) → isOpen desk h ≡ true → jobAt (served desk (K .size) (K .sound) H o) (slotOf h) .served ≡ jobAt desk (slotOf h) .served
+  serve-other h n p = ap (λ j. j .served) (other-job desk (K .size) (K .sound) H o (desk .t) (servedOnce (jobAt desk (slotOf H))) h p n)
+
+  one-more : (h : ℕ) → h ≡ H → servesOf serveLedger h ≡ servesOf ledger h + 1
+  unfolding times
+  one-more h e = ap (λ b. times h (ledger .serves) + one b) (eq-eqb h H e)
+
+  no-more : (h : ℕ) → (h ≡ H → ⊥) → servesOf serveLedger h ≡ servesOf ledger h
+  unfolding times
+  no-more h n = ap (λ b. times h (ledger .serves) + one b) (ne-eqb h H n) ∙ add-zero _
+
+  serve-kept : (jobAt desk (slotOf H) .served ≡ 4294967295 → ⊥) → Kept (served desk (K .size) (K .sound) H o) serveLedger
+  serve-kept room = record {
+    size = put-size desk (K .size) (desk .t) (slotOf H) (slot-below H) (servedOnce (jobAt desk (slotOf H)));
+    sound = served-sound desk (K .size) (K .sound) H o;
+    live = serve-live;
+    numbers = K .numbers;
+    distinct = K .distinct;
+    count = K .count;
+    shut = K .shut;
+    counted = λ h p. elim (ℕ-discrete h H) [
+      | yes e ↦ serve-this h e ∙ ap (λ n. n + 1) (K .counted h (serve-was h p)) ∙ sym (one-more h e)
+      | no n ↦ serve-other h n (serve-was h p) ∙ K .counted h (serve-was h p) ∙ sym (no-more h n)
+    ];
+    early = λ h e. no-more h (λ k. true≢false (sym (live-parts .0) ∙ ap (λ x. isIn x (ledger .issued)) (sym k) ∙ e)) ∙ K .early h e;
+    most = λ h p. elim (ℕ-discrete h H) [
+      | yes e ↦ subst (λ n. n ≤ 4294967295) (sym (serve-this h e)) (
+          let a = K .most h (serve-was h p) in
+          let b : jobAt desk (slotOf h) .served ≡ 4294967295 → ⊥ = λ k. room (ap (λ x. jobAt desk (slotOf x) .served) (sym e) ∙ k) in
+          omega arith)
+      | no n ↦ subst (λ n. n ≤ 4294967295) (sym (serve-other h n (serve-was h p))) (K .most h (serve-was h p))
+    ];
+  }
+
+close-step : (H : ℕ) (desk : Desk) (ledger : Ledger) → Kept desk ledger → (r : ℕ) → handleRefusal H desk ≡ r
+    → Kept (closeBy r H desk .desk) (noteBy (Close H) (closeBy r H desk .number) 0 ledger)
+close-step H desk ledger K zero e = close-kept desk ledger K H (handle-parts H desk e .1)
+close-step H desk ledger K (suc r) e = K
+
+serve-step : (H : ℕ) (word : List ℕ) (desk : Desk) (ledger : Ledger) → Kept desk ledger → (r : ℕ) → serveNumber H word desk ≡ r
+    → Kept (serveBy r H word desk .desk) (noteBy (Serve H word) (serveBy r H word desk .number) 0 ledger)
+serve-step H word desk ledger K zero e = let p = serve-parts H word desk e in serve-kept desk ledger K H (p .0) (job-room (jobAt desk (slotOf H)) word (p .1))
+serve-step H word desk ledger K (suc r) e = K
+
+-- ---- every call, and every list of calls
+pub kept-step : (call : Call) (desk : Desk) (ledger : Ledger) → Kept desk ledger
+    → Kept (step call desk .desk) (note (record { call = call; number = step call desk .number; value = step call desk .value }) ledger)
+unfolding step openOf closeOf serveOf
+kept-step Fresh desk ledger K = fresh-kept
+kept-step (Open m w c marks) desk ledger K = open-step m w c marks desk ledger K (openNumber m w c marks desk) refl
+kept-step (Serve H word) desk ledger K = serve-step H word desk ledger K (serveNumber H word desk) refl
+kept-step (Read H) desk ledger K = K
+kept-step (Close H) desk ledger K = close-step H desk ledger K (handleRefusal H desk) refl
+
+pub kept-all : (calls : List Call) (desk : Desk) (ledger : Ledger) → Kept desk ledger → Kept (after desk calls) (noted ledger (answers desk calls))
+unfolding after answers noted
+kept-all [] desk ledger K = K
+kept-all (call ∷ calls) desk ledger K = kept-all calls (step call desk .desk) _ (kept-step call desk ledger K)
+
+pub agrees : (desk : Desk) (ledger : Ledger) → Kept desk ledger → Agrees desk ledger
+unfolding readOf handleRefusal
+agrees desk ledger K =
+    let s = sound-of desk (K .sound) in
+    record {
+      sound = s;
+      exact = K .live;
+      refusal = λ h. ap (λ b. refuse 31 (not b) orElse refuse 12 (not (isOpen desk h))) s ∙ ap (λ b. refuse 12 (not b)) (K .live h);
+      once = K .distinct;
+      never = λ h l. false-of _ (λ e. let n = K .numbers h e .0 in omega arith);
+      count = sym (K .count);
+      shut = K .shut;
+      read = λ h o. ap (λ r. readBy r h desk) (handle-done h desk s o) ∙ ap (λ n. record { number = 0; served = n }) (K .counted h o);
+      before = K .early;
+      most = λ h o. subst (λ n. n ≤ 4294967295) (K .counted h o) (K .most h o);
+    }
+
+-- "on a desk grown from fresh by these calls alone": every list of calls, refused ones included, any numbers given
+pub history : (calls : List Call) → Agrees (grown calls) (ledgerOf calls)
+history calls = agrees (grown calls) (ledgerOf calls) (kept-all calls freshDesk emptyLedger fresh-kept)

@@ -1,0 +1,34 @@
+-- "Could other checks have mended more?" Whatever two sums of byte times factor stand in place of the two across, no pattern that Judge
+-- refuses is determined by them.
+use mathlib.Core.Path.{_≡_}
+use mathlib.Core.List.{List}
+use Prim.Native.Nat.{ℕ, _≤_, _<_}
+use native.Mathlib.Decide.{decLe}
+use native.Mathlib.Omega.{arith}
+use Rattle.code.specs.Edition.{bytes, bytes-sound}
+use Rattle.code.specs.EditionLaws.{bytes-few}
+use Rattle.code.specs.Marks.{excess}
+use Rattle.code.specs.Determined.{Ambiguous}
+use Rattle.code.specs.DeterminedLaws.{beyond}
+use Rattle.marks.specs.Refusal.{marksRefusal}
+use Rattle.marks.specs.RefusalLaws.{good-of-marks}
+use Rattle.judge.specs.Answer.{judgedNumberOf}
+use Rattle.judge.specs.Laws.{zero-excess}
+
+module _ (m w c : ℕ) (marks : List ℕ) (accepted : marksRefusal m w c marks ≡ 0) (h₁ h₂ : ℕ → ℕ → ℕ) where
+  -- "For every pattern with excess above 2 there are then two different words that meet those equations and agree at all present places."
+  pub any-two : 2 < excess m w c marks → Ambiguous bytes m w c marks h₁ h₂
+  any-two l =
+      let g = good-of-marks m w c marks accepted .good in
+      let wide : 0 < w = omega arith in
+      beyond bytes bytes-sound m w c (bytes-few (g .few)) wide (g .narrow) marks h₁ h₂ l
+
+  -- "our two mend all that any two could"
+  pub none-better : ¬ Ambiguous bytes m w c marks h₁ h₂ → judgedNumberOf m w c marks ≡ 0
+  none-better clear = zero-excess m w c marks accepted .1 (few clear)
+    where
+      few : ¬ Ambiguous bytes m w c marks h₁ h₂ → excess m w c marks ≤ 2
+      few clear = elim (decLe (excess m w c marks) 2) [
+        | yes h ↦ h
+        | no h ↦ absurd (clear (any-two (omega arith)))
+      ]

@@ -1,0 +1,70 @@
+-- Laws: "Each input line gives exactly one output line.": what an answer can be, and the lines of a session's output.
+use mathlib.Core.Path.{_≡_, refl, ap, _∙_}
+use mathlib.Core.Bool.{Bool, true, false, cond}
+use mathlib.Core.List.{List, [], _∷_, _++_, append-assoc}
+use Prim.Native.Nat.{ℕ, zero, suc}
+use lib.Dec.{T, eqb}
+use lib.ListN.{length, getD}
+use Rattle.shape.specs.Shapes.{placeCount, dataCount, shapeRefusal, bufferRefusal}
+use Rattle.encode.specs.Service.{encodedWord}
+use Rattle.recover.specs.Service.{recoverOf}
+use Rattle.text.specs.DecimalLaws.{without}
+use Rattle.text.specs.Records.{wordName, lineKind, lineBytes, lineMarks}
+use Rattle.text.specs.Lines.{cells, lineOf, okLine, refusedLine, wordLine}
+use Rattle.text.specs.Input.{lines}
+use Rattle.text.specs.InputLaws.{lines-feed}
+use Rattle.text.specs.ReadBackLaws.{line-parts, one-line}
+use Rattle.session.specs.Turn.{Turn, turn, turnUnless, refusedTurn, shapeTurn, dataTurn, wordTurn, recordTurn, turnOf}
+use Rattle.stream.specs.Session.{answers, joined, sessionOf}
+use Rattle.stream.specs.OutputLines.{IsLine}
+
+-- ---- every turn is a refusal, the figures of a shape, or a word: of encoded data, or a recovered one
+unless-case : (P : Turn → Type 0) (x : ℕ) (t : Turn) (m w c : ℕ) → ((r : ℕ) → P (refusedTurn r m w c)) → (x ≡ 0 → P t) → P (turnUnless x t m w c)
+unless-case P zero t m w c f p = p refl
+unless-case P (suc r) t m w c f p = f (suc r)
+
+module _ (P : Turn → Type 0) (line : List ℕ) (m w c : ℕ)
+    (no : (r : ℕ) → P (refusedTurn r m w c))
+    (ok : (a b d : ℕ) → P (turn (okLine (placeCount a b) (dataCount a b d)) a b d))
+    (encodes : bufferRefusal m w c (placeCount m w) (length (lineBytes line)) ≡ 0 → P (turn (wordLine (encodedWord m w c (lineBytes line))) m w c))
+    (recovers : (recoverOf m w c (lineBytes line) (lineMarks line)) .number ≡ 0
+    → P (turn (wordLine ((recoverOf m w c (lineBytes line) (lineMarks line)) .word)) m w c)) where
+  pub turn-cases : P (turnOf line m w c)
+  unfolding turnOf recordTurn shapeTurn dataTurn wordTurn
+  turn-cases = go (eqb (lineKind line) 0) (eqb (lineKind line) 1) (eqb m 0) (eqb (lineKind line) 2)
+    where
+      shapes : (a b d : ℕ) → P (shapeTurn a b d m w c)
+      shapes a b d = unless-case P (shapeRefusal a b d) _ m w c no (λ _. ok a b d)
+
+      go : (p q r s : Bool)
+          → P (cond p (refusedTurn 14 m w c) (cond q (shapeTurn (getD (lineBytes line) 0 0) (getD (lineBytes line) 1 0) (getD (lineBytes line) 2 0) m w c)
+          (cond r (refusedTurn 15 m w c) (cond s (dataTurn (lineBytes line) m w c) (wordTurn (lineBytes line) (lineMarks line) m w c)))))
+      go true q r s = no 14
+      go false true r s = shapes (getD (lineBytes line) 0 0) (getD (lineBytes line) 1 0) (getD (lineBytes line) 2 0)
+      go false false true s = no 15
+      go false false false true = unless-case P (bufferRefusal m w c (placeCount m w) (length (lineBytes line))) _ m w c no encodes
+      go false false false false = unless-case P ((recoverOf m w c (lineBytes line) (lineMarks line)) .number) _ m w c no recovers
+
+printed : (name numbers : List ℕ) → T (without 10 name) → IsLine (lineOf name numbers)
+printed name numbers t = record { body = name ++ cells numbers; clean = one-line name numbers t; ends = line-parts name numbers }
+
+pub one-feed : (line : List ℕ) (m w c : ℕ) → IsLine ((turnOf line m w c) .output)
+unfolding okLine refusedLine wordLine without
+one-feed line m w c =
+    turn-cases (λ t. IsLine (t .output)) line m w c (λ r. printed _ (r ∷ []) tt) (λ a b d. printed _ (placeCount a b ∷ dataCount a b d ∷ []) tt)
+    (λ _. printed wordName _ tt) (λ _. printed wordName _ tt)
+
+-- ---- so the output has as many lines as the input
+each-one : (ls : List (List ℕ)) (m w c : ℕ) → length (lines (joined (answers ls m w c))) ≡ length ls
+unfolding lines joined answers
+each-one [] m w c = refl
+each-one (line ∷ rest) m w c =
+    let t = turnOf line m w c in
+    let o = one-feed line m w c in
+    let after : List ℕ = joined (answers rest (t .m) (t .w) (t .c)) in
+    ap (λ l. length (lines (l ++ after))) (o .ends) ∙ ap (λ l. length (lines l)) (append-assoc (o .body) (10 ∷ []) after)
+    ∙ ap length (lines-feed (o .body) after (o .clean)) ∙ ap suc (each-one rest (t .m) (t .w) (t .c))
+
+pub one-line-each : (input : List ℕ) → length (lines (sessionOf input)) ≡ length (lines input)
+unfolding sessionOf
+one-line-each input = each-one (lines input) 0 0 0

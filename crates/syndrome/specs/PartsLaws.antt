@@ -1,0 +1,88 @@
+-- Sums of a word by groups, as the loops gather them.
+use mathlib.Core.Path.{_≡_, refl, sym, ap, ap₂, _∙_}
+use mathlib.Core.Bool.{Bool, true, false}
+use mathlib.Core.List.{List}
+use Prim.Native.Nat.{ℕ, suc, _+_, _-_, _*_, _<_, _≤_}
+use native.Mathlib.Numerals.{add-one}
+use native.Mathlib.Omega.{arith}
+use lib.Bits.{bitXor}
+use lib.Dec.{T, eqb}
+use lib.ListN.{length, getD, take, drop}
+use Rattle.counting.specs.Test.{allBelow}
+use Rattle.binary_field.specs.Xor.{_⊕_}
+use Rattle.binary_field.specs.XorLaws.{⊕-bits}
+use Rattle.binary_field.specs.ProductLaws.{product-left-comm}
+use Rattle.binary_field.specs.Sum.{innerProduct}
+use Rattle.binary_field.specs.SumLaws.{sum-none, sum-suc, sum-ext, sum-scale}
+use Rattle.code.specs.Edition.{Edition, bytes, times, raised}
+use Rattle.code.specs.Word.{groupSum, localSum, wordSum, coefficient, twisted, isLocal}
+use Rattle.code.specs.StretchLaws.{own-place, stretch-sum}
+use Rattle.groups.specs.Lent.{Lent}
+use Rattle.groups.specs.LentLaws.{part-stretch, part-length}
+use Rattle.coefficients.specs.Rows.{powerRows, firstRows, secondRows, noRow}
+use Rattle.coefficients.specs.RowsLaws.{power-at, first-at, second-at}
+
+-- a test that would show what is not so
+pub is-false : (b : Bool) → (T b → ⊥) → b ≡ false
+is-false true h = absurd (h tt)
+is-false false h = refl
+
+-- ---- one group, from its stretch
+-- an inner product with a row of coefficients is a sum over the group
+inner-group : (part row : List ℕ) (h : ℕ → ℕ) → length part ≤ 16 → ((j : ℕ) → j < 16 → getD row j 0 ≡ h j)
+    → innerProduct 8 285 (length part) part row ≡ groupSum bytes (length part) part 0 h
+unfolding innerProduct groupSum
+inner-group part row h narrow same =
+    sum-ext (length part) _ _
+    (λ j l. ap₂ (times bytes) (ap (λ n. getD part n 0) (sym (own-place (length part) j))) (same j (omega arith)))
+
+-- the factor 2^g of a group stands before its sum
+twisted-group : (E : Edition) (w c g : ℕ) (part : List ℕ)
+    → groupSum E w part 0 (twisted E c g) ≡ times E (raised E 2 g) (groupSum E w part 0 (λ j. raised E (coefficient E c j) (E .small)))
+unfolding groupSum twisted
+twisted-group E w c g part =
+    sum-ext w _ _ (λ j _. product-left-comm (E .bits) (E .poly) (getD part (0 * w + j) 0) (raised E 2 g) (raised E (coefficient E c j) (E .small)))
+    ∙ sum-scale (E .bits) (E .poly) w (raised E 2 g) _
+
+module _ (part : List ℕ) (narrow : length part ≤ 16) where
+  pub power-group : (e : ℕ) → e < 4 → innerProduct 8 285 (length part) part (getD powerRows e noRow) ≡ localSum bytes (length part) part 0 e
+  power-group e h = inner-group part _ _ narrow (λ j l. power-at e j h l)
+
+  module _ (c : ℕ) (some : 1 ≤ c) (few : c ≤ 4) where
+    same-count : suc (c - 1) ≡ c
+    same-count = omega arith
+
+    pub first-group : innerProduct 8 285 (length part) part (getD firstRows (c - 1) noRow) ≡ groupSum bytes (length part) part 0 (coefficient bytes c)
+    first-group = inner-group part _ _ narrow (λ j l. first-at (c - 1) j (omega arith) l ∙ ap (λ n. coefficient bytes n j) same-count)
+
+    pub second-group : (g : ℕ) → times bytes (raised bytes 2 g) (innerProduct 8 285 (length part) part (getD secondRows (c - 1) noRow))
+        ≡ groupSum bytes (length part) part 0 (twisted bytes c g)
+    second-group g =
+        ap (times bytes (raised bytes 2 g))
+        (inner-group part _ _ narrow (λ j l. second-at (c - 1) j (omega arith) l ∙ ap (λ n. raised bytes (coefficient bytes n j) 16) same-count))
+        ∙ sym (twisted-group bytes (length part) c g part)
+
+-- ---- all groups
+pub word-none : (w : ℕ) (word : List ℕ) (h : ℕ → ℕ → ℕ) → wordSum bytes 0 w word h ≡ 0
+unfolding wordSum
+word-none w word h = sum-none _
+
+word-more : (g w : ℕ) (word : List ℕ) (h : ℕ → ℕ → ℕ) → wordSum bytes (g + 1) w word h ≡ wordSum bytes g w word h ⊕ groupSum bytes w word g (h g)
+unfolding wordSum
+word-more g w word h = ap (λ n. wordSum bytes n w word h) (add-one g) ∙ sum-suc g _
+
+module _ {m w c : ℕ} {word : List ℕ} (L : Lent m w c word) (g : ℕ) (l : g < m) {part : List ℕ} (is : part ≡ take (g * w + w - g * w) (drop (g * w) word)) where
+  -- one turn of a sum across
+  pub sum-turn : (h : ℕ → ℕ → ℕ) (s r : ℕ) → s ≡ wordSum bytes g w word h → r ≡ groupSum bytes (length part) part 0 (h g)
+      → bitXor s r ≡ wordSum bytes (g + 1) w word h
+  sum-turn h s r p q =
+      ⊕-bits s r
+      ∙ ap₂ _⊕_ p (q ∙ ap₂ (λ n x. groupSum bytes n x 0 (h g)) (part-length L g l is) (part-stretch L g l is) ∙ stretch-sum bytes w g word (h g))
+      ∙ sym (word-more g w word h)
+
+  -- the group's own equations
+  pub part-local : isLocal bytes (length part) c part 0 ≡ isLocal bytes w c word g
+  unfolding isLocal
+  part-local =
+      ap₂ (λ n x. isLocal bytes n c x 0) (part-length L g l is) (part-stretch L g l is)
+      ∙ (λ i. allBelow c (λ e. eqb (stretch-sum bytes w g word (λ j. raised bytes (bytes .locator j) e) i) 0))

@@ -1,0 +1,119 @@
+-- Laws: What is printed reads back as what was meant.
+use mathlib.Core.Path.{_≡_, refl, sym, ap, ap₂, _∙_}
+use mathlib.Core.Bool.{Bool, true, false, cond, not}
+use mathlib.Core.List.{List, [], _∷_, _++_, map, append-assoc}
+use Prim.Native.Nat.{ℕ, suc, _*_, _%_, _/_, _≤_, _<_}
+use native.Mathlib.Nat.{mod-eq-of-lt, div-eq-of-lt}
+use native.Mathlib.Omega.{arith}
+use borrow.Author.Tests.{le-leb, lt-ltb}
+use lib.Dec.{T, eqb}
+use lib.ListN.{length, replicate, length-append}
+use Rattle.text.specs.Decimal.{decimal, numberOf}
+use Rattle.text.specs.DecimalLaws.{decimal-number, number-never, without, number-decimal, decimal-short, decimal-digits, digits-without, decimal-without}
+use Rattle.text.specs.Fields.{fields, same, lostPlace, meaning}
+use Rattle.text.specs.FieldLaws.{toTab, later, fields-front, same-eq, meaning-of-number}
+use Rattle.text.specs.Records.{wordName, nameKind, lineName, contents, allUnder, lineKind, lineBytes, lineMarks}
+use Rattle.text.specs.Lines.{cells, lineOf}
+use Rattle.counting.specs.TestLaws.{both-l, both-r, both-intro}
+use Rattle.text.specs.ReadBack.{Bytes}
+
+pub meaning-decimal : (b : ℕ) → b < 256 → meaning (decimal b) ≡ b
+meaning-decimal b l = let n = number-decimal b l in meaning-of-number (decimal b) (omega arith) ∙ n
+
+-- a field means a number only if it is that number's text, and a lost place only if it is -
+pub number-only : (xs : List ℕ) → meaning xs < 256 → decimal (meaning xs) ≡ xs
+unfolding meaning
+number-only xs = go (same xs (45 ∷ []))
+  where
+    go : (b : Bool) → cond b lostPlace (numberOf xs) < 256 → decimal (cond b lostPlace (numberOf xs)) ≡ xs
+    go true l = absurd (omega arith)
+    go false l = decimal-number xs l
+
+pub lost-only : (xs : List ℕ) → meaning xs ≡ lostPlace → xs ≡ 45 ∷ []
+unfolding meaning
+lost-only xs = go (same xs (45 ∷ [])) refl
+  where
+    go : (b : Bool) → same xs (45 ∷ []) ≡ b → cond b lostPlace (numberOf xs) ≡ lostPlace → xs ≡ 45 ∷ []
+    go true s e = same-eq xs (45 ∷ []) s
+    go false s e = absurd (number-never xs e)
+
+meanings-back : (word : List ℕ) → Bytes word → map meaning (map decimal word) ≡ word
+meanings-back [] h = refl
+meanings-back (b ∷ word) h = ap₂ _∷_ (meaning-decimal b (h 0)) (meanings-back word (λ i. h (suc i)))
+
+-- the fields of a line
+pub fields-back : (f word : List ℕ) → T (without 9 f) → Bytes word → fields (f ++ cells word) ≡ f ∷ map decimal word
+unfolding cells toTab later
+fields-back f [] t h = fields-front f [] t refl
+fields-back f (b ∷ word) t h =
+    fields-front f (9 ∷ (decimal b ++ cells word)) t refl
+    ∙ ap (λ fs. f ∷ fs) (fields-back (decimal b) word (digits-without 9 refl (decimal b) (decimal-digits b (h 0))) (λ i. h (suc i)))
+
+cells-length : (word : List ℕ) → Bytes word → length (cells word) ≤ 4 * length word
+unfolding cells
+cells-length [] h = omega arith
+cells-length (b ∷ word) h =
+    let d = decimal-short b (h 0) in
+    let i = cells-length word (λ i. h (suc i)) in
+    simp length-append (omega arith)
+
+all-under : (bound : ℕ) → 256 ≤ bound → (word : List ℕ) → Bytes word → allUnder bound word ≡ true
+unfolding allUnder
+all-under bound l [] h = refl
+all-under bound l (b ∷ word) h = let k = h 0 in rw (lt-ltb b bound (omega arith)) (all-under bound l word (λ i. h (suc i)))
+
+module _ (name word : List ℕ) (t : T (without 9 name)) (h : Bytes word) where
+  pub name-back : lineName (name ++ cells word) ≡ name
+  unfolding lineName
+  name-back = rw (fields-back name word t h)
+
+  pub contents-back : contents (name ++ cells word) ≡ word
+  unfolding contents
+  contents-back = rw (fields-back name word t h) (meanings-back word h)
+
+word-kind : (line word : List ℕ) → lineName line ≡ wordName → contents line ≡ word → length line ≤ 1024 → Bytes word → lineKind line ≡ 3
+unfolding lineKind nameKind same
+word-kind line word n e l h = rw (n, e, le-leb (length line) 1024 l, all-under 257 (omega arith) word h)
+
+bytes-same : (word : List ℕ) → Bytes word → map (λ v. v % 256) word ≡ word
+bytes-same [] h = refl
+bytes-same (b ∷ word) h = ap₂ _∷_ (mod-eq-of-lt (h 0)) (bytes-same word (λ i. h (suc i)))
+
+marks-none : (word : List ℕ) → Bytes word → map (λ v. v / 256) word ≡ replicate (length word) 0
+marks-none [] h = refl
+marks-none (b ∷ word) h = ap₂ _∷_ (div-eq-of-lt (h 0)) (marks-none word (λ i. h (suc i)))
+
+module _ (word : List ℕ) (h : Bytes word) where
+  -- a printed word of at most 240 bytes is read as a word record with these bytes and nothing lost
+  pub word-back : length word ≤ 240 → lineKind (wordName ++ cells word) ≡ 3
+  unfolding without
+  word-back l =
+      let k = cells-length word h in
+      word-kind (wordName ++ cells word) word (name-back wordName word tt h) (contents-back wordName word tt h) (omega arith) h
+
+  pub bytes-back : lineBytes (wordName ++ cells word) ≡ word
+  unfolding lineBytes without
+  bytes-back = ap (map (λ v. v % 256)) (contents-back wordName word tt h) ∙ bytes-same word h
+
+  pub marks-back : lineMarks (wordName ++ cells word) ≡ replicate (length word) 0
+  unfolding lineMarks without
+  marks-back = ap (map (λ v. v / 256)) (contents-back wordName word tt h) ∙ marks-none word h
+
+pub line-parts : (name numbers : List ℕ) → lineOf name numbers ≡ (name ++ cells numbers) ++ (10 ∷ [])
+unfolding lineOf
+line-parts name numbers = sym (append-assoc name (cells numbers) (10 ∷ []))
+
+pub without-append : (y : ℕ) (xs ys : List ℕ) → T (without y xs) → T (without y ys) → T (without y (xs ++ ys))
+unfolding without
+without-append y [] ys s t = t
+without-append y (x ∷ xs) ys s t =
+    both-intro (not (eqb x y)) (without y (xs ++ ys)) (both-l (not (eqb x y)) (without y xs) s)
+    (without-append y xs ys (both-r (not (eqb x y)) (without y xs) s) t)
+
+cells-feed : (numbers : List ℕ) → T (without 10 (cells numbers))
+unfolding cells without
+cells-feed [] = tt
+cells-feed (x ∷ numbers) = without-append 10 (decimal x) (cells numbers) (decimal-without 10 x (omega arith)) (cells-feed numbers)
+
+pub one-line : (name numbers : List ℕ) → T (without 10 name) → T (without 10 (name ++ cells numbers))
+one-line name numbers t = without-append 10 name (cells numbers) t (cells-feed numbers)
