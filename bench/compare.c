@@ -36,7 +36,7 @@ static void make_words(const struct scene *s) {
   for (int i = 0; i < BATCH; i++) {
     for (int p = 0; p < s->k; p++) data[i][p] = (uint8_t)rand();
     if (plain_encode(s->m, s->w, s->c, data[i], words[i])) stop("plain C refused an encoding");
-    if (axlebloom_check((size_t)s->m, (size_t)s->w, (size_t)s->c, words[i], (size_t)s->n)) stop("plain C made no codeword");
+    if (axlebloom_check((size_t)s->m, (size_t)s->w, (size_t)s->c, words[i], (size_t)s->n).number) stop("plain C made no codeword");
     for (int p = 0; p < s->n; p++) column[p][i] = words[i][p];
   }
 }
@@ -57,8 +57,8 @@ static void compare_words(const struct scene *s, int count) {
 static int library_call(const struct scene *s, int i) {
   size_t m = (size_t)s->m, w = (size_t)s->w, c = (size_t)s->c, n = (size_t)s->n;
   if (s->service == ENCODE) return axlebloom_encode(m, w, c, data[i], (size_t)s->k, lent[i], n);
-  if (s->service == REPAIR) return axlebloom_repair(m, w, c, (size_t)s->group, lent[i], n, lent_marks[i], n);
-  return axlebloom_recover(m, w, c, lent[i], n, lent_marks[i], n);
+  if (s->service == REPAIR) return axlebloom_repair(m, w, c, (size_t)s->group, lent[i], n, lent_marks[i], n).number;
+  return axlebloom_recover(m, w, c, lent[i], n, lent_marks[i], n).number;
 }
 
 static int plain_call(const struct scene *s, int i) {

@@ -17,7 +17,7 @@ int main(void) {
   double start = now();
   for (int i = 0; i < TURNS; i++) {
     memcpy(held, marks, N);
-    if (axlebloom_recover(M, W, C, word, N, held, N)) return 2;
+    if (axlebloom_recover(M, W, C, word, N, held, N).number) return 2;
   }
   double plain = (now() - start) / TURNS * 1e9;
   uint64_t handle;
@@ -25,7 +25,7 @@ int main(void) {
   if (axlebloom_open(&desk, M, W, C, marks, N, &handle)) return 3;
   start = now();
   for (int i = 0; i < TURNS; i++)
-    if (axlebloom_serve(&desk, handle, word, N)) return 4;
+    if (axlebloom_serve(&desk, handle, word, N).number) return 4;
   double served = (now() - start) / TURNS * 1e9;
   printf("240 places, excess 2: recover %.0f ns, serve %.0f ns; the tests of the desk and its copies cost %.0f ns\n", plain, served, served - plain);
   return 0;

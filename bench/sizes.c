@@ -24,13 +24,13 @@ static void data_bytes(void) { answer = axlebloom_data(M, W, c); }
 static void sure(void) { answer = axlebloom_sure(M, W, c); }
 static void encode(void) { answer = axlebloom_encode(M, W, c, data, k, held, N); }
 static void extract(void) { answer = axlebloom_extract(M, W, c, held, N, data, k); }
-static void check(void) { answer = axlebloom_check(M, W, c, held, N); }
+static void check(void) { answer = axlebloom_check(M, W, c, held, N).number; }
 static void judge(void) { answer = axlebloom_judge(M, W, c, held_marks, N); }
-static void repair(void) { answer = axlebloom_repair(M, W, c, M - 1, held, N, held_marks, N); }
-static void recover(void) { answer = axlebloom_recover(M, W, c, held, N, held_marks, N); }
+static void repair(void) { answer = axlebloom_repair(M, W, c, M - 1, held, N, held_marks, N).number; }
+static void recover(void) { answer = axlebloom_recover(M, W, c, held, N, held_marks, N).number; }
 static void fresh(void) { axlebloom_fresh(&held_desk); }
 static void open_job(void) { answer = axlebloom_open(&held_desk, M, W, c, held_marks, N, &given); }
-static void serve(void) { answer = axlebloom_serve(&held_desk, handle, held, N); }
+static void serve(void) { answer = axlebloom_serve(&held_desk, handle, held, N).number; }
 static void read_served(void) { answer = axlebloom_read(&held_desk, handle, &served); }
 static void close_job(void) { answer = axlebloom_close(&held_desk, handle); }
 

@@ -30,7 +30,7 @@ int main(void) {
     if (stopped("encode", axlebloom_encode(M, W, C, data, K, word, N))) return 1;
     for (int i = 0; i < N; i++) if (marks[i]) word[i] = '?';
     memset(data, 0, K);
-    if (stopped("serve", axlebloom_serve(&desk, handle, word, N))) return 1;
+    if (stopped("serve", axlebloom_serve(&desk, handle, word, N).number)) return 1;
     if (stopped("extract", axlebloom_extract(M, W, C, word, N, data, K))) return 1;
     printf("%.22s\n", (const char *)data);
   }

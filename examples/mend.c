@@ -20,17 +20,18 @@ int main(void) {
   const int lost[] = {1, 6, 16, 17, 18, 20};
   for (size_t i = 0; i < sizeof lost / sizeof *lost; i++) marks[lost[i]] = 1, word[lost[i]] = '?';
 
-  if (stopped("repair of group 0", axlebloom_repair(M, W, C, 0, word, N, marks, N))) return 1;
-  printf("repair of group 2 alone: refused %d\n", axlebloom_repair(M, W, C, 2, word, N, marks, N));
-  if (stopped("recover", axlebloom_recover(M, W, C, word, N, marks, N))) return 1;
-  if (stopped("check", axlebloom_check(M, W, C, word, N))) return 1;
+  if (stopped("repair of group 0", axlebloom_repair(M, W, C, 0, word, N, marks, N).number)) return 1;
+  printf("repair of group 2 alone: refused %d\n", axlebloom_repair(M, W, C, 2, word, N, marks, N).number);
+  if (stopped("recover", axlebloom_recover(M, W, C, word, N, marks, N).number)) return 1;
+  if (stopped("check", axlebloom_check(M, W, C, word, N).number)) return 1;
   if (stopped("extract", axlebloom_extract(M, W, C, word, N, back, sizeof back))) return 1;
   printf("%.22s\n", (const char *)back);
 
-  /* with a byte wrong that is not marked, the word is refused and stays as it was */
-  word[5] ^= 1;
+  /* with a byte wrong that is not marked, the word is refused and stays as it was; its group is named */
+  word[2 * W + 5] ^= 1;
   uint8_t copy[N];
   memcpy(copy, word, N);
-  printf("a wrong byte: refused %d, %s\n", axlebloom_recover(M, W, C, word, N, marks, N), memcmp(copy, word, N) ? "changed" : "unchanged");
+  struct axlebloom_answer answer = axlebloom_recover(M, W, C, word, N, marks, N);
+  printf("a wrong byte: refused %d, group %d, %s\n", answer.number, answer.group, memcmp(copy, word, N) ? "changed" : "unchanged");
   return memcmp(data, back, sizeof data) != 0;
 }

@@ -2,13 +2,18 @@
 //! Build: rustc -O examples/mend.rs -L target/library -l static=axlebloom
 
 mod c {
+    #[repr(C)]
+    pub struct Answer {
+        pub number: u8,
+        pub group: u8,
+    }
     extern "C" {
         pub fn axlebloom_places(m: usize, w: usize, c: usize) -> usize;
         pub fn axlebloom_data(m: usize, w: usize, c: usize) -> usize;
         pub fn axlebloom_encode(m: usize, w: usize, c: usize, data: *const u8, k: usize, word: *mut u8, n: usize) -> u8;
         pub fn axlebloom_extract(m: usize, w: usize, c: usize, word: *const u8, n: usize, data: *mut u8, k: usize) -> u8;
-        pub fn axlebloom_repair(m: usize, w: usize, c: usize, g: usize, word: *mut u8, n: usize, marks: *mut u8, marks_n: usize) -> u8;
-        pub fn axlebloom_recover(m: usize, w: usize, c: usize, word: *mut u8, n: usize, marks: *mut u8, marks_n: usize) -> u8;
+        pub fn axlebloom_repair(m: usize, w: usize, c: usize, g: usize, word: *mut u8, n: usize, marks: *mut u8, marks_n: usize) -> Answer;
+        pub fn axlebloom_recover(m: usize, w: usize, c: usize, word: *mut u8, n: usize, marks: *mut u8, marks_n: usize) -> Answer;
     }
 }
 
@@ -20,12 +25,23 @@ pub struct Shape {
     pub c: usize,
 }
 
-/// The number of a refusal; on a refusal nothing has changed.
+/// Why nothing has changed: the present bytes contradict each other, by this group or, if it is m, only across the groups; or another number.
 #[derive(Debug, PartialEq)]
-pub struct Refusal(pub u8);
+pub enum Refusal {
+    Contradictory { group: u8 },
+    Number(u8),
+}
 
 fn answer(number: u8) -> Result<(), Refusal> {
-    if number == 0 { Ok(()) } else { Err(Refusal(number)) }
+    if number == 0 { Ok(()) } else { Err(Refusal::Number(number)) }
+}
+
+fn mended(answer: c::Answer) -> Result<(), Refusal> {
+    match answer.number {
+        0 => Ok(()),
+        9 => Err(Refusal::Contradictory { group: answer.group }),
+        number => Err(Refusal::Number(number)),
+    }
 }
 
 impl Shape {
@@ -40,10 +56,10 @@ impl Shape {
         answer(unsafe { c::axlebloom_extract(self.m, self.w, self.c, word.as_ptr(), word.len(), data.as_mut_ptr(), data.len()) })
     }
     pub fn repair(self, g: usize, word: &mut [u8], marks: &mut [u8]) -> Result<(), Refusal> {
-        answer(unsafe { c::axlebloom_repair(self.m, self.w, self.c, g, word.as_mut_ptr(), word.len(), marks.as_mut_ptr(), marks.len()) })
+        mended(unsafe { c::axlebloom_repair(self.m, self.w, self.c, g, word.as_mut_ptr(), word.len(), marks.as_mut_ptr(), marks.len()) })
     }
     pub fn recover(self, word: &mut [u8], marks: &mut [u8]) -> Result<(), Refusal> {
-        answer(unsafe { c::axlebloom_recover(self.m, self.w, self.c, word.as_mut_ptr(), word.len(), marks.as_mut_ptr(), marks.len()) })
+        mended(unsafe { c::axlebloom_recover(self.m, self.w, self.c, word.as_mut_ptr(), word.len(), marks.as_mut_ptr(), marks.len()) })
     }
 }
 
@@ -64,5 +80,7 @@ fn main() -> Result<(), Refusal> {
     shape.extract(&word, &mut back)?;
     println!("{}", String::from_utf8_lossy(&back));
     assert_eq!(back, data);
+    word[21] ^= 1;
+    println!("a wrong byte: {:?}", shape.recover(&mut word, &mut marks));
     Ok(())
 }

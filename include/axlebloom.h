@@ -3,11 +3,12 @@
  * A word is m groups of w bytes, group after group, n = m*w bytes in all. Each group has c local checks, and two checks more go across
  * all groups. Marks are n bytes, 1 for a lost byte and 0 for one that is present.
  *
- * Every function answers whatever it is given. A length stands beside every pointer to a row of bytes and is tested.
- * A result is 0 for done, or the number of a refusal; on a refusal nothing that was lent is changed. No function keeps anything between
- * calls or allocates memory; two threads may call any of them at once on buffers and desks of their own. What is lent to one call must not
- * overlap. A pointer whose length is 0 may be null. A pointer to a desk, a handle or a count has no length and must point to one; what it
- * points to may hold anything.
+ * Every function answers whatever values it is given, provided that the pointers are as follows. A row of bytes comes with its length, which
+ * is tested; it must really be that long, and it may be null if the length is 0. A pointer to a desk, a handle or a count has no length and
+ * must point to one; what it points to may hold anything. What is lent to one call must not overlap.
+ *
+ * A number given back is 0 for done, or that of a refusal; on a refusal nothing that was lent is changed. No function keeps anything between
+ * calls or allocates memory; two threads may call any of them at once on buffers and desks of their own.
  */
 #ifndef AXLEBLOOM_H
 #define AXLEBLOOM_H
@@ -31,18 +32,36 @@ enum {
   AXLEBLOOM_GROUP_NUMBER = 7,  /* no such group */
   AXLEBLOOM_UNDETERMINED = 8,  /* too much is lost. From repair: this group alone can't mend it; try recover before you fetch a disk.
                                   From judge, recover and open: what is present doesn't settle the word; find another disk */
-  AXLEBLOOM_CONTRADICTORY = 9, /* the present bytes fit no codeword: at least one of them is wrong; nothing was written */
-  AXLEBLOOM_ALL_ISSUED = 10,   /* this desk has issued all its 65535 handles; start a fresh one */
+  AXLEBLOOM_CONTRADICTORY = 9, /* the present bytes fit no codeword: at least one of them is wrong, or the marks or the shape are; nothing
+                                  was written. struct axlebloom_answer says which group */
+  AXLEBLOOM_ALL_ISSUED = 10,   /* this desk has issued all its 65535 handles. Its open jobs can still be served; axlebloom_fresh drops them */
   AXLEBLOOM_DESK_FULL = 11,    /* all eight jobs of the desk are open; close one */
-  AXLEBLOOM_NOT_OPEN = 12,     /* no open job of this desk has that handle: it was closed, or this desk never gave it */
+  AXLEBLOOM_NOT_OPEN = 12,     /* no open job of this desk has that handle: it was closed, it is older than the last axlebloom_fresh, or this
+                                  desk never gave it */
   AXLEBLOOM_SERVED_OUT = 13,   /* this job has served 4294967295 words; close it and open it again */
-  AXLEBLOOM_UNSOUND = 31       /* the desk is not sound, which is explained where it is declared; start a fresh one */
+  AXLEBLOOM_UNSOUND = 31       /* the desk is not sound, which is explained where it is declared; axlebloom_fresh starts a new one, without
+                                  its jobs */
+};
+
+/* What check, repair, recover and serve give back: the number and, with a 9, a group counted from 0. With any other number group is 0.
+ *
+ * From repair it is the group that was to be repaired: at least one of its present bytes is wrong. From the others:
+ * - a group below m: whatever stood in its lost places, the group breaks its own checks, so it holds at least one present byte that is wrong.
+ *   It is the lowest such group; others may be wrong too.
+ * - m: no group breaks its own checks, and only the checks across fail. One group alone may still be at fault. Suspect first those that had c
+ *   or more lost places before any repair: some filling always meets their own checks, so they are never named.
+ * Repairs done before a recovery don't change its group. If your disks run across the groups, so that place j of every group lies on the same
+ * disk, the group does not tell which disk is wrong, only which part of the disks to look at. */
+struct axlebloom_answer {
+  uint8_t number;
+  uint8_t group;
 };
 
 /* Whether the shape is good: 0, or 1 to 4. */
 uint8_t axlebloom_describe(size_t m, size_t w, size_t c);
 
-/* Of a good shape the places n of a word, the bytes k of data in it, and the most lost places that are mended wherever they lie; else 0. */
+/* Of a good shape the places n of a word, the bytes k of data in it, and the most lost places that are
+ * mended wherever they lie, if no present byte is wrong; else 0. */
 size_t axlebloom_places(size_t m, size_t w, size_t c);
 size_t axlebloom_data(size_t m, size_t w, size_t c);
 size_t axlebloom_sure(size_t m, size_t w, size_t c);
@@ -53,20 +72,22 @@ uint8_t axlebloom_encode(size_t m, size_t w, size_t c, const uint8_t *data, size
 /* Takes the k bytes of data out of any word. Refused by 1 to 5. */
 uint8_t axlebloom_extract(size_t m, size_t w, size_t c, const uint8_t *word, size_t n, uint8_t *data, size_t k);
 
-/* 0 if the word is a codeword, 9 if it is none. Refused by 1 to 5. */
-uint8_t axlebloom_check(size_t m, size_t w, size_t c, const uint8_t *word, size_t n);
+/* 0 if the word is a codeword; 9, with a group, is the answer no. Refused by 1 to 5. */
+struct axlebloom_answer axlebloom_check(size_t m, size_t w, size_t c, const uint8_t *word, size_t n);
 
 /* Whether what these marks leave determines the word: 0, or 8. Refused by 1 to 6. */
 uint8_t axlebloom_judge(size_t m, size_t w, size_t c, const uint8_t *marks, size_t n);
 
-/* Mends group g, counted from 0, by its own checks, and clears its marks. Refused by 1 to 9; 8 if more than c of its places are lost. */
-uint8_t axlebloom_repair(size_t m, size_t w, size_t c, size_t g, uint8_t *word, size_t n, uint8_t *marks, size_t marks_n);
+/* Mends group g, counted from 0, by its own checks, and clears its marks. Refused by 1 to 9; 8 if more than c of its places are lost. With c
+ * places lost no check is left over: a wrong present byte then goes unnoticed and is worked into what is written. With none lost the group is
+ * still tested. */
+struct axlebloom_answer axlebloom_repair(size_t m, size_t w, size_t c, size_t g, uint8_t *word, size_t n, uint8_t *marks, size_t marks_n);
 
 /* Mends the whole word, and clears all marks. Refused by 1 to 6, 8 and 9. */
-uint8_t axlebloom_recover(size_t m, size_t w, size_t c, uint8_t *word, size_t n, uint8_t *marks, size_t marks_n);
+struct axlebloom_answer axlebloom_recover(size_t m, size_t w, size_t c, uint8_t *word, size_t n, uint8_t *marks, size_t marks_n);
 
 /* The desk: up to eight open recovery jobs, each for words that lose the same places. The caller holds the record and lends it to every
- * call. It may be copied, and saved as bytes; a copy that is lent again counts as the desk it was then. Only the functions below should
+ * call. It may be copied, and saved as bytes for machines of the same byte order; a copy that is lent again counts as the desk it was then. Only the functions below should
  * write to it. All but axlebloom_fresh first test it, and refuse it by 31 if it is not sound. Sound means: t is at most 65535, each slot's
  * byte taken is 0 or 1, and each taken slot s holds a good shape, n marks of 0 or 1 for which axlebloom_judge answers 0, and a handle 8u+s
  * with u from 1 to t, no u twice. The functions leave every sound desk sound. */
@@ -74,8 +95,8 @@ struct axlebloom_job {
   uint8_t taken;      /* 1, or 0 for a free slot */
   uint8_t m, w, c;    /* the shape */
   uint32_t served;    /* words served since the job was opened */
-  uint64_t handle;    /* 8u+s in slot s, if this was the u-th job opened */
-  uint8_t marks[240]; /* the n marks, and 0 past them */
+  uint64_t handle;    /* 8u+s in slot s, if this was the u-th job opened since the last fresh */
+  uint8_t marks[240]; /* the n marks; axlebloom_open writes 0 past them */
 };
 
 struct axlebloom_desk {
@@ -83,12 +104,15 @@ struct axlebloom_desk {
   struct axlebloom_job jobs[8];
 };
 
-/* The library was compiled for this layout. */
+/* The library needs this layout; your compiler must agree. */
 #ifdef __cplusplus
 #define AXLEBLOOM_HOLDS(fact) static_assert(fact, #fact)
 #else
 #define AXLEBLOOM_HOLDS(fact) _Static_assert(fact, #fact)
 #endif
+AXLEBLOOM_HOLDS(sizeof(struct axlebloom_answer) == 2);
+AXLEBLOOM_HOLDS(offsetof(struct axlebloom_answer, number) == 0);
+AXLEBLOOM_HOLDS(offsetof(struct axlebloom_answer, group) == 1);
 AXLEBLOOM_HOLDS(sizeof(struct axlebloom_job) == 256);
 AXLEBLOOM_HOLDS(offsetof(struct axlebloom_job, taken) == 0);
 AXLEBLOOM_HOLDS(offsetof(struct axlebloom_job, m) == 1);
@@ -106,12 +130,14 @@ AXLEBLOOM_HOLDS(offsetof(struct axlebloom_desk, jobs) == 8);
 void axlebloom_fresh(struct axlebloom_desk *desk);
 
 /* Opens a job in the lowest free slot, with copies of the shape and of the n marks, and writes its handle. From one fresh to the next a
- * desk gives no handle twice, and never 0 to 7. Refused by 1 to 6, 8, 10, 11 and 31; desk and handle are then unchanged. */
+ * desk gives no handle twice, and never 0 to 7. A handle is good only with the desk that gave it, since its last fresh: the same number from
+ * another desk, from before a fresh, or from a copy that went another way may name another job here, and nothing shows it. Refused by 1 to 6,
+ * 8, 10, 11 and 31; desk and handle are then unchanged. */
 uint8_t axlebloom_open(struct axlebloom_desk *desk, size_t m, size_t w, size_t c, const uint8_t *marks, size_t n, uint64_t *handle);
 
 /* Mends a word by the job's marks, which stay, and adds one to its served count. Refused by 5, 9, 12, 13 and 31; desk and word are then
  * unchanged. */
-uint8_t axlebloom_serve(struct axlebloom_desk *desk, uint64_t handle, uint8_t *word, size_t n);
+struct axlebloom_answer axlebloom_serve(struct axlebloom_desk *desk, uint64_t handle, uint8_t *word, size_t n);
 
 /* Writes the job's served count. Refused by 12 and 31; served is then unchanged. */
 uint8_t axlebloom_read(const struct axlebloom_desk *desk, uint64_t handle, uint32_t *served);

@@ -25,6 +25,20 @@ static void expect(const char *what, int expected, int number, int odd, uint8_t 
   fill();
 }
 
+/* the number of an answer that carries this group, else 255 */
+static int number_of(int group, struct axlebloom_answer answer) { return answer.group == group ? answer.number : 255; }
+
+/* the group that a 9 carries, in a word of zeroes where only the bytes at these two places are not 0; the second may be lost */
+static void expect_group(const char *what, int group, int place, int other, int is_lost) {
+  uint8_t zeroes[240] = {0}, lost[240] = {0};
+  zeroes[place] = zeroes[other] = 1, lost[other] = (uint8_t)is_lost;
+  struct axlebloom_answer answer = axlebloom_recover(15, 16, 4, zeroes, 240, lost, 240);
+  calls++;
+  if (answer.number == 9 && answer.group == group) return;
+  printf("%s: %d and group %d\n", what, answer.number, answer.group);
+  failures++;
+}
+
 /* ---- desks */
 
 enum { OPEN, SERVE, READ, CLOSE, CALLS };
@@ -51,10 +65,18 @@ static void wrong(const char *what, int call, int number) {
   failures++;
 }
 
+/* the group that the last call gave, 0 if it gives none */
+static uint8_t group;
+
 static uint8_t make(int call, size_t m, size_t w, size_t c, uint64_t handle, size_t n) {
+  struct axlebloom_answer served;
+  group = 0;
   switch (call) {
   case OPEN: return axlebloom_open(&lent.desk, m, w, c, n ? lent.marks : NULL, n, &lent.handle);
-  case SERVE: return axlebloom_serve(&lent.desk, handle, n ? lent.word : NULL, n);
+  case SERVE:
+    served = axlebloom_serve(&lent.desk, handle, n ? lent.word : NULL, n);
+    group = served.group;
+    return served.number;
   case READ: return axlebloom_read(&lent.desk, handle, &lent.served);
   default: return axlebloom_close(&lent.desk, handle);
   }
@@ -68,6 +90,7 @@ static uint8_t answer(const char *what, int call, size_t m, size_t w, size_t c, 
   uint8_t number = make(call, m, w, c, handle, n);
   calls++;
   if (!memchr(listed[call], number, sizeof listed[call])) wrong(what, call, number);
+  if (number != 9 && group) wrong("a group without a 9", call, number);
   if ((number || call == READ) && memcmp(&before.desk, &lent.desk, sizeof lent.desk)) wrong("the desk has changed", call, number);
   if (number && memcmp(&before, &lent, sizeof lent)) wrong("a lent byte has changed", call, number);
   return number;
@@ -195,6 +218,11 @@ static void sound_desks(void) {
   if (answer("null word", SERVE, 15, 16, 4, 8, 0) != 5) wrong("null word", SERVE, 0);
   lent.word[9] = 1;
   expect_of_desk("a wrong byte", 9, SERVE, 8);
+  if (group != 0) wrong("its group", SERVE, group);
+  lent.word[9] = 0, lent.word[150] = 1;
+  expect_of_desk("a wrong byte of group 9", 9, SERVE, 8);
+  if (group != 9) wrong("its group", SERVE, group);
+  lent.word[150] = 0, lent.word[9] = 1;
   lent.desk.jobs[0].served = UINT32_MAX;
   expect_of_desk("served out", 13, SERVE, 8);
   lent.desk.jobs[0].served--, lent.word[9] = 0;
@@ -216,30 +244,36 @@ static void sound_desks(void) {
 int main(void) {
   const size_t most = (size_t)-1;
   fill();
-  expect("groups 0", 1, axlebloom_recover(0, 16, 4, word, 240, marks, 240), -1, 0);
-  expect("groups 16", 1, axlebloom_recover(16, 16, 4, word, 240, marks, 240), -1, 0);
-  expect("groups at the end", 1, axlebloom_recover(most, most, most, word, 240, marks, 240), -1, 0);
+  expect("groups 0", 1, number_of(0, axlebloom_recover(0, 16, 4, word, 240, marks, 240)), -1, 0);
+  expect("groups 16", 1, number_of(0, axlebloom_recover(16, 16, 4, word, 240, marks, 240)), -1, 0);
+  expect("groups at the end", 1, number_of(0, axlebloom_recover(most, most, most, word, 240, marks, 240)), -1, 0);
   expect("checks 5", 2, axlebloom_encode(15, 16, 5, data, 163, word, 240), -1, 0);
-  expect("width 17", 3, axlebloom_repair(15, 17, 4, 0, word, 240, marks, 240), -1, 0);
-  expect("width 300", 3, axlebloom_repair(15, 300, 4, 0, word, 240, marks, 240), -1, 0);
+  expect("width 17", 3, number_of(0, axlebloom_repair(15, 17, 4, 0, word, 240, marks, 240)), -1, 0);
+  expect("width 300", 3, number_of(0, axlebloom_repair(15, 300, 4, 0, word, 240, marks, 240)), -1, 0);
   expect("no data", 4, axlebloom_encode(1, 3, 1, data, 0, word, 3), -1, 0);
-  expect("null word", 5, axlebloom_recover(15, 16, 4, NULL, 0, NULL, 0), -1, 0);
+  expect("null word", 5, number_of(0, axlebloom_recover(15, 16, 4, NULL, 0, NULL, 0)), -1, 0);
   expect("null data", 5, axlebloom_encode(15, 16, 4, NULL, 0, word, 240), -1, 0);
-  expect("short word", 5, axlebloom_recover(15, 16, 4, word, 239, marks, 240), -1, 0);
-  expect("short marks", 5, axlebloom_recover(15, 16, 4, word, 240, marks, 239), -1, 0);
+  expect("short word", 5, number_of(0, axlebloom_recover(15, 16, 4, word, 239, marks, 240)), -1, 0);
+  expect("short marks", 5, number_of(0, axlebloom_recover(15, 16, 4, word, 240, marks, 239)), -1, 0);
   expect("short data", 5, axlebloom_encode(15, 16, 4, data, 177, word, 240), -1, 0);
-  expect("short word of check", 5, axlebloom_check(15, 16, 4, word, 239), -1, 0);
-  expect("group m", 7, axlebloom_repair(15, 16, 4, 15, word, 240, marks, 240), -1, 0);
-  expect("group at the end", 7, axlebloom_repair(15, 16, 4, most, word, 240, marks, 240), -1, 0);
+  expect("short word of check", 5, number_of(0, axlebloom_check(15, 16, 4, word, 239)), -1, 0);
+  expect("group m", 7, number_of(0, axlebloom_repair(15, 16, 4, 15, word, 240, marks, 240)), -1, 0);
+  expect("group at the end", 7, number_of(0, axlebloom_repair(15, 16, 4, most, word, 240, marks, 240)), -1, 0);
   for (int mark = 2; mark < 256; mark++) {
     marks[239] = (uint8_t)mark;
-    expect("mark", 6, axlebloom_recover(15, 16, 4, word, 240, marks, 240), 239, (uint8_t)mark);
+    expect("mark", 6, number_of(0, axlebloom_recover(15, 16, 4, word, 240, marks, 240)), 239, (uint8_t)mark);
     marks[0] = (uint8_t)mark;
-    expect("mark before group", 6, axlebloom_repair(15, 16, 4, most, word, 240, marks, 240), 0, (uint8_t)mark);
+    expect("mark before group", 6, number_of(0, axlebloom_repair(15, 16, 4, most, word, 240, marks, 240)), 0, (uint8_t)mark);
   }
-  expect("no codeword", 9, axlebloom_recover(15, 16, 4, word, 240, marks, 240), -1, 0);
-  expect("last group wrong", 9, axlebloom_repair(15, 16, 4, 14, word, 240, marks, 240), -1, 0);
-  expect("no codeword, by check", 9, axlebloom_check(15, 16, 4, word, 240), -1, 0);
+  expect("no codeword", 9, number_of(0, axlebloom_recover(15, 16, 4, word, 240, marks, 240)), -1, 0);
+  expect("last group wrong", 9, number_of(14, axlebloom_repair(15, 16, 4, 14, word, 240, marks, 240)), -1, 0);
+  expect("no codeword, by check", 9, number_of(0, axlebloom_check(15, 16, 4, word, 240)), -1, 0);
+  expect_group("two groups", 3, 50, 210, 0);
+  expect_group("two groups, one byte lost", 13, 210, 50, 1);
+  expect_group("the last group", 14, 239, 224, 1);
+  for (int i = 0; i < 240; i++) word[i] = 0, marks[i] = i >= 32 && i < 36;
+  word[36] = 1;
+  if (number_of(15, axlebloom_recover(15, 16, 4, word, 240, marks, 240)) != 9) printf("c lost places: the group is not m\n"), failures++;
   make_sound();
   random_desks();
   broken_desks();

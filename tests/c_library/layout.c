@@ -44,11 +44,11 @@ int main(void) {
 
   /* slots 0 to 3, with 300 jobs before the last, so that t, its handle and its count take two bytes each */
   if (axlebloom_open(&desk, 15, 16, 4, marks, 240, &handle) || handle != 8) return 1;
-  if (axlebloom_serve(&desk, handle, word, 240)) return 2;
+  if (axlebloom_serve(&desk, handle, word, 240).number) return 2;
   for (int i = 0; i < 2; i++) if (axlebloom_open(&desk, 4, 5, 2, zeroes, 20, &handle)) return 3;
   for (int i = 0; i < 300; i++) if (axlebloom_open(&desk, 4, 5, 2, zeroes, 20, &handle) || axlebloom_close(&desk, handle)) return 4;
   if (axlebloom_open(&desk, 2, 6, 3, few, 12, &handle) || handle != 8 * 304 + 3) return 5;
-  for (int i = 0; i < 259; i++) if (axlebloom_serve(&desk, handle, word, 12)) return 6;
+  for (int i = 0; i < 259; i++) if (axlebloom_serve(&desk, handle, word, 12).number) return 6;
 
   holds("t", offsetof(struct axlebloom_desk, t), sizeof desk.t, 304);
   slot(0, 15, 16, 4, 1, 8, marks);

@@ -66,7 +66,7 @@ pub enum Call {
 #[derive(Clone)]
 pub struct History(pub Vec<Call>);
 
-/// What a call gave: the number, the handle or the count if one was written, and the word lent.
+/// What a call gave: the number, the handle or the count if one was written, or the group that a 9 carries, and the word lent.
 #[derive(PartialEq)]
 struct Outcome(u8, Option<u64>, Vec<u8>);
 
@@ -207,7 +207,7 @@ impl Desks {
         let (mut x, mut y) = (lent.clone(), lent.clone());
         let a = library::serve(&mut self.ours, handle, &mut x);
         let b = second::serve(&mut self.theirs, handle, &mut y);
-        (format!("serve handle {handle}, word {}", row(&lent)), Outcome(a, None, x), Outcome(b, None, y))
+        (format!("serve handle {handle}, word {}", row(&lent)), Outcome::served(a, x), Outcome::served(b, y))
     }
 
     fn read(&mut self, handle: Handle) -> (String, Outcome, Outcome) {
@@ -298,8 +298,13 @@ impl Outcome {
         Outcome(answer.err().unwrap_or(0), answer.ok(), Vec::new())
     }
 
+    /// A 9 comes with a group, and no other number with one but 0.
+    fn served((number, group): library::Mended, word: Vec<u8>) -> Outcome {
+        Outcome(number, (number == 9 || group != 0).then_some(group), word)
+    }
+
     fn show(&self) -> String {
-        let figure = self.1.map_or(String::new(), |figure| format!(", written {figure}"));
+        let figure = self.1.map_or(String::new(), |figure| format!(", figure {figure}"));
         let word = if self.2.is_empty() { String::new() } else { format!(", word {}", row(&self.2)) };
         format!("{}{figure}{word}", self.0)
     }

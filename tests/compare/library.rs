@@ -1,7 +1,7 @@
 //! The library through its exported functions, with the record of a desk laid out as in the header.
 
 mod c {
-    use super::Desk;
+    use super::{Answer, Desk};
     extern "C" {
         pub fn axlebloom_describe(m: usize, w: usize, c: usize) -> u8;
         pub fn axlebloom_places(m: usize, w: usize, c: usize) -> usize;
@@ -9,13 +9,13 @@ mod c {
         pub fn axlebloom_sure(m: usize, w: usize, c: usize) -> usize;
         pub fn axlebloom_encode(m: usize, w: usize, c: usize, d: *const u8, k: usize, x: *mut u8, n: usize) -> u8;
         pub fn axlebloom_extract(m: usize, w: usize, c: usize, x: *const u8, n: usize, d: *mut u8, k: usize) -> u8;
-        pub fn axlebloom_check(m: usize, w: usize, c: usize, x: *const u8, n: usize) -> u8;
+        pub fn axlebloom_check(m: usize, w: usize, c: usize, x: *const u8, n: usize) -> Answer;
         pub fn axlebloom_judge(m: usize, w: usize, c: usize, l: *const u8, n: usize) -> u8;
-        pub fn axlebloom_repair(m: usize, w: usize, c: usize, g: usize, x: *mut u8, n: usize, l: *mut u8, k: usize) -> u8;
-        pub fn axlebloom_recover(m: usize, w: usize, c: usize, x: *mut u8, n: usize, l: *mut u8, k: usize) -> u8;
+        pub fn axlebloom_repair(m: usize, w: usize, c: usize, g: usize, x: *mut u8, n: usize, l: *mut u8, k: usize) -> Answer;
+        pub fn axlebloom_recover(m: usize, w: usize, c: usize, x: *mut u8, n: usize, l: *mut u8, k: usize) -> Answer;
         pub fn axlebloom_fresh(desk: *mut Desk);
         pub fn axlebloom_open(desk: *mut Desk, m: usize, w: usize, c: usize, l: *const u8, n: usize, handle: *mut u64) -> u8;
-        pub fn axlebloom_serve(desk: *mut Desk, handle: u64, x: *mut u8, n: usize) -> u8;
+        pub fn axlebloom_serve(desk: *mut Desk, handle: u64, x: *mut u8, n: usize) -> Answer;
         pub fn axlebloom_read(desk: *const Desk, handle: u64, served: *mut u32) -> u8;
         pub fn axlebloom_close(desk: *mut Desk, handle: u64) -> u8;
     }
@@ -23,6 +23,19 @@ mod c {
 
 /// m, w and c.
 pub type Shape = (usize, usize, usize);
+
+#[repr(C)]
+pub struct Answer {
+    number: u8,
+    group: u8,
+}
+
+/// The number, and the group that a 9 carries.
+pub type Mended = (u8, u64);
+
+fn mended(answer: Answer) -> Mended {
+    (answer.number, answer.group.into())
+}
 
 pub fn describe(s: Shape) -> Result<(u64, u64, u64), u8> {
     let figure = |f: unsafe extern "C" fn(usize, usize, usize) -> usize| unsafe { f(s.0, s.1, s.2) as u64 };
@@ -40,20 +53,20 @@ pub fn extract(s: Shape, x: &[u8], d: &mut [u8]) -> u8 {
     unsafe { c::axlebloom_extract(s.0, s.1, s.2, x.as_ptr(), x.len(), d.as_mut_ptr(), d.len()) }
 }
 
-pub fn check(s: Shape, x: &[u8]) -> u8 {
-    unsafe { c::axlebloom_check(s.0, s.1, s.2, x.as_ptr(), x.len()) }
+pub fn check(s: Shape, x: &[u8]) -> Mended {
+    mended(unsafe { c::axlebloom_check(s.0, s.1, s.2, x.as_ptr(), x.len()) })
 }
 
 pub fn judge(s: Shape, l: &[u8]) -> u8 {
     unsafe { c::axlebloom_judge(s.0, s.1, s.2, l.as_ptr(), l.len()) }
 }
 
-pub fn repair(s: Shape, g: usize, x: &mut [u8], l: &mut [u8]) -> u8 {
-    unsafe { c::axlebloom_repair(s.0, s.1, s.2, g, x.as_mut_ptr(), x.len(), l.as_mut_ptr(), l.len()) }
+pub fn repair(s: Shape, g: usize, x: &mut [u8], l: &mut [u8]) -> Mended {
+    mended(unsafe { c::axlebloom_repair(s.0, s.1, s.2, g, x.as_mut_ptr(), x.len(), l.as_mut_ptr(), l.len()) })
 }
 
-pub fn recover(s: Shape, x: &mut [u8], l: &mut [u8]) -> u8 {
-    unsafe { c::axlebloom_recover(s.0, s.1, s.2, x.as_mut_ptr(), x.len(), l.as_mut_ptr(), l.len()) }
+pub fn recover(s: Shape, x: &mut [u8], l: &mut [u8]) -> Mended {
+    mended(unsafe { c::axlebloom_recover(s.0, s.1, s.2, x.as_mut_ptr(), x.len(), l.as_mut_ptr(), l.len()) })
 }
 
 #[repr(C)]
@@ -98,8 +111,8 @@ pub fn open(desk: &mut Desk, s: Shape, l: &[u8], handle: &mut u64) -> u8 {
     unsafe { c::axlebloom_open(desk, s.0, s.1, s.2, l.as_ptr(), l.len(), handle) }
 }
 
-pub fn serve(desk: &mut Desk, handle: u64, x: &mut [u8]) -> u8 {
-    unsafe { c::axlebloom_serve(desk, handle, x.as_mut_ptr(), x.len()) }
+pub fn serve(desk: &mut Desk, handle: u64, x: &mut [u8]) -> Mended {
+    mended(unsafe { c::axlebloom_serve(desk, handle, x.as_mut_ptr(), x.len()) })
 }
 
 pub fn read(desk: &Desk, handle: u64, served: &mut u32) -> u8 {

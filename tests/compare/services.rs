@@ -1,6 +1,6 @@
 //! Calls of every service with one shape, word, row of marks and list of groups.
 
-use crate::library::{self, Shape};
+use crate::library::{self, Mended, Shape};
 use crate::random::{bad_shape, codeword, damaged, figures, good_shape, marks, wide, Random};
 use crate::second;
 use crate::shrink::{row, shorter, zeroed, Case};
@@ -26,6 +26,12 @@ fn alike<T: PartialEq + std::fmt::Debug>(what: &str, ours: (u8, T), theirs: (u8,
     Ok(())
 }
 
+/// The same of a number with the group that a 9 carries.
+fn alike_mended<T: PartialEq + std::fmt::Debug>(what: &str, ours: (Mended, T), theirs: (Mended, T), seen: Seen) -> Result<(), String> {
+    let (((a, g), x), ((b, h), y)) = (ours, theirs);
+    alike(what, (a, (g, x)), (b, (h, y)), seen)
+}
+
 /// The number and the figures of a description.
 fn described(answer: Result<(u64, u64, u64), u8>) -> (u8, (u64, u64, u64)) {
     match answer {
@@ -46,10 +52,11 @@ fn plain_services(case: &Services, seen: Seen) -> Result<(), String> {
     let (a, b) = (library::extract(s, &case.word, &mut d), second::extract(m, w, c, &case.word, &mut e));
     alike("extract", (a, d), (b, e), seen)?;
     let checked = match second::check(m, w, c, &case.word) {
-        Ok(yes) => 9 * u8::from(!yes),
-        Err(number) => number,
+        Ok(second::Checked::Yes) => (0, 0),
+        Ok(second::Checked::No(group)) => (9, group),
+        Err(number) => (number, 0),
     };
-    alike("check", (library::check(s, &case.word), ()), (checked, ()), seen)?;
+    alike_mended("check", (library::check(s, &case.word), ()), (checked, ()), seen)?;
     alike("judge", (library::judge(s, &case.marks), ()), (second::judge(m, w, c, &case.marks), ()), seen)
 }
 
@@ -61,24 +68,31 @@ fn repairs(case: &Services, seen: Seen) -> Result<(), String> {
     for &g in &case.list {
         let ((mut x, mut k), (mut y, mut l)) = (start(), start());
         let (a, b) = (library::repair(s, g, &mut x, &mut k), second::repair(m, w, c, g as u64, &mut y, &mut l));
-        alike(&format!("repair of group {g}"), (a, (x, k)), (b, (y, l)), seen)?;
+        alike_mended(&format!("repair of group {g}"), (a, (x, k)), (b, (y, l)), seen)?;
     }
     let ((mut x, mut k), (mut y, mut l)) = (start(), start());
     let (a, b) = (library::recover(s, &mut x, &mut k), second::recover(m, w, c, &mut y, &mut l));
     let at_once = (a, (x, k));
-    alike("recover", at_once.clone(), (b, (y, l)), seen)?;
+    alike_mended("recover", at_once.clone(), (b, (y, l)), seen)?;
     let ((mut x, mut k), (mut y, mut l)) = (start(), start());
     for &g in &case.list {
         let (a, b) = (library::repair(s, g, &mut x, &mut k), second::repair(m, w, c, g as u64, &mut y, &mut l));
-        alike(&format!("repair of group {g} in the list"), (a, (&x, &k)), (b, (&y, &l)), seen)?;
+        alike_mended(&format!("repair of group {g} in the list"), (a, (&x, &k)), (b, (&y, &l)), seen)?;
     }
     let (a, b) = (library::recover(s, &mut x, &mut k), second::recover(m, w, c, &mut y, &mut l));
     let after = (a, (x, k));
-    alike("the repairs, then recover", after.clone(), (b, (y, l)), seen)?;
-    if after.0 != at_once.0 || a == 0 && after != at_once {
+    alike_mended("the repairs, then recover", after.clone(), (b, (y, l)), seen)?;
+    if after.0 != at_once.0 || a.0 == 0 && after != at_once {
         return Err(format!("the library's recovery\n  at once           {at_once:?}\n  after the repairs {after:?}"));
     }
     Ok(())
+}
+
+/// A word of which each group meets its own equations, and mostly not the two across: each is from another codeword.
+fn sound_groups(shape: Shape, data: &[u8]) -> Vec<u8> {
+    let w = shape.1;
+    let part = |g: usize| codeword(shape, &data.iter().map(|&byte| byte.wrapping_mul(2 * g as u8 + 1)).collect::<Vec<_>>())[g * w..g * w + w].to_vec();
+    (0..shape.0).flat_map(part).collect()
 }
 
 /// Random data and a word and marks of the shape's lengths, or of any if it is refused.
@@ -91,8 +105,10 @@ fn of_shape(r: &mut Random, shape: Shape) -> Services {
     let more = r.pick(&[0, 0, 1, 2, 2, 2, 3, 5]);
     let marks = marks(r, shape, more);
     let mut word = codeword(shape, &data);
-    if r.one_in(8) {
-        word = r.bytes(word.len());
+    match r.below(8) {
+        0 => word = r.bytes(word.len()),
+        1 => word = sound_groups(shape, &data),
+        _ => (),
     }
     word = damaged(r, &word, &marks);
     let list = (0..r.below(6)).map(|_| r.below(shape.0 + 1)).collect();
@@ -107,7 +123,7 @@ impl Case for Services {
             _ => good_shape(r, 5, 6),
         };
         let mut case = of_shape(r, shape);
-        if !case.word.is_empty() && r.one_in(4) {
+        while !case.word.is_empty() && r.one_in(4) {
             let p = r.below(case.word.len());
             case.word[p] ^= 1 + r.below(255) as u8;
         }

@@ -69,7 +69,7 @@ fn first_difference(ours: &[u8], theirs: &[u8]) -> String {
 /// The number of each output line, 0 for one that is no refusal.
 fn numbers(output: &[u8]) -> Vec<u8> {
     let number = |line: &[u8]| match line.strip_prefix(b"refused\t") {
-        Some(digits) => String::from_utf8_lossy(digits).parse().unwrap_or(255),
+        Some(fields) => String::from_utf8_lossy(fields).split('\t').next().and_then(|digits| digits.parse().ok()).unwrap_or(255),
         None => 0,
     };
     let lines = output.strip_suffix(b"\n").map(|lines| lines.split(|&b| b == b'\n').map(number).collect());

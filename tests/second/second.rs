@@ -1,5 +1,5 @@
 //! Second program: an independent reference written from the requirements
-//! paper alone. It takes the plainest way everywhere: products by shifts,
+//! papers alone. It takes the plainest way everywhere: products by shifts,
 //! every equation written out, Gaussian elimination over the full set.
 
 use std::io::{self, ErrorKind, Read, Write};
@@ -193,7 +193,39 @@ fn fill(word: &mut [u8], lost: &[bool], found: &[u8]) {
     }
 }
 
+/// Whether some filling of the lost places of group g meets its own c
+/// equations, of all these: the sums over its present places don't raise the
+/// rank.
+fn fits_alone(rows: &[Vec<u8>], w: u64, c: u64, g: u64, word: &[u8], lost: &[bool]) -> bool {
+    let (start, end) = ((g * w) as usize, (g * w + w) as usize);
+    let mut own = Vec::new();
+    for row in &rows[(g * c) as usize..(g * c + c) as usize] {
+        own.push(row[start..end].to_vec());
+    }
+    let unknowns = lost[start..end].iter().filter(|&&x| x).count();
+    let mut matrix = system(&own, &word[start..end], &lost[start..end]);
+    let rank = reduce(&mut matrix, unknowns);
+    matrix[rank..].iter().all(|line| line[unknowns] == 0)
+}
+
+/// The group that a 9 carries: the lowest whose present bytes no filling can
+/// satisfy locally, or m if each group is sound.
+pub fn contradicting_group(m: u64, w: u64, c: u64, word: &[u8], lost: &[bool]) -> u64 {
+    let rows = equations(m, w, c);
+    (0..m).find(|&g| !fits_alone(&rows, w, c, g, word, lost)).unwrap_or(m)
+}
+
 // ----------------------------------------------------------------- services
+
+/// The number given back and the group that a 9 carries; 0 with any other.
+pub type Mended = (u8, u64);
+
+/// Yes, or no with the group that contradicts.
+#[derive(Clone, Copy, Debug, PartialEq, Eq)]
+pub enum Checked {
+    Yes,
+    No(u64),
+}
 
 /// Encode k data bytes into a word of n bytes: 0, or 1 to 5.
 pub fn encode(m: u64, w: u64, c: u64, data: &[u8], word: &mut [u8]) -> u8 {
@@ -241,7 +273,7 @@ pub fn extract(m: u64, w: u64, c: u64, word: &[u8], data: &mut [u8]) -> u8 {
 }
 
 /// Check: whether every equation gives zero, or 1 to 5.
-pub fn check(m: u64, w: u64, c: u64, word: &[u8]) -> Result<bool, u8> {
+pub fn check(m: u64, w: u64, c: u64, word: &[u8]) -> Result<Checked, u8> {
     let (n, _, _) = describe(m, w, c)?;
     if word.len() as u64 != n {
         return Err(5);
@@ -252,10 +284,10 @@ pub fn check(m: u64, w: u64, c: u64, word: &[u8]) -> Result<bool, u8> {
             sum ^= mul(row[p], word[p]);
         }
         if sum != 0 {
-            return Ok(false);
+            return Ok(Checked::No(contradicting_group(m, w, c, word, &vec![false; word.len()])));
         }
     }
-    Ok(true)
+    Ok(Checked::Yes)
 }
 
 /// The lost places as flags.
@@ -302,14 +334,14 @@ fn lent_fault(m: u64, w: u64, c: u64, word: &[u8], marks: &[u8]) -> u8 {
     0
 }
 
-/// Repair group g by its own c equations: 0, or 1 to 9.
-pub fn repair(m: u64, w: u64, c: u64, g: u64, word: &mut [u8], marks: &mut [u8]) -> u8 {
+/// Repair group g by its own c equations: 0, or 1 to 9; 9 with g.
+pub fn repair(m: u64, w: u64, c: u64, g: u64, word: &mut [u8], marks: &mut [u8]) -> Mended {
     let fault = lent_fault(m, w, c, word, marks);
     if fault != 0 {
-        return fault;
+        return (fault, 0);
     }
     if g >= m {
-        return 7;
+        return (7, 0);
     }
     let (start, end) = ((g * w) as usize, (g * w + w) as usize);
     let mut lost = flags(marks);
@@ -319,34 +351,34 @@ pub fn repair(m: u64, w: u64, c: u64, g: u64, word: &mut [u8], marks: &mut [u8])
         }
     }
     if lost.iter().filter(|&&x| x).count() as u64 > c {
-        return 8;
+        return (8, 0);
     }
     let own = &equations(m, w, c)[(g * c) as usize..(g * c + c) as usize];
     match solve(own, word, &lost) {
         Solution::Undetermined => panic!("at most c losses are always determined"),
-        Solution::Contradictory => 9,
+        Solution::Contradictory => (9, g),
         Solution::Unique(found) => {
             fill(word, &lost, &found);
             marks[start..end].fill(0);
-            0
+            (0, 0)
         }
     }
 }
 
 /// Recover the whole word by all equations: 0, or 1 to 6, 8, 9.
-pub fn recover(m: u64, w: u64, c: u64, word: &mut [u8], marks: &mut [u8]) -> u8 {
+pub fn recover(m: u64, w: u64, c: u64, word: &mut [u8], marks: &mut [u8]) -> Mended {
     let fault = lent_fault(m, w, c, word, marks);
     if fault != 0 {
-        return fault;
+        return (fault, 0);
     }
     let lost = flags(marks);
     match solve(&equations(m, w, c), word, &lost) {
-        Solution::Undetermined => 8,
-        Solution::Contradictory => 9,
+        Solution::Undetermined => (8, 0),
+        Solution::Contradictory => (9, contradicting_group(m, w, c, word, &lost)),
         Solution::Unique(found) => {
             fill(word, &lost, &found);
             marks.fill(0);
-            0
+            (0, 0)
         }
     }
 }
@@ -474,27 +506,27 @@ pub fn open(desk: &mut Desk, m: u64, w: u64, c: u64, marks: &[u8]) -> Result<u64
 
 /// Serve: recover the word by the job's marks, which stay; 0, or 31, 12, 5,
 /// 13, 9.
-pub fn serve(desk: &mut Desk, handle: u64, word: &mut [u8]) -> u8 {
+pub fn serve(desk: &mut Desk, handle: u64, word: &mut [u8]) -> Mended {
     if !sound(desk) {
-        return 31;
+        return (31, 0);
     }
     let Some(s) = find(desk, handle) else {
-        return 12;
+        return (12, 0);
     };
     let job = &mut desk.jobs[s];
     let n = job.m * job.w;
     if word.len() as u64 != n {
-        return 5;
+        return (5, 0);
     }
     if job.served >= LAST_SERVED {
-        return 13;
+        return (13, 0);
     }
     let mut marks = job.marks[..n as usize].to_vec();
-    let number = recover(job.m, job.w, job.c, word, &mut marks);
-    if number == 0 {
+    let mended = recover(job.m, job.w, job.c, word, &mut marks);
+    if mended.0 == 0 {
         job.served += 1;
     }
-    number
+    mended
 }
 
 /// Read the served count, or 31, 12.
@@ -627,8 +659,9 @@ fn word_record(state: Option<Shape>, fields: &[&[u8]]) -> Vec<u8> {
         return refused(15);
     };
     match recover(m, w, c, &mut word, &mut marks) {
-        0 => word_line(&word),
-        number => refused(number),
+        (0, _) => word_line(&word),
+        (9, group) => format!("refused\t9\t{group}").into_bytes(),
+        (number, _) => refused(number),
     }
 }
 

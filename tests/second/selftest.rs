@@ -200,23 +200,31 @@ fn hand_words(t: &mut Tally) {
     t.ok(encoded(1, 4, 1, &[1]) == [1, 79, 147, 221], "m 1 w 4 c 1");
     let word = [1, 1, 0, 78, 206, 128];
     t.ok(encoded(2, 3, 1, &[1, 1]) == word, "m 2 w 3 c 1");
-    t.ok(check(2, 3, 1, &word) == Ok(true), "that word is a codeword");
+    t.ok(check(2, 3, 1, &word) == Ok(Checked::Yes), "that word is a codeword");
 
     let (mut lent, mut marks) = ([9, 8, 7, 78, 206, 128], [1, 1, 1, 0, 0, 0]);
     t.ok(excess(2, 3, 1, &marks) == 2, "excess 2");
-    t.ok(recover(2, 3, 1, &mut lent, &mut marks) == 0, "first three lost");
+    t.ok(recover(2, 3, 1, &mut lent, &mut marks) == (0, 0), "first three lost");
     t.ok(lent == word && marks == [0; 6], "recovered, marks cleared");
 
     let (mut lent, mut marks) = ([9, 9, 9, 9, 9, 128], [1, 1, 1, 1, 1, 0]);
     t.ok(excess(2, 3, 1, &marks) == 3, "excess 3");
     t.ok(judge(2, 3, 1, &marks) == 8, "judge: first five lost is 8");
-    t.ok(recover(2, 3, 1, &mut lent, &mut marks) == 8, "first five lost is 8");
+    t.ok(recover(2, 3, 1, &mut lent, &mut marks) == (8, 0), "first five lost is 8");
     t.ok(lent == [9, 9, 9, 9, 9, 128] && marks == [1, 1, 1, 1, 1, 0], "untouched");
 
     let (mut lent, mut marks) = ([1, 1, 0, 78, 206, 129], [0; 6]);
-    t.ok(check(2, 3, 1, &lent) == Ok(false), "last byte 129: no codeword");
-    t.ok(recover(2, 3, 1, &mut lent, &mut marks) == 9, "last byte 129 is 9");
+    t.ok(check(2, 3, 1, &lent) == Ok(Checked::No(1)), "last byte 129: no codeword");
+    t.ok(recover(2, 3, 1, &mut lent, &mut marks) == (9, 1), "last byte 129 is 9 by group 1");
     t.ok(lent == [1, 1, 0, 78, 206, 129], "untouched at 9");
+
+    let (mut lent, mut marks) = ([1, 0, 0, 78, 206, 129], [0, 1, 0, 0, 0, 0]);
+    t.ok(recover(2, 3, 1, &mut lent, &mut marks) == (9, 1), "c lost in group 0: it can be filled");
+    let (mut lent, mut marks) = ([1, 0, 0, 78, 206, 129], [0; 6]);
+    t.ok(recover(2, 3, 1, &mut lent, &mut marks) == (9, 0), "both groups wrong: the lowest");
+    let (mut lent, mut marks) = ([1, 1, 0, 0, 0, 0], [0; 6]);
+    t.ok(check(2, 3, 1, &lent) == Ok(Checked::No(2)), "each group sound, no codeword");
+    t.ok(recover(2, 3, 1, &mut lent, &mut marks) == (9, 2), "only the equations across fail: m");
 }
 
 fn hand_repairs(t: &mut Tally, random: &mut Random) {
@@ -227,22 +235,22 @@ fn hand_repairs(t: &mut Tally, random: &mut Random) {
             let start = (g * w) as usize;
             marks[start..start + c as usize].fill(1);
             let mut lent = spoiled(random, &word, &marks);
-            t.ok(repair(m, w, c, g, &mut lent, &mut marks) == 0, "c lost: repaired");
+            t.ok(repair(m, w, c, g, &mut lent, &mut marks) == (0, 0), "c lost: repaired");
             t.ok(lent == word && marks.iter().all(|&x| x == 0), "repaired whole");
             marks[start..start + c as usize + 1].fill(1);
             let mut lent = spoiled(random, &word, &marks);
             let before = (lent.clone(), marks.clone());
-            t.ok(repair(m, w, c, g, &mut lent, &mut marks) == 8, "c+1 lost: 8");
+            t.ok(repair(m, w, c, g, &mut lent, &mut marks) == (8, 0), "c+1 lost: 8");
             t.ok((lent, marks) == before, "untouched at 8");
         }
     }
     let (mut word, mut marks) = ([1, 1, 1, 78, 206, 128], [0, 0, 0, 1, 0, 0]);
-    t.ok(repair(2, 3, 1, 0, &mut word, &mut marks) == 9, "no loss: still 9");
+    t.ok(repair(2, 3, 1, 0, &mut word, &mut marks) == (9, 0), "no loss: still 9");
     t.ok(word == [1, 1, 1, 78, 206, 128] && marks == [0, 0, 0, 1, 0, 0], "untouched");
-    t.ok(repair(2, 3, 1, 1, &mut word, &mut marks) == 0, "other group repaired");
+    t.ok(repair(2, 3, 1, 1, &mut word, &mut marks) == (0, 0), "other group repaired");
     t.ok(word == [1, 1, 1, 78, 206, 128] && marks == [0; 6], "group 0 untouched");
-    t.ok(repair(2, 3, 1, 2, &mut word, &mut marks) == 7, "group m is 7");
-    t.ok(repair(2, 3, 1, 1 << 32, &mut word, &mut marks) == 7, "huge group is 7");
+    t.ok(repair(2, 3, 1, 2, &mut word, &mut marks) == (7, 0), "group m is 7");
+    t.ok(repair(2, 3, 1, 1 << 32, &mut word, &mut marks) == (7, 0), "huge group is 7");
 }
 
 /// Undetermined and contradictory at once: 8, since the lower number is given.
@@ -254,9 +262,9 @@ fn both_faults(t: &mut Tally, random: &mut Random) {
         let last = word.len() - 1;
         word[last] ^= 1;
         let before = (word.clone(), marks.clone());
-        t.ok(repair(m, w, c, m - 1, &mut word, &mut marks) == 9, "last group is 9");
-        t.ok(repair(m, w, c, 0, &mut word, &mut marks) == 8, "first group is 8");
-        t.ok(recover(m, w, c, &mut word, &mut marks) == 8, "8 before 9");
+        t.ok(repair(m, w, c, m - 1, &mut word, &mut marks) == (9, m - 1), "last group is 9");
+        t.ok(repair(m, w, c, 0, &mut word, &mut marks) == (8, 0), "first group is 8");
+        t.ok(recover(m, w, c, &mut word, &mut marks) == (8, 0), "8 before 9");
         t.ok((word, marks) == before, "untouched");
     }
 }
@@ -279,13 +287,13 @@ fn refusals(t: &mut Tally) {
     t.ok(judge(2, 3, 1, &[2, 0, 0, 0, 0]) == 5, "judge 5 before 6");
     t.ok(judge(2, 3, 1, &[1, 1, 1, 1, 1, 2]) == 6, "judge 6 before 8");
     let mut marks = [1, 1, 1, 1, 1, 2];
-    t.ok(repair(2, 3, 1, 9, &mut word, &mut marks[..5]) == 5, "repair 5 before 7");
-    t.ok(repair(2, 3, 1, 9, &mut word, &mut marks) == 6, "repair 6 before 7");
-    t.ok(repair(2, 3, 1, 0, &mut word, &mut marks) == 6, "repair 6 looks at all");
-    t.ok(repair(2, 3, 1, 9, &mut word[..5], &mut marks) == 5, "repair short word");
-    t.ok(recover(2, 3, 1, &mut word, &mut marks) == 6, "recover 6 before 8");
-    t.ok(recover(2, 3, 1, &mut word[..5], &mut marks) == 5, "recover 5 before 6");
-    t.ok(recover(2, 3, 1, &mut word, &mut marks[..5]) == 5, "recover short marks");
+    t.ok(repair(2, 3, 1, 9, &mut word, &mut marks[..5]) == (5, 0), "repair 5 before 7");
+    t.ok(repair(2, 3, 1, 9, &mut word, &mut marks) == (6, 0), "repair 6 before 7");
+    t.ok(repair(2, 3, 1, 0, &mut word, &mut marks) == (6, 0), "repair 6 looks at all");
+    t.ok(repair(2, 3, 1, 9, &mut word[..5], &mut marks) == (5, 0), "repair short word");
+    t.ok(recover(2, 3, 1, &mut word, &mut marks) == (6, 0), "recover 6 before 8");
+    t.ok(recover(2, 3, 1, &mut word[..5], &mut marks) == (5, 0), "recover 5 before 6");
+    t.ok(recover(2, 3, 1, &mut word, &mut marks[..5]) == (5, 0), "recover short marks");
     t.ok(word == [7; 6] && marks == [1, 1, 1, 1, 1, 2], "untouched");
 }
 
@@ -310,7 +318,7 @@ fn agree(x: &[u8], y: &[u8], marks: &[u8]) -> bool {
 /// Judge and recover against the list of all codewords, by the paper's words.
 fn brute(t: &mut Tally, random: &mut Random, m: u64, w: u64, c: u64, rounds: u64) {
     let words = all_codewords(m, w, c);
-    t.ok(words.iter().all(|x| check(m, w, c, x) == Ok(true)), "all are codewords");
+    t.ok(words.iter().all(|x| check(m, w, c, x) == Ok(Checked::Yes)), "all are codewords");
     let zero = &words[0];
     for pattern in 0..(1u64 << (m * w)) {
         let marks = marks_of(pattern, m * w);
@@ -326,9 +334,11 @@ fn brute(t: &mut Tally, random: &mut Random, m: u64, w: u64, c: u64, rounds: u64
             }
             let fits: Vec<_> = words.iter().filter(|x| agree(x, &start, &marks)).collect();
             let (mut lent, mut left) = (start.clone(), marks.clone());
-            let number = recover(m, w, c, &mut lent, &mut left);
+            let (number, group) = recover(m, w, c, &mut lent, &mut left);
             let expected = if twins { 8 } else if fits.is_empty() { 9 } else { 0 };
             t.ok(number == expected, "brute recover number");
+            let named = if number == 9 { lowest_broken(m, w, c, &start, &marks) } else { 0 };
+            t.ok(group == named, "brute recover group");
             let end = if number == 0 { fits[0].clone() } else { start };
             let clear = if number == 0 { vec![0; marks.len()] } else { marks.clone() };
             t.ok(lent == end && left == clear, "brute recover buffers");
@@ -336,15 +346,22 @@ fn brute(t: &mut Tally, random: &mut Random, m: u64, w: u64, c: u64, rounds: u64
     }
 }
 
-/// All fillings of the lost places of group g that satisfy its equations.
+/// The lowest group that no filling satisfies, by trying them; m if none is
+/// so. For c at most 2.
+fn lowest_broken(m: u64, w: u64, c: u64, word: &[u8], marks: &[u8]) -> u64 {
+    (0..m).find(|&g| fillings(m, w, c, g, word, marks).is_empty()).unwrap_or(m)
+}
+
+/// All fillings of the lost places of group g that satisfy its equations; of
+/// more than two lost places the first two are tried, the others left.
 fn fillings(m: u64, w: u64, c: u64, g: u64, word: &[u8], marks: &[u8]) -> Vec<Vec<u8>> {
     let group = (g * w) as usize..(g * w + w) as usize;
-    let lost: Vec<usize> = group.clone().filter(|&p| marks[p] == 1).collect();
+    let lost: Vec<usize> = group.clone().filter(|&p| marks[p] == 1).take(2).collect();
     let rows = equations(m, w, c);
     let own = &rows[(g * c) as usize..(g * c + c) as usize];
     let mut found = Vec::new();
+    let mut trial = word.to_vec();
     for value in 0..(1u64 << (8 * lost.len())) {
-        let mut trial = word.to_vec();
         for (i, &p) in lost.iter().enumerate() {
             trial[p] = (value >> (8 * i)) as u8;
         }
@@ -352,7 +369,7 @@ fn fillings(m: u64, w: u64, c: u64, g: u64, word: &[u8], marks: &[u8]) -> Vec<Ve
             group.clone().fold(0, |sum, p| sum ^ mul(row[p], trial[p])) == 0
         });
         if holds {
-            found.push(trial);
+            found.push(trial.clone());
         }
     }
     found
@@ -371,7 +388,8 @@ fn brute_repair(t: &mut Tally, random: &mut Random, m: u64, w: u64, c: u64) {
             start[(g * w + random.below(w)) as usize] ^= 1;
         }
         let (mut lent, mut left) = (start.clone(), marks.clone());
-        let number = repair(m, w, c, g, &mut lent, &mut left);
+        let (number, named) = repair(m, w, c, g, &mut lent, &mut left);
+        t.ok(named == if number == 9 { g } else { 0 }, "brute repair group");
         if losses > c {
             t.ok(number == 8 && lent == start && left == marks, "brute repair 8");
             continue;
@@ -403,7 +421,7 @@ fn all_patterns(t: &mut Tally, random: &mut Random, m: u64, w: u64, c: u64) {
         let word = random_codeword(random, m, w, c);
         let start = spoiled(random, &word, &marks);
         let (mut lent, before) = (start.clone(), marks.clone());
-        let number = recover(m, w, c, &mut lent, &mut marks);
+        let number = recover(m, w, c, &mut lent, &mut marks).0;
         t.ok(number == verdict, "recover follows judge");
         if number == 0 {
             t.ok(lent == word && marks.iter().all(|&x| x == 0), "codeword stands");
@@ -411,7 +429,7 @@ fn all_patterns(t: &mut Tally, random: &mut Random, m: u64, w: u64, c: u64) {
             t.ok(lent == start && marks == before, "untouched");
         }
         let mut any = random.bytes(m * w);
-        let number = recover(m, w, c, &mut any, &mut before.clone());
+        let number = recover(m, w, c, &mut any, &mut before.clone()).0;
         t.ok((number == 8) == (verdict == 8), "any bytes: 8 as judge says");
     }
     t.ok(describe(m, w, c).unwrap().2 + 1 == fewest, "sure count is the largest");
@@ -426,11 +444,11 @@ fn every_shape(t: &mut Tally, random: &mut Random) {
         let data = random.bytes(k);
         let word = encoded(m, w, c, &data);
         let mut back = vec![0; k as usize];
-        t.ok(check(m, w, c, &word) == Ok(true), "encode gives a codeword");
+        t.ok(check(m, w, c, &word) == Ok(Checked::Yes), "encode gives a codeword");
         t.ok(extract(m, w, c, &word, &mut back) == 0 && back == data, "extract");
         let mut marks = random_marks(random, n, sure);
         let mut lent = spoiled(random, &word, &marks);
-        t.ok(recover(m, w, c, &mut lent, &mut marks) == 0, "sure count");
+        t.ok(recover(m, w, c, &mut lent, &mut marks) == (0, 0), "sure count");
         t.ok(lent == word && marks.iter().all(|&x| x == 0), "sure count word");
         let more: Vec<u8> = (0..n).map(|p| (p <= sure) as u8).collect();
         t.ok(judge(m, w, c, &more) == 8, "one loss more than the sure count");
@@ -440,9 +458,43 @@ fn every_shape(t: &mut Tally, random: &mut Random) {
             t.ok(judge(m, w, c, &marks) == verdict, "judge of heavy loss");
         }
         let mut bad = word.clone();
-        bad[random.below(n) as usize] ^= 1 + random.below(255) as u8;
-        t.ok(check(m, w, c, &bad) == Ok(false), "one byte off: no codeword");
-        t.ok(recover(m, w, c, &mut bad, &mut vec![0; n as usize]) == 9, "and 9");
+        let p = random.below(n);
+        bad[p as usize] ^= 1 + random.below(255) as u8;
+        t.ok(check(m, w, c, &bad) == Ok(Checked::No(p / w)), "one byte off: no codeword");
+        t.ok(recover(m, w, c, &mut bad, &mut vec![0; n as usize]) == (9, p / w), "and 9 by its group");
+    }
+}
+
+/// The group that a 9 names, on every good shape: the lowest of those wrong;
+/// m where the wrong byte's group has c lost places, or where each group is
+/// sound and the two equations across are not.
+fn named_groups(t: &mut Tally, random: &mut Random) {
+    for (m, w, c) in good_shapes() {
+        let whole = random_codeword(random, m, w, c);
+        let (g, h) = (random.below(m), random.below(m));
+        let (p, q) = ((g * w + w - 1) as usize, (h * w) as usize);
+        let mut two = whole.clone();
+        two[p] ^= 1 + random.below(255) as u8;
+        two[q] ^= 1 + random.below(255) as u8;
+        if g != h {
+            t.ok(recover(m, w, c, &mut two, &mut vec![0; whole.len()]) == (9, g.min(h)), "two wrong: the lowest");
+        }
+        let mut one = whole.clone();
+        one[p] ^= 1 + random.below(255) as u8;
+        let mut marks = vec![0; whole.len()];
+        marks[q..q + c as usize].fill(1);
+        let named = if g == h { m } else { g };
+        t.ok(recover(m, w, c, &mut one, &mut marks) == (9, named), "c lost in a group: it is never named");
+        let mut local = random.bytes(m * w);
+        for g in 0..m {
+            let mut marks = vec![0; local.len()];
+            marks[(g * w) as usize..(g * w + c) as usize].fill(1);
+            t.ok(repair(m, w, c, g, &mut local, &mut marks) == (0, 0), "each group made sound");
+        }
+        if check(m, w, c, &local) != Ok(Checked::Yes) {
+            t.ok(check(m, w, c, &local) == Ok(Checked::No(m)), "check: only across");
+            t.ok(recover(m, w, c, &mut local, &mut vec![0; whole.len()]) == (9, m), "only across: m");
+        }
     }
 }
 
@@ -469,8 +521,8 @@ fn repairs_then_recovery(t: &mut Tally, random: &mut Random) {
             repair(m, w, c, g, &mut list_word, &mut list_marks);
         }
         let after = recover(m, w, c, &mut list_word, &mut list_marks);
-        t.ok(once == after, "demand 3 number");
-        if once == 0 {
+        t.ok(once == after, "demand 3 number and group");
+        if once.0 == 0 {
             t.ok(list_word == once_word && list_marks == once_marks, "demand 3 buffers");
         }
     }
@@ -500,8 +552,8 @@ fn desk_handles(t: &mut Tally) {
     t.ok(close(&mut desk, 8 * 3 + 2) == 12, "closed handle: close is 12");
     t.ok(read(&desk, 8 * 3 + 2) == Err(12), "closed handle: read is 12");
     let mut word = [0; 6];
-    t.ok(serve(&mut desk, 8 * 3 + 2, &mut word) == 12, "closed handle: serve is 12");
-    t.ok(serve(&mut desk, 0, &mut word[..1]) == 12, "12 before 5, handle 0");
+    t.ok(serve(&mut desk, 8 * 3 + 2, &mut word) == (12, 0), "closed handle: serve is 12");
+    t.ok(serve(&mut desk, 0, &mut word[..1]) == (12, 0), "12 before 5, handle 0");
     t.ok(close(&mut desk, 7) == 12, "handle 7 is 12");
     t.ok(open(&mut desk, 2, 3, 1, &marks) == Ok(8 * 9 + 2), "accepted after a close");
     desk.t = 65_535;
@@ -518,21 +570,21 @@ fn desk_serves(t: &mut Tally) {
     let handle = open(&mut desk, 2, 3, 1, &marks).unwrap();
     let other = open(&mut desk, 1, 4, 1, &[0; 4]).unwrap();
     let mut word = [5, 5, 5, 78, 206, 128];
-    t.ok(serve(&mut desk, handle, &mut word) == 0, "serve");
+    t.ok(serve(&mut desk, handle, &mut word) == (0, 0), "serve");
     t.ok(word == [1, 1, 0, 78, 206, 128], "served word");
     t.ok(desk.jobs[0].marks[..6] == marks, "marks stay");
     t.ok(read(&desk, handle) == Ok(1) && read(&desk, other) == Ok(0), "served 1");
-    t.ok(serve(&mut desk, handle, &mut word[..5]) == 5, "serve 5");
+    t.ok(serve(&mut desk, handle, &mut word[..5]) == (5, 0), "serve 5");
     let mut bad = [1, 79, 147, 220];
-    t.ok(serve(&mut desk, other, &mut bad) == 9, "serve 9");
+    t.ok(serve(&mut desk, other, &mut bad) == (9, 0), "serve 9");
     t.ok(bad == [1, 79, 147, 220] && read(&desk, other) == Ok(0), "9 not counted");
     desk.jobs[1].served = LAST_SERVED - 1;
     let mut good = [1, 79, 147, 221];
-    t.ok(serve(&mut desk, other, &mut good) == 0, "last serve");
+    t.ok(serve(&mut desk, other, &mut good) == (0, 0), "last serve");
     t.ok(read(&desk, other) == Ok(4_294_967_295), "served at its end");
-    t.ok(serve(&mut desk, other, &mut good) == 13, "then 13");
-    t.ok(serve(&mut desk, other, &mut bad) == 13, "13 before 9");
-    t.ok(serve(&mut desk, other, &mut bad[..3]) == 5, "5 before 13");
+    t.ok(serve(&mut desk, other, &mut good) == (13, 0), "then 13");
+    t.ok(serve(&mut desk, other, &mut bad) == (13, 0), "13 before 9");
+    t.ok(serve(&mut desk, other, &mut bad[..3]) == (5, 0), "5 before 13");
     t.ok(read(&desk, other) == Ok(4_294_967_295), "served stays");
     t.ok(close(&mut desk, other) == 0 && desk.jobs[1] == FREE, "close zeroes");
     t.ok(desk.t == 2, "t stays at close");
@@ -546,7 +598,7 @@ fn refused_31(t: &mut Tally, base: &Desk, what: &str, change: fn(&mut Desk)) {
     let mut word = [0; 6];
     t.ok(!sound(&desk), what);
     t.ok(open(&mut desk, 0, 0, 0, &[]) == Err(31), what);
-    t.ok(serve(&mut desk, 0, &mut word) == 31, what);
+    t.ok(serve(&mut desk, 0, &mut word) == (31, 0), what);
     t.ok(read(&desk, 0) == Err(31), what);
     t.ok(close(&mut desk, 0) == 31, what);
     t.ok(desk == before && word == [0; 6], what);
@@ -595,7 +647,9 @@ fn lines(t: &mut Tally) {
     gives(t, s, "data\t1\t1", "word\t1\t1\t0\t78\t206\t128");
     gives(t, s, "word\t1\t-\t0\t78\t-\t128", "word\t1\t1\t0\t78\t206\t128");
     gives(t, s, "word\t-\t-\t-\t-\t-\t128", "refused\t8");
-    gives(t, s, "word\t1\t1\t0\t78\t206\t129", "refused\t9");
+    gives(t, s, "word\t1\t1\t0\t78\t206\t129", "refused\t9\t1");
+    gives(t, s, "word\t1\t1\t0\t0\t0\t0", "refused\t9\t2");
+    gives(t, s, "word\t1\t0\t0\t-\t206\t129", "refused\t9\t0");
     for bad in [
         "", "\t", "Shape\t2\t3\t1", " data\t1\t1", "data ", "shape", "shape\t2\t3",
         "shape\t2\t3\t1\t1", "shape\t2\t3\t-", "shape\t02\t3\t1", "shape\t256\t3\t1",
@@ -676,6 +730,7 @@ fn main() -> ExitCode {
         all_patterns(t, random, m, w, c);
     }
     every_shape(t, random);
+    named_groups(t, random);
     repairs_then_recovery(t, random);
     desk_handles(t);
     desk_serves(t);

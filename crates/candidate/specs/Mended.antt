@@ -3,11 +3,13 @@ use mathlib.Core.Path.{_≡_}
 use mathlib.Core.Bool.{false}
 use mathlib.Core.List.{List}
 use Prim.Native.Nat.{ℕ, _*_, _/_, _%_, _≤_, _<_}
+use lib.Dec.{T}
 use lib.ListN.{length, getD}
 use Rattle.code.specs.Edition.{bytes}
-use Rattle.code.specs.Word.{firstAcross, secondAcross}
+use Rattle.code.specs.Word.{isLocal, firstAcross, secondAcross}
 use Rattle.code.specs.Marks.{lost, lostIn, excess}
 use Rattle.code.specs.Recovery.{Agrees}
+use Rattle.code.specs.Repair.{Satisfies}
 use Rattle.code.specs.Stretch.{stretch}
 use Rattle.code.specs.Combined.{combined}
 use Rattle.code.specs.Lone.{lone}
@@ -51,8 +53,10 @@ pub data Mended (m w c : ℕ) (marks kept before after : List ℕ) : Type 0 wher
   one : {p q : ℕ} → FreePlaces marks kept 1 p q → MendedOne m w c p kept before after → Mended m w c marks kept before after
   two : {p q : ℕ} → FreePlaces marks kept 2 p q → MendedTwo m w c p q kept before after → Mended m w c marks kept before after
 
--- What the candidate is: the present symbols of the word and, where the excess is at most two, the only codeword that can agree with them.
+-- What the candidate is: the present symbols of the word and, where the excess is at most two, the only codeword that can agree with them;
+-- a group that some filling satisfies is satisfied.
 pub record IsCandidate (m w c : ℕ) (marks word x : List ℕ) : Type 0 where
   pub size : length x ≡ m * w
   pub present : (p : ℕ) → p < m * w → lost marks p ≡ false → getD x p 0 ≡ getD word p 0
   pub only : excess m w c marks ≤ 2 → (y : List ℕ) → Agrees bytes m w c marks word y → x ≡ y
+  pub satisfied : (g : ℕ) → g < m → (y : List ℕ) → Satisfies bytes w c (stretch w g marks) (stretch w g word) y → T (isLocal bytes w c x g)

@@ -1,22 +1,34 @@
 -- The whole: the candidate has the present symbols, and is the only codeword that can agree with them.
-use mathlib.Core.Path.{_≡_, refl, sym, ap, ap₂, _∙_}
+use mathlib.Core.Path.{_≡_, refl, sym, ap, ap₂, _∙_, subst}
+use mathlib.Core.Bool.{Bool, true, false, not, _&&_}
 use mathlib.Core.List.{List, []}
-use Prim.Native.Nat.{ℕ, zero, suc, _*_, _/_, _%_, _<_, _≤_}
+use Prim.Native.Nat.{ℕ, zero, suc, _+_, _*_, _/_, _%_, _<_, _≤_}
+use native.Mathlib.Nat.{le-refl, mul-le-mul-right}
 use native.Mathlib.Omega.{arith}
+use lib.Dec.{T, eqb}
 use lib.ListN.{length, getD}
+use lib.Seq.{ext-getD}
+use Rattle.counting.specs.Test.{anyBelow}
+use Rattle.counting.specs.TestLaws.{any-at, none-at}
 use Rattle.binary_field.specs.Xor.{_⊕_}
-use Rattle.binary_field.specs.XorLaws.{⊕-zero-r}
-use Rattle.binary_field.specs.ProductLaws.{product-lt}
-use Rattle.binary_field.specs.SumLaws.{sum-lt}
+use Rattle.binary_field.specs.XorLaws.{⊕-zero-r, ⊕-self}
+use Rattle.binary_field.specs.ProductLaws.{product-lt, product-zero}
+use Rattle.binary_field.specs.SumLaws.{sum-lt, sum-zero}
 use Rattle.shape.specs.Shapes.{Good}
-use Rattle.code.specs.Edition.{bytes, bytes-sound}
+use Rattle.code.specs.Edition.{bytes, bytes-sound, times}
 use Rattle.code.specs.EditionLaws.{bytes-few}
-use Rattle.code.specs.Word.{groupSum, wordSum, Symbols}
-use Rattle.code.specs.Marks.{excess}
+use Rattle.code.specs.Word.{groupSum, wordSum, localSum, Symbols}
+use Rattle.code.specs.WordLaws.{local-zero, zero-local}
+use Rattle.code.specs.Marks.{lost, lostIn, excess}
+use Rattle.code.specs.DeterminedLaws.{local-unique}
+use Rattle.code.specs.FillingLaws.{filling-symbols}
 use Rattle.code.specs.Recovery.{Agrees}
+use Rattle.code.specs.Repair.{Satisfies}
 use Rattle.code.specs.Stretch.{stretch}
+use Rattle.code.specs.StretchLaws.{stretch-at, stretch-below, stretch-length, stretch-lost, stretch-sum, stretch-count, own-place}
 use Rattle.code.specs.Combined.{combined}
-use Rattle.code.specs.CombinedLaws.{combined-at}
+use Rattle.code.specs.CombinedLaws.{combined-at, combined-group, place-less}
+use Rattle.erasures.specs.Kept.{free}
 use Rattle.code.specs.Lone.{lone}
 use Rattle.erasures.specs.Whole.{KeptAll}
 use Rattle.erasures.specs.Places.{FreePlaces, freeAt}
@@ -28,6 +40,22 @@ use Rattle.candidate.specs.Solved.{pairAt}
 use Rattle.candidate.specs.SolvedLaws.{combined-length, combined-cong, combined-none, combined-two, found-none, found-one, found-two}
 use Rattle.candidate.specs.Mended.{MendedOne, MendedTwo, Mended, IsCandidate}
 
+-- a free place is lost and not kept
+free-parts : (marks kept : List ℕ) (p : ℕ) → T (free marks kept p) → (lost marks p ≡ true) × (lost kept p ≡ false)
+free-parts marks kept p t = go (lost marks p) (lost kept p) refl refl t
+  where
+    go : (a b : Bool) → lost marks p ≡ a → lost kept p ≡ b → T (a && not b) → (lost marks p ≡ true) × (lost kept p ≡ false)
+    go true false e f t = (e, f)
+    go true true e f t = absurd t
+    go false b e f t = absurd t
+
+no-free : (marks kept : List ℕ) (p : ℕ) → free marks kept p ≡ false → lost kept p ≡ false → lost marks p ≡ false
+no-free marks kept p n e = go (lost marks p) refl
+  where
+    go : (a : Bool) → lost marks p ≡ a → a ≡ false
+    go true d = sym (ap₂ (λ a b. a && not b) d e) ∙ n
+    go false d = refl
+
 word-lt : (m w : ℕ) (word : List ℕ) (h : ℕ → ℕ → ℕ) → wordSum bytes m w word h < 256
 unfolding wordSum groupSum
 word-lt m w word h = sum-lt 8 m _ (λ g _. sum-lt 8 w _ (λ j _. product-lt 8 285 _ _))
@@ -37,6 +65,50 @@ module _ (m w c : ℕ) (good : Good m w c) (marks kept word blanked base out : L
     (K : KeptAll m w c marks kept) (B : Blanked marks word blanked) (G : GroupsFilled m w kept blanked base) where
   wide : 0 < w
   wide = let k = good .wide in omega arith
+
+  -- ---- a group that some filling satisfies
+  module _ (g : ℕ) (l : g < m) (y : List ℕ) (Y : Satisfies bytes w c (stretch w g marks) (stretch w g word) y) where
+    part-length : (xs : List ℕ) → length xs ≡ m * w → length (stretch w g xs) ≡ w
+    part-length xs e = stretch-length w g xs (subst (λ n. suc g * w ≤ n) (sym e) (mul-le-mul-right w l))
+
+    y-length : length y ≡ w
+    y-length = Y .fills .size ∙ part-length word (word-symbols .size)
+
+    -- where no place of the group is free, the base has the filling there
+    base-filled : ((j : ℕ) → j < w → lost kept (g * w + j) ≡ false → lost marks (g * w + j) ≡ false) → stretch w g base ≡ y
+    base-filled none =
+        ext-getD 0 (stretch w g base) y (part-length base (base-symbols .size) ∙ sym y-length) λ j h.
+        let k : j < w = subst (λ n. j < n) (part-length base (base-symbols .size)) h in
+        subst (λ n. getD (stretch w g base) n 0 ≡ getD y n 0) (own-place w j)
+        (local-unique bytes bytes-sound w (lostIn w kept g) 0 wide (good .narrow) (stretch w g kept) (stretch w g base) y
+        (stretch-below w g base 256 (base-symbols .each))
+        (filling-symbols bytes w (stretch w g marks) (stretch w g word) y
+        (record { size = part-length word (word-symbols .size); each = stretch-below w g word 256 (word-symbols .each) }) (Y .fills) .each)
+        (λ e i. stretch-sum bytes w g base _ ∙ G .zero g l e i ∙ sym (local-zero bytes w c y 0 (Y .passes) e (let q = K .kept-few g l in omega arith)))
+        (λ i b e. subst (λ n. getD (stretch w g base) n 0 ≡ getD y n 0) (sym (own-place w i)) (present i b (sym (stretch-lost w g kept i b) ∙ e)))
+        (subst (λ n. n ≤ lostIn w kept g) (sym (stretch-count w g kept)) (le-refl (lostIn w kept g))) j k)
+      where
+        in-word : (i : ℕ) → i < w → g * w + i < length word
+        in-word i b = subst (λ n. g * w + i < n) (sym (word-symbols .size)) (place-less m w g i l b)
+
+        present : (i : ℕ) → i < w → lost kept (g * w + i) ≡ false → getD (stretch w g base) i 0 ≡ getD y i 0
+        present i b e =
+            stretch-at w g base i b ∙ G .present (g * w + i) e ∙ B .present (g * w + i) (in-word i b) (none i b e) ∙ sym (stretch-at w g word i b)
+            ∙ sym (Y .fills .present i (subst (λ n. i < n) (sym (part-length word (word-symbols .size))) b)
+            (ap (λ b. eqb b 1) (stretch-at w g marks i b) ∙ none i b e))
+
+    base-local : (e : ℕ) → e < c → localSum bytes w base g e ≡ 0
+    base-local e h = go (anyBelow w (λ j. free marks kept (g * w + j))) refl
+      where
+        go : (v : Bool) → anyBelow w (λ j. free marks kept (g * w + j)) ≡ v → localSum bytes w base g e ≡ 0
+        go true t =
+            let a = any-at w (λ j. free marks kept (g * w + j)) (subst T (sym t) tt) in
+            let f = free-parts marks kept (g * w + a .0) (a .2) in
+            G .zero g l e (subst (λ n. e < n) (sym (K .kept-full g (a .0) l (a .1) (f .0) (f .1))) h)
+        go false t =
+            sym (stretch-sum bytes w g base _)
+            ∙ ap (λ s. localSum bytes w s 0 e) (base-filled (λ j b q. no-free marks kept (g * w + j) (none-at w (λ j. free marks kept (g * w + j)) t j b) q))
+            ∙ local-zero bytes w c y 0 (Y .passes) e h
 
   -- from a frame and multiples that give the codeword
   of-frame : (x : ℕ) (f : ℕ → ℕ) (H : ℕ → List ℕ) (u : ℕ → ℕ) → Frame bytes m w c marks kept word base x f H → out ≡ combined bytes (m * w) base x u H
@@ -48,6 +120,9 @@ module _ (m w c : ℕ) (good : Good m w c) (marks kept word blanked base out : L
         ∙ ap₂ _⊕_ (F .base-present p l e) (ways-present bytes bytes-sound m w c (bytes-few (good .few)) wide (good .narrow) marks kept word base x f H F u p l e)
         ∙ ⊕-zero-r (getD word p 0);
     only = λ low y A. is ∙ only low y A;
+    satisfied = λ g l y Y. zero-local bytes w c out g (λ e h.
+        ap (λ s. localSum bytes w s g e) is ∙ combined-group bytes m w x base u H g _ l
+        ∙ ap₂ _⊕_ (base-local g l y Y e h) (sum-zero x _ (λ i k. ap (times bytes (u i)) (F .way-local i k g l e h) ∙ product-zero 8 285 (u i))) ∙ ⊕-self 0);
   }
 
   module _ (p q : ℕ) where

@@ -162,32 +162,32 @@ module _ (E : Edition) (S : Sound E) (w c : ℕ) (wide : 0 < w) (narrow : w ≤ 
   ]
 
   -- ---- "One group's repair obeys the same rule over its own equations", on its stretch
-  module _ (part : List ℕ) (s : Symbols E w part) where
-    pub local-eight : ((repaired E w c part marks) .number ≡ 8) ↔ LocallyUndetermined E w c marks
+  module _ (g : ℕ) (part : List ℕ) (s : Symbols E w part) where
+    pub local-eight : ((repaired E w c g part marks) .number ≡ 8) ↔ LocallyUndetermined E w c marks
     local-eight = (
-      (λ e. many-undetermined (eight-many E S w c wide narrow part marks s e)),
-      (λ U. ap (λ o. o .number) (repaired-eight E S w c wide narrow part marks s (undetermined-many U))),
+      (λ e. many-undetermined (eight-many E S w c wide narrow part marks s g e)),
+      (λ U. ap (λ o. o .number) (repaired-eight E S w c wide narrow part marks s g (undetermined-many U))),
     )
 
-    pub local-nine : ((repaired E w c part marks) .number ≡ 9)
+    pub local-nine : ((repaired E w c g part marks) .number ≡ 9)
         ↔ ((¬ LocallyUndetermined E w c marks) × ((y : List ℕ) → LocallyAgrees E w c marks part y → ⊥))
     local-nine = (
       (λ e.
-          let N = nine-contradictory E S w c wide narrow part marks s e in
+          let N = nine-contradictory E S w c wide narrow part marks s g e in
           ((λ U. let k = undetermined-many U in let l = N .0 in omega arith), (λ y A. N .1 y (agrees-satisfies E w c marks part y (s .size) A)))),
       (λ P.
           ap (λ o. o .number)
-          (repaired-nine E S w c wide narrow part marks s (low (P .0)) (λ y Y. P .1 y (satisfies-agrees E w c marks part y s Y)))),
+          (repaired-nine E S w c wide narrow part marks s g (low (P .0)) (λ y Y. P .1 y (satisfies-agrees E w c marks part y s Y)))),
     )
 
-    pub local-done : ((repaired E w c part marks) .number ≡ 0)
+    pub local-done : ((repaired E w c g part marks) .number ≡ 0)
         ↔ ((¬ LocallyUndetermined E w c marks) × ((y : List ℕ) × LocallyAgrees E w c marks part y))
     local-done = (
       (λ e. (
         (λ U. let k = local-eight .1 U in omega arith),
-        ((repaired E w c part marks) .word, satisfies-agrees E w c marks part _ s (done-single E S w c wide narrow part marks s e .passes)),
+        ((repaired E w c g part marks) .word, satisfies-agrees E w c marks part _ s (done-single E S w c wide narrow part marks s g e .passes)),
       )),
       (λ P.
           ap (λ o. o .number)
-          (repaired-done E S w c wide narrow part marks s (P .1 .0) (low (P .0)) (agrees-satisfies E w c marks part (P .1 .0) (s .size) (P .1 .1)))),
+          (repaired-done E S w c wide narrow part marks s g (P .1 .0) (low (P .0)) (agrees-satisfies E w c marks part (P .1 .0) (s .size) (P .1 .1)))),
     )

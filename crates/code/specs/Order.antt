@@ -39,7 +39,7 @@ module _ (E : Edition) (S : Sound E) (m w c : ℕ) (few : m ≤ S .r) (wide : 0 
 
   -- The recovery after a list of repairs and the recovery at once.
   pub record SameRecovery (gs : List ℕ) (h : Held) : Type 0 where
-    -- the same number and, where it is 0, the same n bytes and the same marks
+    -- the same number, the same group and, where the number is 0, the same n bytes and the same marks
     pub same : SameEnd (recovered E m w c ((afterRepairs E m w c gs h) .word) ((afterRepairs E m w c gs h) .marks)) (recovered E m w c (h .word) (h .marks))
     -- the number is 8 exactly when the excess of the start's marks is above two
     pub eight : (recovered E m w c ((afterRepairs E m w c gs h) .word) ((afterRepairs E m w c gs h) .marks)) .number ≡ 8 → 2 < excess m w c (h .marks)

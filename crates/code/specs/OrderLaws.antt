@@ -9,6 +9,7 @@ use native.Mathlib.Decide.{decLt, ℕ-discrete}
 use borrow.Author.Tests.{lt-ltb, le-ltb, ltb-false}
 use lib.Dec.{T, ltb, eqb}
 use lib.ListN.{length, getD, replicate, length-replicate, getD-replicate}
+use Rattle.counting.specs.FirstLaws.{first-ext}
 use Rattle.counting.specs.Count.{one}
 use Rattle.counting.specs.CountLaws.{total-ext, total-zero}
 use Rattle.code.specs.Edition.{Edition, Sound}
@@ -17,26 +18,29 @@ use Rattle.code.specs.WordLaws.{equations, zero-local}
 use Rattle.code.specs.Marks.{lost, lostIn, groupExcess, excess}
 use Rattle.code.specs.FillingLaws.{filling-symbols}
 use Rattle.code.specs.DeterminedLaws.{above-two}
-use Rattle.code.specs.Answer.{Outcome, refused}
+use Rattle.code.specs.Answer.{Outcome}
 use Rattle.code.specs.Answer as Answer
 use Rattle.code.specs.AnswerLaws as AnswerLaws
 use Rattle.code.specs.Recovery.{Agrees, SameStart}
 use Rattle.code.specs.RecoveryLaws.{same-end, recovered-eight, eight-undetermined}
 use Rattle.code.specs.RecoveryLaws as RecoveryLaws
 use Rattle.code.specs.Stretch.{stretch, withStretch}
-use Rattle.code.specs.StretchLaws.{stretch-at, stretch-length, with-same, with-length, with-inside, with-before, with-after, stretch-below, stretch-sum, stretch-count, place-cases}
+use Rattle.code.specs.StretchLaws.{stretch-at, stretch-length, with-same, with-length, with-inside, with-before, with-after, stretch-below, stretch-sum, stretch-count, place-cases, stretch-ext, stretch-with}
+use Rattle.code.specs.Contradiction.{isBroken, contradictingGroup}
+use Rattle.code.specs.ContradictionLaws.{filling-sound, same-broken}
 use Rattle.code.specs.Repair.{repaired, repairedGroup, Satisfies}
 use Rattle.code.specs.RepairLaws.{only-filling}
 use Rattle.code.specs.Order.{Held, afterRepair, afterRepairs, Fits, SameRecovery}
 
 module _ (E : Edition) (S : Sound E) (m w c : ℕ) (few : m ≤ S .r) (wide : 0 < w) (narrow : w ≤ E .small) where
   same-refl : (h : Held) → SameStart E m w c (h .word) (h .marks) (h .word) (h .marks)
-  same-refl h = record { excess-same = refl; forth = λ y A. A; back = λ y A. A }
+  same-refl h = record { excess-same = refl; group-same = refl; forth = λ y A. A; back = λ y A. A }
 
   same-trans : (a b d : Held) → SameStart E m w c (a .word) (a .marks) (b .word) (b .marks) → SameStart E m w c (b .word) (b .marks) (d .word) (d .marks)
       → SameStart E m w c (a .word) (a .marks) (d .word) (d .marks)
   same-trans a b d P Q = record {
     excess-same = P .excess-same ∙ Q .excess-same;
+    group-same = P .group-same ∙ Q .group-same;
     forth = λ y A. Q .forth y (P .forth y A);
     back = λ y A. P .back y (Q .back y A);
   }
@@ -56,10 +60,11 @@ module _ (E : Edition) (S : Sound E) (m w c : ℕ) (few : m ≤ S .r) (wide : 0 
     part-symbols : Symbols E w (stretch w g (h .word))
     part-symbols = record { size = stretch-length w g (h .word) fits-word; each = stretch-below w g (h .word) (2 ^ E .bits) (F .symbols .each) }
 
-    -- a refused repair changes nothing
-    unchanged : (r : ℕ) → repaired E w c (stretch w g (h .word)) (stretch w g (h .marks)) ≡ refused r (stretch w g (h .word)) (stretch w g (h .marks))
+    -- a refused repair, by whatever number and group, changes nothing
+    unchanged : (r i : ℕ) → repaired E w c g (stretch w g (h .word)) (stretch w g (h .marks))
+        ≡ record { number = r; group = i; word = stretch w g (h .word); marks = stretch w g (h .marks) }
         → record { word = (repairedGroup E w c g (h .word) (h .marks)) .word; marks = (repairedGroup E w c g (h .word) (h .marks)) .marks } ≡ h
-    unchanged r e =
+    unchanged r i e =
         ap (λ o. record { word = withStretch w g (h .word) (o .word); marks = withStretch w g (h .marks) (o .marks) }) e
         ∙ ap (λ x. record { word = x; marks = withStretch w g (h .marks) (stretch w g (h .marks)) }) (with-same w g (h .word) fits-word)
         ∙ ap (λ x. record { word = h .word; marks = x }) (with-same w g (h .marks) fits-marks)
@@ -193,17 +198,51 @@ module _ (E : Edition) (S : Sound E) (m w c : ℕ) (few : m ≤ S .r) (wide : 0 
             (λ p k b e. A .agree p b (sym (lost-after p k) ∙ e) ∙ sym (word-after p k));
       }
 
+      -- which groups are broken: this one wasn't and isn't, the others are what they were
+      other-part : (xs : List ℕ) (ys : List ℕ) → length xs ≡ length ys → ((p : ℕ) → p < g * w → getD xs p 0 ≡ getD ys p 0)
+          → ((p : ℕ) → suc g * w ≤ p → getD xs p 0 ≡ getD ys p 0) → (i : ℕ) → ¬ (i ≡ g) → stretch w i xs ≡ stretch w i ys
+      other-part xs ys size before after i n = stretch-ext w i xs ys size λ j q. elim (decLt i g) [
+        | yes b ↦ before (i * w + j) (let z : suc i * w ≤ g * w = mul-le-mul-right w b in let e = suc-mul i w in omega arith)
+        | no b ↦ (let k : suc g ≤ i = omega arith in after (i * w + j) (let z : suc g * w ≤ i * w = mul-le-mul-right w k in omega arith))
+      ]
+
+      broken-same : (i : ℕ) → i < m → isBroken E w c word′ marks′ i ≡ isBroken E w c (h .word) (h .marks) i
+      unfolding word′ marks′
+      broken-same i k = elim (ℕ-discrete i g) [
+        | yes e ↦
+            subst (λ n. isBroken E w c word′ marks′ n ≡ isBroken E w c (h .word) (h .marks) n) (sym e)
+            (filling-sound E w c word′ marks′ g x now ∙ sym (filling-sound E w c (h .word) (h .marks) g x P))
+        | no n ↦
+            same-broken E w c word′ marks′ (h .word) (h .marks) i
+            (other-part word′ (h .word) (with-length w g (h .word) fits-word x x-size) word-before word-after i n)
+            (other-part marks′ (h .marks) (with-length w g (h .marks) fits-marks clear clear-size)
+            (with-before w g (h .marks) fits-marks clear clear-size) (with-after w g (h .marks) fits-marks clear clear-size) i n)
+      ]
+        where
+          own : stretch w g word′ ≡ x
+          own = stretch-with w g (h .word) x fits-word x-size
+
+          now : Satisfies E w c (stretch w g marks′) (stretch w g word′) x
+          now = record {
+            fills = record {
+              size = ap length (sym own);
+              present = λ p _ _. ap (λ z. getD z p 0) (sym own);
+              each = λ p _ _. x-symbols .each p;
+            };
+            passes = P .passes;
+          }
+
       repaired-kept : Kept h (record { word = word′; marks = marks′ })
-      unfolding excess
-      repaired-kept = record { fits = fits′; same = record { excess-same = total-ext m _ _ group-same; forth = forth; back = back } }
+      unfolding excess contradictingGroup
+      repaired-kept = record { fits = fits′; same = record { excess-same = total-ext m _ _ group-same; group-same = first-ext m _ _ broken-same; forth = forth; back = back } }
 
     -- one repair of a group of the word
     group-kept : Kept h (record { word = (repairedGroup E w c g (h .word) (h .marks)) .word; marks = (repairedGroup E w c g (h .word) (h .marks)) .marks })
     unfolding word′ marks′ clear
     group-kept =
-        elim (AnswerLaws.cases (2 ^ E .bits) (λ x. isLocal E w c x 0) (ltb c (lostIn w (stretch w g (h .marks)) 0)) (stretch w g (h .word)) (stretch w g (h .marks))) [
-          | Answer.eight _ e ↦ subst (Kept h) (sym (unchanged 8 e)) (record { fits = F; same = same-refl h })
-          | Answer.nine _ _ e ↦ subst (Kept h) (sym (unchanged 9 e)) (record { fits = F; same = same-refl h })
+        elim (AnswerLaws.cases (2 ^ E .bits) (λ x. isLocal E w c x 0) (ltb c (lostIn w (stretch w g (h .marks)) 0)) g (stretch w g (h .word)) (stretch w g (h .marks))) [
+          | Answer.eight _ e ↦ subst (Kept h) (sym (unchanged 8 0 e)) (record { fits = F; same = same-refl h })
+          | Answer.nine _ _ e ↦ subst (Kept h) (sym (unchanged 9 g e)) (record { fits = F; same = same-refl h })
           | Answer.done s x P e ↦
               subst (λ (o : Outcome). Kept h (record { word = withStretch w g (h .word) (o .word); marks = withStretch w g (h .marks) (o .marks) })) (sym e)
               (repaired-kept x (ltb-false c (lostIn w (stretch w g (h .marks)) 0) s) P)

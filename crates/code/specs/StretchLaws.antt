@@ -94,6 +94,29 @@ stretch-with w g xs part fits size =
     long : length (stretch w g (withStretch w g xs part)) ≡ w
     long = stretch-length w g (withStretch w g xs part) (subst (λ n. suc g * w ≤ n) (sym (with-length w g xs fits part size)) fits)
 
+-- lists of the same length have stretches of the same length
+pub stretch-lengths : (w g : ℕ) (xs ys : List ℕ) → length xs ≡ length ys → length (stretch w g xs) ≡ length (stretch w g ys)
+unfolding stretch
+stretch-lengths w g xs ys size =
+    omega (arith, length-take w (drop (g * w) xs), length-take w (drop (g * w) ys), length-drop (g * w) xs, length-drop (g * w) ys, size)
+
+-- a place inside a stretch, however long the list is
+pub in-stretch : (w g : ℕ) (xs : List ℕ) (j : ℕ) → j < length (stretch w g xs) → j < w
+unfolding stretch
+in-stretch w g xs j l = omega (arith, length-take w (drop (g * w) xs))
+
+pub in-list : (w g : ℕ) (xs : List ℕ) (j : ℕ) → j < length (stretch w g xs) → g * w + j < length xs
+unfolding stretch
+in-list w g xs j l = omega (arith, length-take w (drop (g * w) xs), length-drop (g * w) xs)
+
+-- lists of the same length that agree on a group have the same stretch of it
+pub stretch-ext : (w g : ℕ) (xs ys : List ℕ) → length xs ≡ length ys
+    → ((j : ℕ) → j < w → getD xs (g * w + j) 0 ≡ getD ys (g * w + j) 0) → stretch w g xs ≡ stretch w g ys
+stretch-ext w g xs ys size same =
+    ext-getD 0 (stretch w g xs) (stretch w g ys) (stretch-lengths w g xs ys size) λ j l.
+    let k : j < w = in-stretch w g xs j l in
+    stretch-at w g xs j k ∙ same j k ∙ sym (stretch-at w g ys j k)
+
 -- place j of a stretch by itself, as its only group has it
 pub own-place : (w j : ℕ) → 0 * w + j ≡ j
 own-place w j = ap (λ n. n + j) (zero-mul w) ∙ zero-add j

@@ -51,6 +51,14 @@ any-intro (suc n) f i h t = go (eq-or-lt-of-le (le-of-suc-le-suc h)) (λ l. any-
     go (inl e) ih = either-l (f n) (anyBelow n f) (subst (λ x. T (f x)) e t)
     go (inr l) ih = either-r (f n) (anyBelow n f) (ih l)
 
+-- f holds of none below n
+pub none-at : (n : ℕ) (f : ℕ → Bool) → anyBelow n f ≡ false → (i : ℕ) → i < n → f i ≡ false
+none-at n f e i l = go (f i) refl
+  where
+    go : (v : Bool) → f i ≡ v → v ≡ false
+    go true d = absurd (subst T e (any-intro n f i l (subst T (sym d) tt)))
+    go false d = refl
+
 pub same-from-l : (a b : Bool) → T (same a b) → T a → T b
 same-from-l true b t s = t
 same-from-l false b t s = absurd s

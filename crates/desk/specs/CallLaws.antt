@@ -14,8 +14,9 @@ use Rattle.desk.specs.declared.Job.{Job}
 use Rattle.desk.specs.declared.Desk.{Desk}
 use Rattle.desk.specs.declared.Opened.{Opened}
 use Rattle.desk.specs.declared.Counted.{Counted}
-use Rattle.desk.specs.Desks.{isTaken}
-use Rattle.desk.specs.Calls.{pick, freeFrom, freeSlot, openNumber, openBy, openedAt, readBy, countedAt, closeBy, serveBy}
+use Rattle.desk.specs.Desks.{isTaken, jobAt, slotOf}
+use Rattle.desk.specs.Calls.{pick, freeFrom, freeSlot, openNumber, openBy, openedAt, readBy, countedAt, closeBy}
+use Rattle.desk.specs.Calls.{recoveryOf, groupOfNine, serveBy}
 use Rattle.desk.specs.Laws.{Sound, sound-parts}
 
 -- "On every refusal all lent buffers and the desk stay as they were."
@@ -41,7 +42,8 @@ close-refused zero some handle desk = absurd (some refl)
 close-refused (suc r) some handle desk = refl
 
 pub serve-refused : (r : ℕ) → (r ≡ 0 → ⊥) → (handle : ℕ) (word : List ℕ) (desk : Desk)
-    → serveBy r handle word desk ≡ record { number = r; word = word; desk = desk }
+    → serveBy r handle word desk
+    ≡ record { number = r; group = groupOfNine r ((recoveryOf (jobAt desk (slotOf handle)) word) .group); word = word; desk = desk }
 serve-refused zero some handle word desk = absurd (some refl)
 serve-refused (suc r) some handle word desk = refl
 

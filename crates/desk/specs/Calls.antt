@@ -1,6 +1,6 @@
 -- What the calls on a desk answer, and what the desk and the word hold then.
 use mathlib.Core.Path.{_≡_}
-use mathlib.Core.Bool.{Bool, true, false, not}
+use mathlib.Core.Bool.{Bool, true, false, not, cond}
 use mathlib.Core.List.{List, [], _∷_, _++_}
 use Prim.Native.Nat.{ℕ, zero, suc, _+_, _-_, _*_}
 use lib.Dec.{eqb}
@@ -15,7 +15,8 @@ use Rattle.desk.specs.declared.Desk.{Desk}
 use Rattle.desk.specs.declared.Opened.{Opened}
 use Rattle.desk.specs.declared.Counted.{Counted}
 use Rattle.shape.specs.declared.Answer.{Answer}
-use Rattle.shape.specs.Answers.{answerAt, answerNumber}
+use Rattle.shape.specs.declared.Mending.{Mending}
+use Rattle.shape.specs.Answers.{answerAt, answerNumber, mendingAt, mendingNumber, mendingGroup}
 use Rattle.desk.specs.Desks.{emptyJob, jobAt, isTaken, slotOf, marksOf, isSound, isOpen}
 
 -- 31: "the lent desk is not sound", before all others
@@ -191,9 +192,14 @@ servedOnce job = record {
   marks = job .marks;
 }
 
--- A number given back, 0 for done, and the word and the desk then.
+-- "A 9 now carries a group number"; with any other number it is 0
+abbrev pub groupOfNine : ℕ → ℕ → ℕ
+groupOfNine number group = cond (eqb number 9) group 0
+
+-- A number given back, 0 for done, the group that a 9 carries, and the word and the desk then.
 pub record Serving : Type 0 where
   pub number : ℕ
+  pub group : ℕ
   pub word : List ℕ
   pub desk : Desk
 
@@ -201,18 +207,25 @@ pub record Serving : Type 0 where
 abbrev pub serveBy : ℕ → ℕ → List ℕ → Desk → Serving
 serveBy zero handle word desk = record {
   number = 0;
+  group = 0;
   word = (recoveryOf (jobAt desk (slotOf handle)) word) .word;
   desk = withJob desk (slotOf handle) (servedOnce (jobAt desk (slotOf handle)));
 }
-serveBy (suc r) handle word desk = record { number = suc r; word = word; desk = desk }
+serveBy (suc r) handle word desk = record {
+  number = suc r;
+  group = groupOfNine (suc r) ((recoveryOf (jobAt desk (slotOf handle)) word) .group);
+  word = word;
+  desk = desk;
+}
 
 -- the whole call
 unfoldable pub serveOf : ℕ → List ℕ → Desk → Serving
 serveOf handle word desk = serveBy (serveNumber handle word desk) handle word desk
 
 -- what Serve leaves and answers
-pub record ServeGives (o : Serving) (word : List ℕ) (desk : Desk) (answer : Answer) : Type 0 where
+pub record ServeGives (o : Serving) (word : List ℕ) (desk : Desk) (answer : Mending) : Type 0 where
   pub word-is : word ≡ o .word
   pub desk-is : desk ≡ o .desk
-  pub answer-is : answer ≡ answerAt (o .number)
-  pub number-is : answerNumber answer ≡ o .number
+  pub answer-is : answer ≡ mendingAt (o .number) (o .group)
+  pub number-is : mendingNumber answer ≡ o .number
+  pub group-is : mendingGroup answer ≡ o .group

@@ -1,16 +1,17 @@
 -- Laws of Serve.
-use mathlib.Core.Path.{_≡_, refl, ap, _∙_}
-use mathlib.Core.Bool.{true, not}
+use mathlib.Core.Path.{_≡_, refl, sym, ap, _∙_, subst}
+use mathlib.Core.Bool.{Bool, true, false, not, cond}
 use mathlib.Core.List.{List}
 use Prim.Native.Nat.{ℕ, zero, suc, _*_, _^_, _≤_}
 use native.Mathlib.Omega.{arith}
 use borrow.Author.Tests.{not-false, eq-eqb, ne-eqb, eqb-true, eqb-false}
 use lib.Dec.{eqb, ltb}
 use lib.ListN.{length}
-use Rattle.shape.specs.declared.Answer.{Answer}
-use Rattle.shape.specs.Answers.{answerAt}
+use Rattle.shape.specs.declared.Mending.{Mending}
+use Rattle.shape.specs.Answers.{mendingAt, mendingNumber, mendingGroup}
+use Rattle.shape.specs.AnswersLaws.{mending-number, mending-refused}
 use Rattle.shape.specs.Refusals.{refuse, _orElse_, unlessRefused}
-use Rattle.shape.specs.RefusalsLaws.{refuse-zero, orElse-zero}
+use Rattle.shape.specs.RefusalsLaws.{unless-refused, refuse-zero, orElse-zero}
 use Rattle.shape.specs.Shapes.{placeCount}
 use Rattle.shape.specs.Laws.{places-most}
 use Rattle.marks.specs.RefusalLaws.{orElse-first}
@@ -19,30 +20,53 @@ use Rattle.code.specs.Edition.{bytes}
 use Rattle.code.specs.Word.{isCodeword}
 use Rattle.code.specs.Marks.{excess}
 use Rattle.code.specs.AnswerLaws.{refused-unchanged}
+use Rattle.code.specs.Contradiction.{contradictingGroup}
 use Rattle.code.specs.Recovery.{recovered}
 use Rattle.recover.specs.Service.{recoverRefusal, recoverOf, unlessBefore}
 use Rattle.desk.specs.declared.Job.{Job}
 use Rattle.desk.specs.declared.Desk.{Desk}
-use Rattle.desk.specs.Desks.{jobAt, slotOf, isGood, marksOf, isOpen}
-use Rattle.desk.specs.Calls.{handleRefusal, recoveryOf, jobNumber, serveNumber, serveBy, serveOf}
+use Rattle.desk.specs.Desks.{jobAt, slotOf, isGood, marksOf, isSound, isOpen}
+use Rattle.desk.specs.Calls.{handleRefusal, recoveryOf, jobNumber, serveNumber, groupOfNine, serveBy, serveOf, ServeGives}
 use Rattle.desk.specs.Laws.{judged-marked, sound-parts, taken-of, open-slot}
 use Rattle.desk.specs.CallLaws.{serve-refused}
 
--- ---- an answer's number
+-- ---- an answer's number and group
 
-pub answer-done : (n : ℕ) → answerAt n ≡ Answer.Done → n ≡ 0
-answer-done zero e = refl
-answer-done (suc n) e = let z : _≡_ {A = ℕ} 0 1 = cc in absurd (omega arith)
+pub mending-is : (n g : ℕ) {a : Mending} → a ≡ mendingAt n g → n ≡ mendingNumber a
+mending-is n g e = sym (mending-number n g) ∙ ap mendingNumber (sym e)
 
-pub answer-number-is : (n r : ℕ) → answerAt n ≡ Answer.Refused r → n ≡ r
-answer-number-is zero r e = let z : _≡_ {A = ℕ} 0 1 = cc in absurd (omega arith)
-answer-number-is (suc n) r e = cc
+pub mending-some : (n g r : ℕ) → Mending.Refused r ≡ mendingAt n g → n ≡ 0 → ⊥
+mending-some zero g r e h = let z : _≡_ {A = ℕ} 0 1 = cc in omega arith
+mending-some (suc n) g r e h = omega arith
 
-pub answer-some : (n r : ℕ) → answerAt n ≡ Answer.Refused r → n ≡ 0 → ⊥
-answer-some zero r e h = let z : _≡_ {A = ℕ} 0 1 = cc in omega arith
-answer-some (suc n) r e h = omega arith
+-- with a number that is not 9 the group is not looked at
+pub mending-of-nine : (n g : ℕ) → mendingAt n g ≡ mendingAt n (groupOfNine n g)
+mending-of-nine zero g = refl
+mending-of-nine (suc n) g = go (eqb (suc n) 9)
+  where
+    go : (b : Bool) → cond b (Mending.Contradictory g) (Mending.Refused (suc n)) ≡ cond b (Mending.Contradictory (cond b g 0)) (Mending.Refused (suc n))
+    go true = refl
+    go false = refl
+
+pub mending-group : (n g : ℕ) → mendingGroup (mendingAt n g) ≡ groupOfNine n g
+mending-group zero g = refl
+mending-group (suc n) g = go (eqb (suc n) 9)
+  where
+    go : (b : Bool) → mendingGroup (cond b (Mending.Contradictory g) (Mending.Refused (suc n))) ≡ cond b g 0
+    go true = refl
+    go false = refl
 
 -- ---- the job of an open handle
+
+-- 31 and 12 are not 9
+handle-not-nine : (handle : ℕ) (desk : Desk) → handleRefusal handle desk ≡ 9 → ⊥
+unfolding handleRefusal
+handle-not-nine handle desk = go (not (isSound desk)) (not (isOpen desk handle))
+  where
+    go : (u v : Bool) → (refuse 31 u orElse refuse 12 v) ≡ 9 → ⊥
+    go true v e = let z : _≡_ {A = ℕ} 31 9 = e in omega arith
+    go false true e = let z : _≡_ {A = ℕ} 12 9 = e in omega arith
+    go false false e = let z : _≡_ {A = ℕ} 0 9 = e in omega arith
 
 pub open-good : (handle : ℕ) (desk : Desk) → handleRefusal handle desk ≡ 0 → isGood (jobAt desk (slotOf handle)) ≡ true
 unfolding handleRefusal
@@ -67,7 +91,8 @@ recover-unchanged m w c word marks = go (recoverRefusal m w c word marks)
   where
     go : (r : ℕ) → ((unlessBefore r (recovered bytes m w c word marks) word marks) .number ≡ 0 → ⊥)
         → (unlessBefore r (recovered bytes m w c word marks) word marks) .word ≡ word
-    go zero h = refused-unchanged (2 ^ bytes .bits) (isCodeword bytes m w c) (ltb 2 (excess m w c marks)) word marks h .0
+    go zero h =
+        refused-unchanged (2 ^ bytes .bits) (isCodeword bytes m w c) (ltb 2 (excess m w c marks)) (contradictingGroup bytes m w c word marks) word marks h .0
     go (suc r) h = refl
 
 pub unless-same : (r : ℕ) (written lent : List ℕ) → ((r ≡ 0 → ⊥) → written ≡ lent) → written ≡ unlessRefused r written lent
@@ -101,13 +126,40 @@ module _ (job : Job) (word : List ℕ) where
 -- ---- what Serve gives
 
 module _ (handle : ℕ) (word : List ℕ) (desk : Desk) where
-  pub serve-handle : (r : ℕ) → (r ≡ 0 → ⊥) → handleRefusal handle desk ≡ r → serveOf handle word desk ≡ record { number = r; word = word; desk = desk }
+  group : ℕ
+  group = (recoveryOf (jobAt desk (slotOf handle)) word) .group
+
+  -- of an answer that is not done
+  gives-by : (n : ℕ) → (n ≡ 0 → ⊥) → (word′ : List ℕ) → word′ ≡ word → (a : Mending) → a ≡ mendingAt n group
+      → ServeGives (serveBy n handle word desk) word′ desk a
+  unfolding group
+  gives-by n some word′ d a e =
+      subst (λ o. ServeGives o word′ desk a) (sym (serve-refused n some handle word desk)) (record {
+        word-is = d;
+        desk-is = refl;
+        answer-is = e ∙ mending-of-nine n group;
+        number-is = sym (mending-is n group e);
+        group-is = ap mendingGroup e ∙ mending-group n group;
+      })
+
+  -- 31 or 12
+  pub gives-handle : (r : ℕ) → (r ≡ 0 → ⊥) → handleRefusal handle desk ≡ r → ServeGives (serveOf handle word desk) word desk (Mending.Refused r)
   unfolding serveOf serveNumber
-  serve-handle r some e =
-      ap (λ n. serveBy (n orElse jobNumber (jobAt desk (slotOf handle)) word) handle word desk) e
-      ∙ ap (λ n. serveBy n handle word desk) (orElse-first r (jobNumber (jobAt desk (slotOf handle)) word) some)
-      ∙ serve-refused r some handle word desk
+  gives-handle r some e =
+      subst (λ n. ServeGives (serveBy n handle word desk) word desk (Mending.Refused r))
+      (sym (ap (λ n. n orElse jobNumber (jobAt desk (slotOf handle)) word) e ∙ orElse-first r (jobNumber (jobAt desk (slotOf handle)) word) some))
+      (gives-by r some word refl (Mending.Refused r) (sym (mending-refused r group some (λ k. handle-not-nine handle desk (e ∙ k)))))
 
   pub serve-job : handleRefusal handle desk ≡ 0 → serveOf handle word desk ≡ serveBy (jobNumber (jobAt desk (slotOf handle)) word) handle word desk
   unfolding serveOf serveNumber
   serve-job e = ap (λ n. serveBy (n orElse jobNumber (jobAt desk (slotOf handle)) word) handle word desk) e
+
+  -- 5, 13, or 9 with the group of the recovery
+  pub gives-job : handleRefusal handle desk ≡ 0 → (jobNumber (jobAt desk (slotOf handle)) word ≡ 0 → ⊥) → (word′ : List ℕ)
+      → word′ ≡ unlessRefused (jobNumber (jobAt desk (slotOf handle)) word) ((recoveryOf (jobAt desk (slotOf handle)) word) .word) word
+      → (a : Mending) → a ≡ mendingAt (jobNumber (jobAt desk (slotOf handle)) word) ((recoveryOf (jobAt desk (slotOf handle)) word) .group)
+      → ServeGives (serveOf handle word desk) word′ desk a
+  unfolding group
+  gives-job e some word′ d a q =
+      subst (λ o. ServeGives o word′ desk a) (sym (serve-job e))
+      (gives-by (jobNumber (jobAt desk (slotOf handle)) word) some word′ (d ∙ unless-refused _ _ _ some) a q)

@@ -1,13 +1,14 @@
 // The desk: a table of eight open recovery jobs that the caller lends.
 use judge::Judged;
 use shape::Answer;
+use shape::Mending;
 use shape::Shape;
 ghost use mathlib.Core.Path.{_≡_};
 ghost use mathlib.Core.Bool.{true};
 ghost use mathlib.Core.List.{_++_};
 ghost use Prim.Native.Nat.{_-_, _≤_, _<_};
 ghost use lib.ListN.{length, replicate};
-ghost use Rattle.shape.specs.Answers.{answerAt};
+ghost use Rattle.shape.specs.Answers.{mendingAt};
 ghost use Rattle.shape.specs.Refusals.{unlessRefused};
 ghost use Rattle.judge.specs.Answer.{judgedNumberOf};
 ghost use Rattle.desk.specs.Desks.{freshDesk, emptyJob, isIssued, isGood, isSoundSlot, hasIssue, isTwice, isSound, isOpen};
@@ -50,10 +51,16 @@ pub struct AfterOpen {
     pub answer: Opened,
 }
 
-// What Close or Serve answers, and the desk then.
+// What Close answers, and the desk then.
 pub struct After {
     pub desk: Desk,
     pub answer: Answer,
+}
+
+// What Serve answers, and the desk then.
+pub struct AfterServe {
+    pub desk: Desk,
+    pub answer: Mending,
 }
 
 // A slot with all its fields zero.
@@ -326,10 +333,10 @@ pub fn open(desk: Desk, m: usize, w: usize, c: usize, marks: &[u8]) -> AfterOpen
     }
 }
 
-// What a good job does with a word: refuses it by 5, 13 or 9, or recovers it.
-fn serve_job(job: Job, word: &mut [u8]) -> Answer
+// What a good job does with a word: refuses it by 5, 13, or 9 with a group, or recovers it.
+fn serve_job(job: Job, word: &mut [u8]) -> Mending
     requires { ⌜ isGood job ≡ true ⌝ }
-    ensures answer { λ r. ⌜ r ≡ answerAt (jobNumber job (now (word .entry))) ⌝ }
+    ensures answer { λ r. ⌜ r ≡ mendingAt (jobNumber job (now (word .entry))) ((recoveryOf job (now (word .entry))) .group) ⌝ }
     ensures word { λ r. ⌜ now (word .exit) ≡ unlessRefused (jobNumber job (now (word .entry))) ((recoveryOf job (now (word .entry))) .word) (now (word .entry)) ⌝ }
 {
     let m = job.m as usize;
@@ -337,10 +344,10 @@ fn serve_job(job: Job, word: &mut [u8]) -> Answer
     let c = job.c as usize;
     let n = m * w;
     if word.len() != n {
-        return Answer::Refused(5);
+        return Mending::Refused(5);
     }
     if job.served == 4294967295 {
-        return Answer::Refused(13);
+        return Mending::Refused(13);
     }
     let mut marks = job.marks;
     recover::recover(m, w, c, word, &mut marks[..n])
@@ -364,30 +371,34 @@ fn served_once(job: Job) -> Job
 }
 
 // The service Serve. The word is recovered by a copy of the job's marks, which stay.
-pub fn serve(desk: Desk, handle: u64, word: &mut [u8]) -> After
+pub fn serve(desk: Desk, handle: u64, word: &mut [u8]) -> AfterServe
     ensures { λ r. ⌜ ServeGives (serveOf handle (now (word .entry)) desk) (now (word .exit)) (r .desk) (r .answer) ⌝ }
 {
     let r = handle_refusal(desk, handle);
     if r != 0 {
-        return After {
+        return AfterServe {
             desk: desk,
-            answer: Answer::Refused(r),
+            answer: Mending::Refused(r),
         };
     }
     let s = (handle % 8) as usize;
     let job = desk.jobs[s];
     match serve_job(job, word) {
-        Answer::Refused(r) => After {
+        Mending::Refused(r) => AfterServe {
             desk: desk,
-            answer: Answer::Refused(r),
+            answer: Mending::Refused(r),
         },
-        Answer::Done => {
+        Mending::Contradictory(group) => AfterServe {
+            desk: desk,
+            answer: Mending::Contradictory(group),
+        },
+        Mending::Done => {
             let raised = served_once(job);
             let mut d = desk;
             d.jobs[s] = raised;
-            After {
+            AfterServe {
                 desk: d,
-                answer: Answer::Done,
+                answer: Mending::Done,
             }
         }
     }
@@ -422,7 +433,7 @@ pub fn read_at(desk: &Desk, handle: u64) -> Counted
 }
 
 // Serve on the desk that the caller lends.
-pub fn serve_at(desk: &mut Desk, handle: u64, word: &mut [u8]) -> Answer
+pub fn serve_at(desk: &mut Desk, handle: u64, word: &mut [u8]) -> Mending
     ensures { λ r. ⌜ ServeGives (serveOf handle (now (word .entry)) (now (desk .entry))) (now (word .exit)) (now (desk .exit)) r ⌝ }
 {
     let d = *desk;

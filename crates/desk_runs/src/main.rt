@@ -35,10 +35,23 @@ fn done(answer: shape::Answer) {
     }
 }
 
+fn mended(answer: shape::Mending) {
+    match answer {
+        shape::Mending::Done => {
+            io::write_all(STDOUT_FILENO, b"done\n");
+        }
+        shape::Mending::Contradictory(group) => {
+            io::write_all(STDOUT_FILENO, b"refused 9 ");
+            number(group as u64, b"\n");
+        }
+        shape::Mending::Refused(r) => refused(r),
+    }
+}
+
 fn serve(d: Desk, handle: u64, word: &mut [u8]) -> Desk {
     let after = desk::serve(d, handle, word);
     let answer = after.answer;
-    done(answer);
+    mended(answer);
     after.desk
 }
 
@@ -59,16 +72,17 @@ fn read(d: Desk, handle: u64) {
     }
 }
 
-// Handles 0, 7 and a closed one are refused 12.
+// Handles 0, 7 and a closed one are refused 12. A word whose second group, numbered 1, breaks its own equation is refused 9 with 1.
 fn handles() {
     let mut word = [255, 255, 255, 78, 206, 128];
     let mut short = [255, 255, 255, 78, 206];
+    let mut broken = [255, 255, 255, 78, 206, 129];
     let a = open(desk::fresh());
     read(a, 0);
     read(a, 7);
     read(a, 18446744073709551615);
     let b = serve(a, 8, &mut word);
-    let c = serve(b, 8, &mut short);
+    let c = serve(serve(b, 8, &mut short), 8, &mut broken);
     read(c, 8);
     let d = close(c, 8);
     read(d, 8);

@@ -1,9 +1,27 @@
--- What holds between services: Recover and Judge, and a word that the desk serves.
+-- What holds between services: Recover and Judge, Check and Recover, and a word that the desk serves.
 use mathlib.Core.Path.{_≡_}
+use mathlib.Core.Logic.{_↔_}
+use mathlib.Core.List.{List}
+use Prim.Native.Nat.{ℕ}
+use Rattle.code.specs.Word.{Codeword}
+use Rattle.recover.specs.Service.{recoverOf}
+use Rattle.recover.specs.DemandTwo.{Named}
+use Rattle.word_check.specs.declared.Checked.{Checked}
+use Rattle.word_check.specs.Answer.{checkedOf}
+use Rattle.stream.specs.NoneLost.{noneLost}
 use Rattle.desk.specs.Calls.{Serving}
 
--- Two serves under one handle end alike: the same number, the same desk and, where the number is 0, the same word.
+-- Check answers as Recover does with no place lost: yes where that gives 0, and no with the group of its 9.
+pub record CheckedAsRecovered (m w c : ℕ) (word : List ℕ) : Type 0 where
+  pub yes : (checkedOf m w c word ≡ Checked.Codeword) ↔ ((recoverOf m w c word (noneLost word)) .number ≡ 0)
+  pub no : (g : ℕ) → (checkedOf m w c word ≡ Checked.Other g)
+      ↔ (((recoverOf m w c word (noneLost word)) .number ≡ 9) × ((recoverOf m w c word (noneLost word)) .group ≡ g))
+  -- "the lowest group whose present bytes no filling can satisfy locally, or m"
+  pub named : (g : ℕ) → checkedOf m w c word ≡ Checked.Other g → Named m w c word (noneLost word) g
+
+-- Two serves under one handle end alike: the same number, the same group, the same desk and, where the number is 0, the same word.
 pub record SameServing (a b : Serving) : Type 0 where
   pub number : a .number ≡ b .number
+  pub group : a .group ≡ b .group
   pub word : a .number ≡ 0 → a .word ≡ b .word
   pub desk : a .desk ≡ b .desk

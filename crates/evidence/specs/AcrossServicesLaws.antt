@@ -1,15 +1,18 @@
--- Laws: What holds between services: Recover and Judge, and a word that the desk serves.
-use mathlib.Core.Path.{_≡_, refl, sym, ap₂}
+-- Laws: What holds between services: Recover and Judge, Check and Recover, and a word that the desk serves.
+use mathlib.Core.Path.{_≡_, refl, sym, ap, ap₂, _∙_, subst}
 use mathlib.Core.Logic.{_↔_}
-use mathlib.Core.Bool.{not}
+use mathlib.Core.Bool.{Bool, true, false, not}
 use mathlib.Core.List.{List}
 use Prim.Native.Nat.{ℕ, zero, suc, _*_, _<_}
 use native.Mathlib.Omega.{arith}
-use lib.Dec.{eqb}
+use lib.Dec.{T, eqb}
 use lib.ListN.{length, getD}
 use Rattle.shape.specs.Refusals.{refuse, _orElse_}
 use Rattle.shape.specs.RefusalsLaws.{orElse-zero}
 use Rattle.shape.specs.Shapes.{Good, placeCount}
+use Rattle.shape.specs.Laws.{word-of-good}
+use Rattle.code.specs.Edition.{bytes}
+use Rattle.code.specs.Word.{isCodeword, Symbols, Codeword}
 use Rattle.code.specs.Marks.{Agree}
 use Rattle.code.specs.Answer.{SameEnd}
 use Rattle.marks.specs.Refusal.{Marked}
@@ -18,12 +21,18 @@ use Rattle.judge.specs.Answer.{judgedNumberOf}
 use Rattle.judge.specs.Laws.{eight-excess}
 use Rattle.recover.specs.Service.{recoverOf}
 use Rattle.recover.specs.AttemptLaws.{accepted, eight-exactly}
-use Rattle.recover.specs.DemandTwoLaws.{good-start, lost-bytes}
+use Rattle.recover.specs.DemandTwo.{Named}
+use Rattle.recover.specs.DemandTwoLaws.{good-start, demand-two, lost-bytes}
+use Rattle.word_check.specs.declared.Checked.{Checked}
+use Rattle.word_check.specs.Answer.{wholeGroup, checkedOf}
+use Rattle.word_check.specs.Laws.{yes-exactly}
+use Rattle.stream.specs.NoneLost.{noneLost}
+use Rattle.stream.specs.NoneLostLaws.{none-marked, codeword-stays, other-nine}
 use Rattle.desk.specs.declared.Job.{Job}
 use Rattle.desk.specs.declared.Desk.{Desk}
 use Rattle.desk.specs.Desks.{jobAt, slotOf, marksOf}
-use Rattle.desk.specs.Calls.{handleRefusal, recoveryOf, jobNumber, serveNumber, serveBy, serveOf}
-use Rattle.evidence.specs.AcrossServices.{SameServing}
+use Rattle.desk.specs.Calls.{handleRefusal, recoveryOf, jobNumber, serveNumber, groupOfNine, serveBy, serveOf}
+use Rattle.evidence.specs.AcrossServices.{CheckedAsRecovered, SameServing}
 
 -- "Recover: 8 exactly if judge says 8", for a good shape, n bytes and n marks of 0 or 1.
 pub recover-as-judge : (m w c : ℕ) (word marks : List ℕ) → Good m w c → length word ≡ m * w → ((p : ℕ) → getD word p 0 < 256)
@@ -33,6 +42,54 @@ recover-as-judge m w c word marks good size small marks-size each =
     let R = eight-exactly m w c word marks (accepted m w c word marks 0 (sym (good-start m w c word marks M size)) refl) small in
     let J = eight-excess m w c marks (marks-of-good m w c marks M) in
     ((λ e. J .1 (R .0 e)), (λ e. R .1 (J .0 e)))
+
+module _ (m w c : ℕ) (word : List ℕ) (good : Good m w c) (s : Symbols bytes (m * w) word) where
+  -- of a codeword
+  checked-yes : Codeword bytes m w c word → CheckedAsRecovered m w c word
+  checked-yes C =
+      let k = yes-exactly m w c word good s .1 C in
+      let r : (recoverOf m w c word (noneLost word)) .number ≡ 0 = ap (λ o. o .number) (codeword-stays good word s C) in
+      record {
+        yes = ((λ _. r), (λ _. k));
+        no = λ g. ((λ q. absurd (let z : _≡_ {A = ℕ} 0 1 = cc in omega arith)), (λ q. absurd (let z = q .0 in omega arith)));
+        named = λ g q. absurd (let z : _≡_ {A = ℕ} 0 1 = cc in omega arith);
+      }
+
+  -- of another word
+  checked-other : isCodeword bytes m w c word ≡ false → checkedOf m w c word ≡ Checked.Other (wholeGroup m w c word)
+  unfolding checkedOf
+  checked-other e = rw (word-of-good m w c (length word) good (s .size), e)
+
+  checked-no : isCodeword bytes m w c word ≡ false → CheckedAsRecovered m w c word
+  checked-no e =
+      let k = checked-other e in
+      let r = other-nine good word s e in
+      let n : (recoverOf m w c word (noneLost word)) .number ≡ 9 = ap (λ o. o .number) r in
+      let h : (recoverOf m w c word (noneLost word)) .group ≡ wholeGroup m w c word = ap (λ o. o .group) r in
+      let M = none-marked good word s in
+      let D = demand-two m w c word (noneLost word) good (s .size) (s .each) (M .size) (M .each) in
+      let same : (g : ℕ) → checkedOf m w c word ≡ Checked.Other g → wholeGroup m w c word ≡ g = λ g q. ap otherGroup (sym k ∙ q) in
+      record {
+        yes = ((λ q. absurd (let z : _≡_ {A = ℕ} 0 1 = cc in omega arith)), (λ q. absurd (omega arith)));
+        no = λ g. ((λ q. (n, h ∙ same g q)), (λ q. k ∙ ap Checked.Other (sym h ∙ q .1)));
+        named = λ g q. subst (Named m w c word (noneLost word)) (h ∙ same g q) (D .group n);
+      }
+    where
+      otherGroup : Checked → ℕ
+      otherGroup Checked.Codeword = 0
+      otherGroup (Checked.Other g) = g
+      otherGroup (Checked.Refused r) = 0
+
+-- for a good shape and n bytes
+pub check-as-recover : (m w c : ℕ) (word : List ℕ) → Good m w c → length word ≡ m * w → ((p : ℕ) → getD word p 0 < 256) → CheckedAsRecovered m w c word
+check-as-recover m w c word good size small = go (isCodeword bytes m w c word) refl
+  where
+    s : Symbols bytes (m * w) word
+    s = record { size = size; each = small }
+
+    go : (b : Bool) → isCodeword bytes m w c word ≡ b → CheckedAsRecovered m w c word
+    go true e = checked-yes m w c word good s (record { symbols = s; zero = subst T (sym e) tt })
+    go false e = checked-no m w c word good s e
 
 -- "The byte standing in a lost place has no effect on any answer": of Serve, where two words of one length agree at the places that the job's
 -- marks give as present.
@@ -65,7 +122,12 @@ module _ (handle : ℕ) (word₁ word₂ : List ℕ) (desk : Desk) (size : lengt
   serve-lost-bytes = go (serveNumber handle word₁ desk) (serveNumber handle word₂ desk) number-same recovered
     where
       go : (r s : ℕ) → r ≡ s → (r ≡ 0 → (recoveryOf job word₁) .number ≡ 0) → SameServing (serveBy r handle word₁ desk) (serveBy s handle word₂ desk)
-      go zero zero e h = record { number = refl; word = λ _. recovery .word (h refl); desk = refl }
+      go zero zero e h = record { number = refl; group = refl; word = λ _. recovery .word (h refl); desk = refl }
       go zero (suc s) e h = absurd (omega arith)
       go (suc r) zero e h = absurd (omega arith)
-      go (suc r) (suc s) e h = record { number = e; word = λ z. absurd (omega arith); desk = refl }
+      go (suc r) (suc s) e h = record {
+        number = e;
+        group = ap₂ groupOfNine e (recovery .group);
+        word = λ z. absurd (omega arith);
+        desk = refl;
+      }

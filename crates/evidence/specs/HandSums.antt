@@ -24,19 +24,19 @@ handSums =
     (describedFigures (describedOf 2 3 1), 6 ∷ 2 ∷ 4 ∷ []) ∷ (number (describedNumber (describedOf 1 3 1)), number 4) ∷
     -- m 1, w 4, c 1, data 1: word 1, 79, 147, 221; m 2, w 3, c 1, data 1, 1: word 1, 1, 0, 78, 206, 128
     (encodedWord 1 4 1 (1 ∷ []), 1 ∷ 79 ∷ 147 ∷ 221 ∷ []) ∷ (encodedWord 2 3 1 (1 ∷ 1 ∷ []), 1 ∷ 1 ∷ 0 ∷ 78 ∷ 206 ∷ 128 ∷ []) ∷
-    -- in that word the first three lost: recovered (excess 2); the excess, the number, and the number with the word and the marks
+    -- in that word the first three lost: recovered (excess 2); the excess, the number, and the number with the group (0), the word and the marks
     (number (excess 2 3 1 (1 ∷ 1 ∷ 1 ∷ 0 ∷ 0 ∷ 0 ∷ [])), number 2) ∷
     (number ((recoverOf 2 3 1 (255 ∷ 255 ∷ 255 ∷ 78 ∷ 206 ∷ 128 ∷ []) (1 ∷ 1 ∷ 1 ∷ 0 ∷ 0 ∷ 0 ∷ [])) .number), number 0) ∷ (
       outcomeList (recoverOf 2 3 1 (255 ∷ 255 ∷ 255 ∷ 78 ∷ 206 ∷ 128 ∷ []) (1 ∷ 1 ∷ 1 ∷ 0 ∷ 0 ∷ 0 ∷ [])),
-      0 ∷ 1 ∷ 1 ∷ 0 ∷ 78 ∷ 206 ∷ 128 ∷ 0 ∷ 0 ∷ 0 ∷ 0 ∷ 0 ∷ 0 ∷ [],
+      0 ∷ 0 ∷ 1 ∷ 1 ∷ 0 ∷ 78 ∷ 206 ∷ 128 ∷ 0 ∷ 0 ∷ 0 ∷ 0 ∷ 0 ∷ 0 ∷ [],
     ) ∷
     -- the first five lost: 8 (excess 3)
     (number (excess 2 3 1 (1 ∷ 1 ∷ 1 ∷ 1 ∷ 1 ∷ 0 ∷ [])), number 3) ∷ (
       outcomeList (recoverOf 2 3 1 (1 ∷ 1 ∷ 0 ∷ 78 ∷ 206 ∷ 128 ∷ []) (1 ∷ 1 ∷ 1 ∷ 1 ∷ 1 ∷ 0 ∷ [])),
-      8 ∷ 1 ∷ 1 ∷ 0 ∷ 78 ∷ 206 ∷ 128 ∷ 1 ∷ 1 ∷ 1 ∷ 1 ∷ 1 ∷ 0 ∷ [],
+      8 ∷ 0 ∷ 1 ∷ 1 ∷ 0 ∷ 78 ∷ 206 ∷ 128 ∷ 1 ∷ 1 ∷ 1 ∷ 1 ∷ 1 ∷ 0 ∷ [],
     ) ∷
-    -- nothing lost, last byte 129: 9
+    -- nothing lost, last byte 129: 9, with group 1
     (
       outcomeList (recoverOf 2 3 1 (1 ∷ 1 ∷ 0 ∷ 78 ∷ 206 ∷ 129 ∷ []) (0 ∷ 0 ∷ 0 ∷ 0 ∷ 0 ∷ 0 ∷ [])),
-      9 ∷ 1 ∷ 1 ∷ 0 ∷ 78 ∷ 206 ∷ 129 ∷ 0 ∷ 0 ∷ 0 ∷ 0 ∷ 0 ∷ 0 ∷ [],
+      9 ∷ 1 ∷ 1 ∷ 1 ∷ 0 ∷ 78 ∷ 206 ∷ 129 ∷ 0 ∷ 0 ∷ 0 ∷ 0 ∷ 0 ∷ 0 ∷ [],
     ) ∷ []

@@ -6,3 +6,5 @@ pub mod AcrossServices
 pub mod AcrossServicesLaws
 pub mod PaperSession
 pub mod PaperSessionLaws
+pub mod NineLines
+pub mod NineLinesLaws

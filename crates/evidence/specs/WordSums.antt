@@ -7,6 +7,6 @@ use Rattle.code.specs.Answer.{Outcome}
 abbrev pub number : ℕ → List ℕ
 number n = n ∷ []
 
--- number, word and marks of an outcome
+-- number, group, word and marks of an outcome
 abbrev pub outcomeList : Outcome → List ℕ
-outcomeList o = o .number ∷ (o .word ++ o .marks)
+outcomeList o = o .number ∷ o .group ∷ (o .word ++ o .marks)

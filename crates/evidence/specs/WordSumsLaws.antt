@@ -1,16 +1,16 @@
 -- Laws: The words done by hand: each is shown a codeword by its sums, and the theorems on encoding and recovery say the rest.
 use mathlib.Core.Path.{_≡_, refl, sym, ap, _∙_, subst}
-use mathlib.Core.Bool.{Bool, true, false, not}
+use mathlib.Core.Bool.{false}
 use mathlib.Core.List.{List, [], _∷_}
 use Prim.Native.Nat.{ℕ, _<_, _≤_}
 use native.Mathlib.Omega.{arith}
 use native.Mathlib.Decide.{decLt}
 use lib.Dec.{T, ltb, ltb→lt, eqb, eqb→eq}
 use lib.ListN.{length, getD, List·getD-eq-default}
-use lib.Seq.{ext-getD}
 use Rattle.counting.specs.Test.{allBelow, either}
 use Rattle.counting.specs.TestLaws.{all-at}
 use Rattle.counting.specs.Count.{totalBelow}
+use Rattle.counting.specs.First.{firstBelow}
 use Rattle.binary_field.specs.Xor.{_⊕_, masked}
 use Rattle.binary_field.specs.Product.{double, bitSum, product}
 use Rattle.binary_field.specs.Power.{power}
@@ -20,15 +20,20 @@ use Rattle.shape.specs.Shapes.{shapeRefusal, wordRefusal}
 use Rattle.shape.specs.Laws.{good-of-refusal}
 use Rattle.places.specs.Laws.{extract-1-4-1, extract-2-3-1}
 use Rattle.code.specs.Edition.{bytes}
-use Rattle.code.specs.Word.{coefficient, twisted, groupSum, wordSum, isLocal, isCodeword, Codeword}
+use Rattle.code.specs.Word.{coefficient, twisted, groupSum, wordSum, isLocal, isCodeword, Symbols, Codeword}
 use Rattle.code.specs.Marks.{lost, lostIn, excess, Agree}
-use Rattle.code.specs.Answer.{refused, written}
+use Rattle.code.specs.Answer.{refused, contradictory, written}
+use Rattle.code.specs.Contradiction.{isBroken, contradictingGroup}
+use Rattle.code.specs.Filling.{search}
+use Rattle.code.specs.Stretch.{stretch}
 use Rattle.code.specs.Recovery.{Agrees}
 use Rattle.marks.specs.Refusal.{marksRefusal, areMarks}
 use Rattle.recover.specs.Service.{recoverRefusal, recoverOf}
-use Rattle.recover.specs.AttemptLaws.{accepted, service-eight, service-nine, service-done}
+use Rattle.recover.specs.AttemptLaws.{accepted, service-eight, service-done}
 use Rattle.encode.specs.Service.{encodedWord}
 use Rattle.encode.specs.Laws.{encoded}
+use Rattle.stream.specs.NoneLost.{noneLost}
+use Rattle.stream.specs.NoneLostLaws.{other-nine}
 use Rattle.evidence.specs.WordSums.{number, outcomeList}
 
 -- ---- computed tests
@@ -97,7 +102,7 @@ unfolding threeLost firstThree secondWord
 three-agrees = record { codeword = second-codeword; agree = agree 6 firstThree secondWord threeLost tt }
 
 pub three-lost : outcomeList (recoverOf 2 3 1 (255 ∷ 255 ∷ 255 ∷ 78 ∷ 206 ∷ 128 ∷ []) (1 ∷ 1 ∷ 1 ∷ 0 ∷ 0 ∷ 0 ∷ []))
-    ≡ 0 ∷ 1 ∷ 1 ∷ 0 ∷ 78 ∷ 206 ∷ 128 ∷ 0 ∷ 0 ∷ 0 ∷ 0 ∷ 0 ∷ 0 ∷ []
+    ≡ 0 ∷ 0 ∷ 1 ∷ 1 ∷ 0 ∷ 78 ∷ 206 ∷ 128 ∷ 0 ∷ 0 ∷ 0 ∷ 0 ∷ 0 ∷ 0 ∷ []
 unfolding called threeLost firstThree secondWord
 three-lost =
     let e = three-called .1 in
@@ -120,7 +125,7 @@ unfolding called secondWord firstFive recoverRefusal wordRefusal marksRefusal sh
 five-called = (refl, refl)
 
 pub five-lost : outcomeList (recoverOf 2 3 1 (1 ∷ 1 ∷ 0 ∷ 78 ∷ 206 ∷ 128 ∷ []) (1 ∷ 1 ∷ 1 ∷ 1 ∷ 1 ∷ 0 ∷ []))
-    ≡ 8 ∷ 1 ∷ 1 ∷ 0 ∷ 78 ∷ 206 ∷ 128 ∷ 1 ∷ 1 ∷ 1 ∷ 1 ∷ 1 ∷ 0 ∷ []
+    ≡ 8 ∷ 0 ∷ 1 ∷ 1 ∷ 0 ∷ 78 ∷ 206 ∷ 128 ∷ 1 ∷ 1 ∷ 1 ∷ 1 ∷ 1 ∷ 0 ∷ []
 unfolding called firstFive secondWord
 five-lost =
     let e = five-called .1 in
@@ -172,40 +177,51 @@ five-lost-again =
 lastChanged : List ℕ
 lastChanged = 1 ∷ 1 ∷ 0 ∷ 78 ∷ 206 ∷ 129 ∷ []
 
-noneLost : List ℕ
-noneLost = 0 ∷ 0 ∷ 0 ∷ 0 ∷ 0 ∷ 0 ∷ []
-
-none-called : called lastChanged noneLost 0
-unfolding called lastChanged noneLost recoverRefusal wordRefusal marksRefusal shapeRefusal areMarks excess lostIn totalBelow
-none-called = (refl, refl)
-
-no-codeword : isCodeword bytes 2 3 1 lastChanged ≡ false
-unfolding lastChanged isCodeword isLocal wordSum groupSum sumBelow coefficient twisted power product bitSum double masked _⊕_ locators
-no-codeword = refl
-
-none-lost : (p : ℕ) → p < 6 → lost noneLost p ≡ false
-unfolding noneLost
-none-lost p l = go (lost noneLost p) (all-at 6 (λ q. not (lost noneLost q)) tt p l)
-  where
-    go : (b : Bool) → T (not b) → b ≡ false
-    go true t = absurd t
-    go false t = refl
-
-last-size : length lastChanged ≡ 6
+last-symbols : Symbols bytes 6 lastChanged
 unfolding lastChanged
-last-size = refl
+last-symbols = record { size = refl; each = small lastChanged tt }
 
-never : (y : List ℕ) → Agrees bytes 2 3 1 noneLost lastChanged y → ⊥
-never y Y = subst T (ap (isCodeword bytes 2 3 1) same ∙ no-codeword) (Y .codeword .zero)
-  where
-    same : y ≡ lastChanged
-    same =
-        ext-getD 0 y lastChanged (Y .codeword .symbols .size ∙ sym last-size)
-        (λ p l. let k : p < 6 = subst (λ n. p < n) (Y .codeword .symbols .size) l in Y .agree p k (none-lost p k))
+last-no-codeword : isCodeword bytes 2 3 1 lastChanged ≡ false
+unfolding lastChanged isCodeword isLocal wordSum groupSum sumBelow coefficient twisted power product bitSum double masked _⊕_ locators
+last-no-codeword = refl
+
+-- the bytes of group 1 break its equation, those of group 0 do not
+last-group : contradictingGroup bytes 2 3 1 lastChanged (noneLost lastChanged) ≡ 1
+unfolding lastChanged contradictingGroup firstBelow isBroken search stretch isLocal groupSum sumBelow coefficient twisted power product bitSum double
+    masked _⊕_ locators
+last-group = refl
+
+pub last-outcome : recoverOf 2 3 1 (1 ∷ 1 ∷ 0 ∷ 78 ∷ 206 ∷ 129 ∷ []) (0 ∷ 0 ∷ 0 ∷ 0 ∷ 0 ∷ 0 ∷ [])
+    ≡ contradictory 1 (1 ∷ 1 ∷ 0 ∷ 78 ∷ 206 ∷ 129 ∷ []) (0 ∷ 0 ∷ 0 ∷ 0 ∷ 0 ∷ 0 ∷ [])
+unfolding lastChanged
+last-outcome =
+    other-nine (good-of-refusal 2 3 1 good-2-3-1) lastChanged last-symbols last-no-codeword
+    ∙ ap (λ g. contradictory g lastChanged (noneLost lastChanged)) last-group
 
 pub last-byte : outcomeList (recoverOf 2 3 1 (1 ∷ 1 ∷ 0 ∷ 78 ∷ 206 ∷ 129 ∷ []) (0 ∷ 0 ∷ 0 ∷ 0 ∷ 0 ∷ 0 ∷ []))
-    ≡ 9 ∷ 1 ∷ 1 ∷ 0 ∷ 78 ∷ 206 ∷ 129 ∷ 0 ∷ 0 ∷ 0 ∷ 0 ∷ 0 ∷ 0 ∷ []
-unfolding called lastChanged noneLost
-last-byte =
-    let e = none-called .1 in
-    ap outcomeList (service-nine 2 3 1 lastChanged noneLost (accepted 2 3 1 lastChanged noneLost 0 (none-called .0) refl) (small lastChanged tt) (omega arith) never)
+    ≡ 9 ∷ 1 ∷ 1 ∷ 1 ∷ 0 ∷ 78 ∷ 206 ∷ 129 ∷ 0 ∷ 0 ∷ 0 ∷ 0 ∷ 0 ∷ 0 ∷ []
+last-byte = ap outcomeList last-outcome
+
+-- nothing lost, the bytes of the second group 0: each group meets its own equation and the equations across fail
+secondZero : List ℕ
+secondZero = 1 ∷ 1 ∷ 0 ∷ 0 ∷ 0 ∷ 0 ∷ []
+
+zero-symbols : Symbols bytes 6 secondZero
+unfolding secondZero
+zero-symbols = record { size = refl; each = small secondZero tt }
+
+zero-no-codeword : isCodeword bytes 2 3 1 secondZero ≡ false
+unfolding secondZero isCodeword isLocal wordSum groupSum sumBelow coefficient twisted power product bitSum double masked _⊕_ locators
+zero-no-codeword = refl
+
+zero-group : contradictingGroup bytes 2 3 1 secondZero (noneLost secondZero) ≡ 2
+unfolding secondZero contradictingGroup firstBelow isBroken search stretch isLocal groupSum sumBelow coefficient twisted power product bitSum double
+    masked _⊕_ locators
+zero-group = refl
+
+pub across-outcome : recoverOf 2 3 1 (1 ∷ 1 ∷ 0 ∷ 0 ∷ 0 ∷ 0 ∷ []) (0 ∷ 0 ∷ 0 ∷ 0 ∷ 0 ∷ 0 ∷ [])
+    ≡ contradictory 2 (1 ∷ 1 ∷ 0 ∷ 0 ∷ 0 ∷ 0 ∷ []) (0 ∷ 0 ∷ 0 ∷ 0 ∷ 0 ∷ 0 ∷ [])
+unfolding secondZero
+across-outcome =
+    other-nine (good-of-refusal 2 3 1 good-2-3-1) secondZero zero-symbols zero-no-codeword
+    ∙ ap (λ g. contradictory g secondZero (noneLost secondZero)) zero-group

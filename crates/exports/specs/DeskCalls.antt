@@ -1,10 +1,11 @@
--- What the desk's calls give to C: a number, and what the lent desk, word, handle and served count hold then.
+-- What the desk's calls give to C: a number, from Serve with a group, and what the lent desk, word, handle and served count hold then.
 use mathlib.Core.Path.{_≡_}
 use mathlib.Core.List.{List}
 use Prim.Native.Nat.{ℕ, zero, suc}
 use Rattle.desk.specs.declared.Desk.{Desk}
 use Rattle.desk.specs.declared.Opened.{Opened}
 use Rattle.desk.specs.declared.Counted.{Counted}
+use Rattle.exports.specs.declared.Mended.{Mended}
 use Rattle.desk.specs.Calls.{Opening, Reading, Closing, Serving}
 
 -- "On every refusal all lent buffers [..] stay as they were": what a lent number holds at the end
@@ -28,9 +29,9 @@ pub record ClosesNumber (o : Closing) (desk : Desk) (number : ℕ) : Type 0 wher
   pub number-is : number ≡ o .number
   pub desk-is : desk ≡ o .desk
 
--- what Serve gives: the number, the word and the desk
-pub record ServesNumber (o : Serving) (word : List ℕ) (desk : Desk) (number : ℕ) : Type 0 where
-  pub number-is : number ≡ o .number
+-- what Serve gives: the number with the group that a 9 carries, the word and the desk
+pub record ServesMended (o : Serving) (word : List ℕ) (desk : Desk) (answer : Mended) : Type 0 where
+  pub answer-is : answer ≡ record { number = o .number; group = o .group }
   pub word-is : word ≡ o .word
   pub desk-is : desk ≡ o .desk
 

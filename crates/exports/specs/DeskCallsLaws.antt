@@ -1,4 +1,4 @@
--- Laws: What the desk's calls give to C: a number, and what the lent desk, word, handle and served count hold then.
+-- Laws: What the desk's calls give to C: a number, from Serve with a group, and what the lent desk, word, handle and served count hold then.
 use mathlib.Core.Path.{_≡_, refl, ap, _∙_}
 use Prim.Native.Nat.{ℕ, zero, suc}
 use Rattle.desk.specs.declared.Desk.{Desk}

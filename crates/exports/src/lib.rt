@@ -1,17 +1,19 @@
-// The services as C calls them: numbers and lent bytes, each with its length, and the number given back, 0 for done.
+// The services as C calls them: numbers and lent bytes, each with its length, and the number given back, 0 for done; with the group that a 9
+// carries, where a service gives one.
 use desk::Counted;
 use desk::Desk;
 use desk::Opened;
 use judge::Judged;
 use shape::Answer;
 use shape::Described;
+use shape::Mending;
 use word_check::Checked;
 ghost use mathlib.Core.Path.{_≡_};
 ghost use lib.ListN.{length, getD};
 ghost use Rattle.shape.specs.Shapes.{shapeRefusal, bufferRefusal, describedNumber, describedFigures, figuresOf};
 ghost use Rattle.shape.specs.Answers.{answerNumber};
 ghost use Rattle.word_check.specs.Answer.{checkedOf};
-ghost use Rattle.exports.specs.Numbers.{checkedCode};
+ghost use Rattle.exports.specs.Numbers.{mendingMended, checkedMended, outcomeMended};
 ghost use Rattle.places.specs.Places.{extractedData};
 ghost use Rattle.judge.specs.Answer.{judgedNumber, judgedNumberOf};
 ghost use Rattle.recover.specs.Service.{recoverOf};
@@ -19,7 +21,14 @@ ghost use Rattle.repair.specs.Service.{repairOf};
 ghost use Rattle.encode.specs.Service.{encodedBuffer};
 ghost use Rattle.desk.specs.Desks.{freshDesk};
 ghost use Rattle.desk.specs.Calls.{openOf, openedNumber, readOf, countedNumber, closeOf, serveOf};
-ghost use Rattle.exports.specs.DeskCalls.{OpensNumber, handleOr, ReadsNumber, servedOr, ClosesNumber, ServesNumber};
+ghost use Rattle.exports.specs.DeskCalls.{OpensNumber, handleOr, ReadsNumber, servedOr, ClosesNumber, ServesMended};
+
+// What Check, Repair, Recover and Serve give to C: the number, 0 for done, and the group that a 9 carries; 0 with any other number.
+#[repr(C)]
+pub struct Mended {
+    pub number: u8,
+    pub group: u8,
+}
 
 // The number of an answer.
 fn number(answer: Answer) -> u8
@@ -41,14 +50,43 @@ fn judged_number(judged: Judged) -> u8
     }
 }
 
-// The number of a check: 0 for a codeword, 9 for another word.
-fn checked_number(checked: Checked) -> u8
-    ensures { λ r. ⌜ r ≡ checkedCode checked ⌝ }
+// The number of what a service that mends answers, and the group that a 9 carries; 0 with any other number.
+fn mended_of(answer: Mending) -> Mended
+    ensures { λ r. ⌜ r ≡ mendingMended answer ⌝ }
+{
+    match answer {
+        Mending::Done => Mended {
+            number: 0,
+            group: 0,
+        },
+        Mending::Contradictory(g) => Mended {
+            number: 9,
+            group: g,
+        },
+        Mending::Refused(r) => Mended {
+            number: r,
+            group: 0,
+        },
+    }
+}
+
+// The number of a check, 0 for a codeword and 9 for another word, and the group that the 9 carries.
+fn mended_of_check(checked: Checked) -> Mended
+    ensures { λ r. ⌜ r ≡ checkedMended checked ⌝ }
 {
     match checked {
-        Checked::Codeword => 0,
-        Checked::Other => 9,
-        Checked::Refused(r) => r,
+        Checked::Codeword => Mended {
+            number: 0,
+            group: 0,
+        },
+        Checked::Other(broken) => Mended {
+            number: 9,
+            group: broken,
+        },
+        Checked::Refused(refusal) => Mended {
+            number: refusal,
+            group: 0,
+        },
     }
 }
 
@@ -121,10 +159,10 @@ pub extern "C" fn axlebloom_sure(m: usize, w: usize, c: usize) -> usize
 }
 
 #[no_mangle]
-pub extern "C" fn axlebloom_check(m: usize, w: usize, c: usize, word: &[u8]) -> u8
-    ensures { λ r. ⌜ r ≡ checkedCode (checkedOf m w c (now (word .entry))) ⌝ }
+pub extern "C" fn axlebloom_check(m: usize, w: usize, c: usize, word: &[u8]) -> Mended
+    ensures { λ r. ⌜ r ≡ checkedMended (checkedOf m w c (now (word .entry))) ⌝ }
 {
-    checked_number(word_check::check(m, w, c, word))
+    mended_of_check(word_check::check(m, w, c, word))
 }
 
 #[no_mangle]
@@ -170,12 +208,12 @@ pub extern "C" fn axlebloom_repair(
     g: usize,
     word: &mut [u8],
     marks: &mut [u8],
-) -> u8
-    ensures number { λ r. ⌜ r ≡ (repairOf m w c g (now (word .entry)) (now (marks .entry))) .number ⌝ }
+) -> Mended
+    ensures answer { λ r. ⌜ r ≡ outcomeMended (repairOf m w c g (now (word .entry)) (now (marks .entry))) ⌝ }
     ensures word { λ _. ⌜ now (word .exit) ≡ (repairOf m w c g (now (word .entry)) (now (marks .entry))) .word ⌝ }
     ensures marks { λ _. ⌜ now (marks .exit) ≡ (repairOf m w c g (now (word .entry)) (now (marks .entry))) .marks ⌝ }
 {
-    number(repair::repair(m, w, c, g, word, marks))
+    mended_of(repair::repair(m, w, c, g, word, marks))
 }
 
 #[no_mangle]
@@ -185,12 +223,12 @@ pub extern "C" fn axlebloom_recover(
     c: usize,
     word: &mut [u8],
     marks: &mut [u8],
-) -> u8
-    ensures number { λ r. ⌜ r ≡ (recoverOf m w c (now (word .entry)) (now (marks .entry))) .number ⌝ }
+) -> Mended
+    ensures answer { λ r. ⌜ r ≡ outcomeMended (recoverOf m w c (now (word .entry)) (now (marks .entry))) ⌝ }
     ensures word { λ _. ⌜ now (word .exit) ≡ (recoverOf m w c (now (word .entry)) (now (marks .entry))) .word ⌝ }
     ensures marks { λ _. ⌜ now (marks .exit) ≡ (recoverOf m w c (now (word .entry)) (now (marks .entry))) .marks ⌝ }
 {
-    number(recover::recover(m, w, c, word, marks))
+    mended_of(recover::recover(m, w, c, word, marks))
 }
 
 // The number of what Open answers, with the handle written where it is wanted.
@@ -241,10 +279,10 @@ pub extern "C" fn axlebloom_open(
 }
 
 #[no_mangle]
-pub extern "C" fn axlebloom_serve(desk: &mut Desk, handle: u64, word: &mut [u8]) -> u8
-    ensures { λ r. ⌜ ServesNumber (serveOf handle (now (word .entry)) (now (desk .entry))) (now (word .exit)) (now (desk .exit)) r ⌝ }
+pub extern "C" fn axlebloom_serve(desk: &mut Desk, handle: u64, word: &mut [u8]) -> Mended
+    ensures { λ r. ⌜ ServesMended (serveOf handle (now (word .entry)) (now (desk .entry))) (now (word .exit)) (now (desk .exit)) r ⌝ }
 {
-    number(desk::serve_at(desk, handle, word))
+    mended_of(desk::serve_at(desk, handle, word))
 }
 
 #[no_mangle]

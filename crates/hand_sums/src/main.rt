@@ -46,8 +46,9 @@ fn check_line(word: &[u8]) {
         word_check::Checked::Codeword => {
             io::write_all(STDOUT_FILENO, b"codeword\n");
         }
-        word_check::Checked::Other => {
-            io::write_all(STDOUT_FILENO, b"no codeword\n");
+        word_check::Checked::Other(group) => {
+            io::write_all(STDOUT_FILENO, b"no codeword ");
+            number(group as u64, b"\n");
         }
         word_check::Checked::Refused(r) => refused_line(r),
     }
@@ -82,14 +83,25 @@ fn answer_line(answer: shape::Answer, word: &[u8]) {
     }
 }
 
+fn mending_line(mending: shape::Mending, word: &[u8]) {
+    match mending {
+        shape::Mending::Done => answer_line(shape::Answer::Done, word),
+        shape::Mending::Contradictory(group) => {
+            io::write_all(STDOUT_FILENO, b"refused 9 ");
+            number(group as u64, b"\n");
+        }
+        shape::Mending::Refused(r) => refused_line(r),
+    }
+}
+
 fn recover_line(word: &mut [u8], marks: &mut [u8]) {
-    let answer = recover::recover(2, 3, 1, word, marks);
-    answer_line(answer, word);
+    let mending = recover::recover(2, 3, 1, word, marks);
+    mending_line(mending, word);
 }
 
 fn repair_line(word: &mut [u8], marks: &mut [u8]) {
-    let answer = repair::repair(2, 3, 1, 1, word, marks);
-    answer_line(answer, word);
+    let mending = repair::repair(2, 3, 1, 1, word, marks);
+    mending_line(mending, word);
 }
 
 fn encodings() {
@@ -107,6 +119,7 @@ fn recoveries() {
     recover_line(&mut [255, 255, 255, 78, 206, 128], &mut [1, 1, 1, 0, 0, 0]);
     recover_line(&mut [1, 1, 0, 78, 206, 128], &mut [1, 1, 1, 1, 1, 0]);
     recover_line(&mut [1, 1, 0, 78, 206, 129], &mut [0, 0, 0, 0, 0, 0]);
+    recover_line(&mut [1, 1, 0, 78, 206, 129], &mut [0, 1, 0, 0, 1, 0]);
     repair_line(&mut [1, 1, 9, 255, 206, 128], &mut [0, 0, 0, 1, 0, 0]);
     repair_line(&mut [1, 1, 9, 255, 255, 128], &mut [0, 0, 0, 1, 1, 0]);
     repair_line(&mut [1, 1, 9, 79, 206, 128], &mut [0, 0, 0, 0, 0, 0]);

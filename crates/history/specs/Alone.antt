@@ -11,6 +11,7 @@ use Rattle.desk.specs.Calls.{serveOf}
 -- Two desks answer alike on a handle, and leave the same job in its slot.
 pub record Alike (h : ℕ) (word : List ℕ) (d e : Desk) : Type 0 where
   pub serve-number : serveOf h word d .number ≡ serveOf h word e .number
+  pub serve-group : serveOf h word d .group ≡ serveOf h word e .group
   pub serve-word : serveOf h word d .word ≡ serveOf h word e .word
   pub serve-job : jobAt (serveOf h word d .desk) (slotOf h) ≡ jobAt (serveOf h word e .desk) (slotOf h)
   pub read : readOf h d ≡ readOf h e

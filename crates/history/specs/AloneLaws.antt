@@ -14,8 +14,7 @@ use Rattle.desk.specs.declared.Job.{Job}
 use Rattle.desk.specs.declared.Desk.{Desk}
 use Rattle.desk.specs.Desks.{emptyJob, noJob, jobAt, isTaken, slotOf, isSound}
 use Rattle.desk.specs.Calls.{pick, freeFrom, freeSlot, openNumber, openBy, openOf, newJob, newHandle, handleRefusal, readBy, readOf, closeBy, closeOf}
-use Rattle.desk.specs.Calls.{recoveryOf}
-use Rattle.desk.specs.Calls.{jobNumber, serveNumber, serveBy, serveOf, servedOnce}
+use Rattle.desk.specs.Calls.{recoveryOf, jobNumber, serveNumber, groupOfNine, serveBy, serveOf, servedOnce}
 use Rattle.history.specs.Effects.{holdsHandle}
 use Rattle.history.specs.EffectsLaws.{slot-below, handle-refusal}
 use Rattle.history.specs.Alone.{Alike, OpenAlike}
@@ -39,6 +38,10 @@ module _ (h : ℕ) (word : List ℕ) (d e : Desk) (size-d : length (d .jobs) ≡
   serve-numbers : (r : ℕ) → serveBy r h word d .number ≡ serveBy r h word e .number
   serve-numbers zero = refl
   serve-numbers (suc r) = refl
+
+  serve-groups : (r : ℕ) → serveBy r h word d .group ≡ serveBy r h word e .group
+  serve-groups zero = refl
+  serve-groups (suc r) = ap (λ j. groupOfNine (suc r) (recoveryOf j word .group)) same
 
   serve-words : (r : ℕ) → serveBy r h word d .word ≡ serveBy r h word e .word
   serve-words zero = ap (λ j. recoveryOf j word .word) same
@@ -65,6 +68,7 @@ module _ (h : ℕ) (word : List ℕ) (d e : Desk) (size-d : length (d .jobs) ≡
   unfolding serveOf readOf closeOf
   alone = record {
     serve-number = ap (λ r. serveBy r h word d .number) same-number ∙ serve-numbers (serveNumber h word e);
+    serve-group = ap (λ r. serveBy r h word d .group) same-number ∙ serve-groups (serveNumber h word e);
     serve-word = ap (λ r. serveBy r h word d .word) same-number ∙ serve-words (serveNumber h word e);
     serve-job = ap (λ r. jobAt (serveBy r h word d .desk) (slotOf h)) same-number ∙ serve-jobs (serveNumber h word e);
     read = ap (λ r. readBy r h d) same-refusal ∙ reads (handleRefusal h e);

@@ -16,7 +16,7 @@ pub data Call : Type 0 where
   Read : (handle : ℕ) → Call
   Close : (handle : ℕ) → Call
 
--- What a call answers: a number, 0 for done, and a value: Open's handle, Read's served count, else 0; and the desk then.
+-- What a call answers: a number, 0 for done, and a value: Open's handle, Read's served count, the group that a Serve's 9 carries, else 0; and the desk then.
 pub record Step : Type 0 where
   pub number : ℕ
   pub value : ℕ
@@ -30,7 +30,11 @@ step (Open m w c marks) desk = record {
   value = (openOf m w c marks desk) .handle;
   desk = (openOf m w c marks desk) .desk;
 }
-step (Serve handle word) desk = record { number = (serveOf handle word desk) .number; value = 0; desk = (serveOf handle word desk) .desk }
+step (Serve handle word) desk = record {
+  number = (serveOf handle word desk) .number;
+  value = (serveOf handle word desk) .group;
+  desk = (serveOf handle word desk) .desk;
+}
 step (Read handle) desk = record { number = (readOf handle desk) .number; value = (readOf handle desk) .served; desk = desk }
 step (Close handle) desk = record { number = (closeOf handle desk) .number; value = 0; desk = (closeOf handle desk) .desk }
 

@@ -1,4 +1,5 @@
--- Soundness, open handles, the slot that Open uses and the numbers that calls give, in the paper's words. The proofs stand in MeaningLaws and NumberLaws.
+-- Soundness, open handles, what Open, Close and Serve leave, that a refusal leaves everything as it was, and the numbers that calls give, in the
+-- paper's words. The proofs stand in MeaningLaws and NumberLaws.
 use mathlib.Core.Path.{_≡_}
 use mathlib.Core.Logic.{_↔_, _⊎_}
 use mathlib.Core.Bool.{true}
@@ -8,12 +9,14 @@ use lib.ListN.{length, getD}
 use Rattle.shape.specs.Shapes.{Good, placeCount}
 use Rattle.code.specs.Edition.{bytes}
 use Rattle.code.specs.Marks.{excess}
+use Rattle.code.specs.Contradiction.{contradictingGroup}
 use Rattle.code.specs.Recovery.{Agrees}
+use Rattle.recover.specs.DemandTwo.{Named}
 use Rattle.judge.specs.Answer.{judgedNumberOf}
 use Rattle.desk.specs.declared.Job.{Job}
 use Rattle.desk.specs.declared.Desk.{Desk}
-use Rattle.desk.specs.Desks.{jobAt, isFree, isTaken, marksOf}
-use Rattle.desk.specs.Calls.{Opening, newJob}
+use Rattle.desk.specs.Desks.{emptyJob, jobAt, isFree, isTaken, marksOf}
+use Rattle.desk.specs.Calls.{Opening, newJob, openOf, Closing, closeOf, Serving, servedOnce, serveOf}
 
 -- ---- soundness
 
@@ -89,23 +92,60 @@ pub record HandleNumbers (handle : ℕ) (desk : Desk) (number : ℕ) : Type 0 wh
   pub shut : (number ≡ 12) ↔ (SoundDesk desk × ¬ IsHeld desk handle)
   pub done : (number ≡ 0) ↔ (SoundDesk desk × IsHeld desk handle)
 
+-- An accepted Close "frees the slot and sets all its fields to zero"; no other slot is touched, and t stays.
+pub record Closes (handle : ℕ) (desk : Desk) (o : Closing) : Type 0 where
+  pub slot : ℕ
+  pub held : HeldIn desk handle slot
+  pub count : o .desk .t ≡ desk .t
+  pub job : jobAt (o .desk) slot ≡ emptyJob
+  pub others : (r : ℕ) → ¬ (r ≡ slot) → jobAt (o .desk) r ≡ jobAt desk r
+
 -- ---- Serve
 
 -- a codeword of the job's shape that agrees with the word at the places that the job's marks leave
 abbrev pub AgreesBy : Job → List ℕ → List ℕ → Type 0
 AgreesBy job word y = Agrees bytes (job .m) (job .w) (job .c) (marksOf job) word y
 
+-- by the job's marks, "the lowest group whose present bytes no filling can satisfy locally, or m"
+abbrev pub groupBy : Job → List ℕ → ℕ
+groupBy job word = contradictingGroup bytes (job .m) (job .w) (job .c) word (marksOf job)
+
 -- of a job "5, 13, 9", in this order: the length is not n; the served count is at its end; no codeword agrees with the present bytes
-pub record JobNumbers (job : Job) (word : List ℕ) (number : ℕ) : Type 0 where
+pub record JobNumbers (job : Job) (word : List ℕ) (number group : ℕ) : Type 0 where
   pub long : (number ≡ 5) ↔ ¬ (length word ≡ placeCount (job .m) (job .w))
   pub ended : (number ≡ 13) ↔ ((length word ≡ placeCount (job .m) (job .w)) × (job .served ≡ 4294967295))
   pub contradictory : (number ≡ 9) ↔ ((length word ≡ placeCount (job .m) (job .w)) × ¬ (job .served ≡ 4294967295) × ((y : List ℕ) → ¬ AgreesBy job word y))
+  -- "A 9 now carries a group number"
+  pub group-is : number ≡ 9 → group ≡ groupBy job word
+  pub named : number ≡ 9 → Named (job .m) (job .w) (job .c) word (marksOf job) group
   pub done : (number ≡ 0) ↔ ((length word ≡ placeCount (job .m) (job .w)) × ¬ (job .served ≡ 4294967295) × ((y : List ℕ) × AgreesBy job word y))
 
 -- "31 comes before all others, and with a handle 12 comes next, then 5, 13, 9; a serve can't meet 8"
-pub record ServeNumbers (handle : ℕ) (word : List ℕ) (desk : Desk) (number : ℕ) : Type 0 where
+pub record ServeNumbers (handle : ℕ) (word : List ℕ) (desk : Desk) (number group : ℕ) : Type 0 where
   pub one-of : (number ≡ 0) ⊎ (number ≡ 31) ⊎ (number ≡ 12) ⊎ (number ≡ 5) ⊎ (number ≡ 13) ⊎ (number ≡ 9)
   pub unsound : (number ≡ 31) ↔ ¬ SoundDesk desk
   pub shut : (number ≡ 12) ↔ (SoundDesk desk × ¬ IsHeld desk handle)
+  -- no other number carries a group
+  pub no-group : ¬ (number ≡ 9) → group ≡ 0
   -- of a word of bytes, by the job in the slot that holds the handle
-  pub of-job : (s : ℕ) → SoundDesk desk → HeldIn desk handle s → ((p : ℕ) → getD word p 0 < 256) → JobNumbers (jobAt desk s) word number
+  pub of-job : (s : ℕ) → SoundDesk desk → HeldIn desk handle s → ((p : ℕ) → getD word p 0 < 256) → JobNumbers (jobAt desk s) word number group
+
+-- An accepted Serve leaves in the word the only codeword that agrees with its present bytes, "by the job's marks", and "adds one to the job's
+-- served count"; the job's other fields stay, no other slot is touched, and t stays.
+pub record Serves (handle : ℕ) (word : List ℕ) (desk : Desk) (o : Serving) : Type 0 where
+  pub slot : ℕ
+  pub held : HeldIn desk handle slot
+  pub agrees : AgreesBy (jobAt desk slot) word (o .word)
+  pub only : (y : List ℕ) → AgreesBy (jobAt desk slot) word y → y ≡ o .word
+  pub count : o .desk .t ≡ desk .t
+  pub job : jobAt (o .desk) slot ≡ servedOnce (jobAt desk slot)
+  pub others : (r : ℕ) → ¬ (r ≡ slot) → jobAt (o .desk) r ≡ jobAt desk r
+
+-- ---- refusals
+
+-- "On every refusal all lent buffers and the desk stay as they were." Read leaves no desk.
+pub record KeptIfRefused (desk : Desk) : Type 0 where
+  pub by-open : (m w c : ℕ) (marks : List ℕ) → ¬ ((openOf m w c marks desk) .number ≡ 0) → (openOf m w c marks desk) .desk ≡ desk
+  pub by-serve : (handle : ℕ) (word : List ℕ) → ¬ ((serveOf handle word desk) .number ≡ 0) → (serveOf handle word desk) .desk ≡ desk
+  pub word-by-serve : (handle : ℕ) (word : List ℕ) → ¬ ((serveOf handle word desk) .number ≡ 0) → (serveOf handle word desk) .word ≡ word
+  pub by-close : (handle : ℕ) → ¬ ((closeOf handle desk) .number ≡ 0) → (closeOf handle desk) .desk ≡ desk

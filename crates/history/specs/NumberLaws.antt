@@ -1,15 +1,16 @@
--- Which number each call on a desk gives, and exactly when: the proofs of what Meaning says of numbers.
+-- Which number each call on a desk gives, and exactly when, and what Serve and Close leave: the proofs of what Meaning says of them.
 use mathlib.Core.Path.{_≡_, refl, sym, ap, _∙_, subst}
 use mathlib.Core.Logic.{inl, inr, _⊎_}
-use mathlib.Core.Bool.{Bool, true, false, not, _||_, false≢true}
+use mathlib.Core.Bool.{Bool, true, false, not, _||_, cond, false≢true}
 use mathlib.Core.List.{List}
 use Prim.Native.Nat.{ℕ, zero, suc, _+_, _*_, _≤_, _<_}
 use native.Mathlib.Omega.{arith}
 use native.Mathlib.Decide.{ℕ-discrete}
-use borrow.Author.Tests.{ltb-true, eqb-true, eqb-false}
+use borrow.Author.Tests.{ltb-true, eqb-true, eqb-false, ne-eqb}
 use lib.Dec.{eqb, ltb}
 use lib.ListN.{length, getD}
 use Rattle.shape.specs.Refusals.{refuse, _orElse_}
+use Rattle.shape.specs.RefusalsLaws.{orElse-zero}
 use Rattle.shape.specs.Shapes.{placeCount, dataCount, shapeRefusal, wordRefusal}
 use Rattle.shape.specs.Laws.{word-of-good}
 use Rattle.marks.specs.Refusal.{areMarks, marksRefusal}
@@ -23,13 +24,19 @@ use Rattle.code.specs.AnswerLaws as AnswerLaws
 use Rattle.code.specs.Recovery.{recovered}
 use Rattle.code.specs.RecoveryLaws.{agrees-passing, passing-agrees}
 use Rattle.recover.specs.Service.{recoverRefusal, recoverOf, unlessBefore}
+use Rattle.recover.specs.DemandTwo.{Named, DemandTwo}
+use Rattle.recover.specs.DemandTwoLaws.{demand-two}
 use Rattle.desk.specs.declared.Job.{Job}
 use Rattle.desk.specs.declared.Desk.{Desk}
-use Rattle.desk.specs.Desks.{jobAt, slotOf, isGood, marksOf, isSound, isOpen}
+use Rattle.desk.specs.Desks.{emptyJob, jobAt, slotOf, isGood, marksOf, isSound, isOpen}
 use Rattle.desk.specs.Calls.{handleRefusal, freeSlot, openNumber, openBy, openOf, readBy, readOf, closeBy, closeOf, recoveryOf, jobNumber}
-use Rattle.desk.specs.Calls.{serveNumber, serveBy, serveOf}
+use Rattle.desk.specs.Calls.{Opening, Closing, Serving, servedOnce, serveNumber, serveBy, serveOf}
+use Rattle.desk.specs.CallLaws.{open-refused, close-refused, serve-refused}
 use Rattle.desk.specs.ServeLaws.{open-good, job-length, job-end, job-recovery}
-use Rattle.history.specs.Meaning.{SoundDesk, IsHeld, AllTaken, OpenNumbers, HandleNumbers, AgreesBy, JobNumbers, ServeNumbers}
+use Rattle.history.specs.PutLaws.{put-same, put-other}
+use Rattle.history.specs.EffectsLaws.{slot-below, open-held, handle-parts}
+use Rattle.history.specs.Meaning.{SoundDesk, IsHeld, AllTaken, OpenNumbers, HandleNumbers, AgreesBy, groupBy, JobNumbers, ServeNumbers}
+use Rattle.history.specs.Meaning.{Closes, Serves, KeptIfRefused}
 use Rattle.history.specs.MeaningLaws.{good-iff, sound-iff, held-slot, open-iff, full-iff}
 
 -- ---- Read and Close
@@ -86,6 +93,19 @@ module _ (handle : ℕ) (desk : Desk) where
   unfolding closeOf
   close-numbers = subst (HandleNumbers handle desk) (sym (close-number (handleRefusal handle desk))) (numbers (handleRefusal handle desk) handle-case)
 
+  -- what an accepted Close does
+  pub closes : length (desk .jobs) ≡ 8 → (closeOf handle desk) .number ≡ 0 → Closes handle desk (closeOf handle desk)
+  unfolding closeOf
+  closes size e =
+      let z : handleRefusal handle desk ≡ 0 = sym (close-number (handleRefusal handle desk)) ∙ e in
+      subst (λ r. Closes handle desk (closeBy r handle desk)) (sym z) (record {
+        slot = slotOf handle;
+        held = open-held desk handle (handle-parts handle desk z .1);
+        count = refl;
+        job = put-same desk size (desk .t) (slotOf handle) (slot-below handle) emptyJob;
+        others = λ r n. put-other desk size (desk .t) (slotOf handle) (slot-below handle) emptyJob r n;
+      })
+
 -- ---- Serve
 
 module _ (job : Job) (word : List ℕ) (good : isGood job ≡ true) (size : length word ≡ job .m * job .w) where
@@ -100,24 +120,37 @@ module _ (job : Job) (word : List ℕ) (good : isGood job ≡ true) (size : leng
   unfolding recoverOf
   good-recovery = ap (λ r. unlessBefore r (recovered bytes (job .m) (job .w) (job .c) word (marksOf job)) word (marksOf job)) not-before
 
+  -- demand 2 of the recovery by the job's marks
+  pub job-demand : ((p : ℕ) → getD word p 0 < 256) → DemandTwo (job .m) (job .w) (job .c) word (marksOf job)
+  job-demand b =
+      let M = good-iff job .0 good .0 in
+      demand-two (job .m) (job .w) (job .c) word (marksOf job) (M .good) size b (M .size) (M .each)
+
 -- what a good job answers; of the words that agree only if it is lent bytes
 data JobCase (job : Job) (word : List ℕ) (number : ℕ) : Type 0 where
   other-length : ¬ (length word ≡ job .m * job .w) → number ≡ 5 → JobCase job word number
   at-end : length word ≡ job .m * job .w → job .served ≡ 4294967295 → number ≡ 13 → JobCase job word number
-  none-agrees : length word ≡ job .m * job .w → ¬ (job .served ≡ 4294967295) → ((y : List ℕ) → ¬ AgreesBy job word y) → number ≡ 9 → JobCase job word number
+  none-agrees : length word ≡ job .m * job .w → ¬ (job .served ≡ 4294967295) → ((y : List ℕ) → ¬ AgreesBy job word y)
+      → (recoveryOf job word) .group ≡ groupBy job word
+      → (((p : ℕ) → getD word p 0 < 256) → Named (job .m) (job .w) (job .c) word (marksOf job) ((recoveryOf job word) .group))
+      → number ≡ 9 → JobCase job word number
   one-agrees : length word ≡ job .m * job .w → ¬ (job .served ≡ 4294967295) → (((p : ℕ) → getD word p 0 < 256) → (y : List ℕ) × AgreesBy job word y)
       → number ≡ 0 → JobCase job word number
 
 module _ (job : Job) (word : List ℕ) (good : isGood job ≡ true) where
   recovery-case : length word ≡ job .m * job .w → ¬ (job .served ≡ 4294967295) → JobCase job word (jobNumber job word)
   recovery-case h k =
-      elim (AnswerLaws.cases 256 (isCodeword bytes (job .m) (job .w) (job .c)) (ltb 2 (excess (job .m) (job .w) (job .c) (marksOf job))) word (marksOf job)) [
+      elim
+      (AnswerLaws.cases 256 (isCodeword bytes (job .m) (job .w) (job .c)) (ltb 2 (excess (job .m) (job .w) (job .c) (marksOf job))) (groupBy job word) word
+      (marksOf job)) [
         | eight l e ↦ (
             let a = ltb-true 2 (excess (job .m) (job .w) (job .c) (marksOf job)) l in
             let b = good-iff job .0 good .1 in
             absurd (omega arith))
         | nine _ never e ↦
             none-agrees h k (λ y A. never y (agrees-passing bytes (job .m) (job .w) (job .c) (marksOf job) word y h A))
+            (ap (λ (o : Outcome). o .group) (good-recovery job word good h ∙ e))
+            (λ b. job-demand job word good h b .group (ap (λ (o : Outcome). o .number) (good-recovery job word good h ∙ e)))
             (number ∙ ap (λ (o : Outcome). o .number) e)
         | done _ x P e ↦
             one-agrees h k (λ b. (x, passing-agrees bytes (job .m) (job .w) (job .c) (marksOf job) word x (record { size = h; each = b }) P))
@@ -136,26 +169,35 @@ module _ (job : Job) (word : List ℕ) (good : isGood job ≡ true) where
     ]
   ]
 
-job-numbers : (job : Job) (word : List ℕ) (number : ℕ) → ((p : ℕ) → getD word p 0 < 256) → JobCase job word number → JobNumbers job word number
-job-numbers job word number b (other-length h e) = record {
+job-numbers : (job : Job) (word : List ℕ) (number group : ℕ) → (number ≡ 9 → group ≡ (recoveryOf job word) .group) → ((p : ℕ) → getD word p 0 < 256)
+    → JobCase job word number → JobNumbers job word number group
+job-numbers job word number group g b (other-length h e) = record {
+  group-is = λ k. absurd (omega arith);
+  named = λ k. absurd (omega arith);
   long = (λ _. h, λ _. e);
   ended = (λ k. absurd (omega arith), λ p. absurd (h (p .0)));
   contradictory = (λ k. absurd (omega arith), λ p. absurd (h (p .0)));
   done = (λ k. absurd (omega arith), λ p. absurd (h (p .0)));
 }
-job-numbers job word number b (at-end h k e) = record {
+job-numbers job word number group g b (at-end h k e) = record {
+  group-is = λ z. absurd (omega arith);
+  named = λ z. absurd (omega arith);
   long = (λ z. absurd (omega arith), λ p. absurd (p h));
   ended = (λ _. (h, k), λ _. e);
   contradictory = (λ z. absurd (omega arith), λ p. absurd (p .1 k));
   done = (λ z. absurd (omega arith), λ p. absurd (p .1 k));
 }
-job-numbers job word number b (none-agrees h k never e) = record {
+job-numbers job word number group g b (none-agrees h k never q named e) = record {
+  group-is = λ z. g z ∙ q;
+  named = λ z. subst (Named (job .m) (job .w) (job .c) word (marksOf job)) (sym (g z)) (named b);
   long = (λ z. absurd (omega arith), λ p. absurd (p h));
   ended = (λ z. absurd (omega arith), λ p. absurd (k (p .1)));
   contradictory = (λ _. (h, k, never), λ _. e);
   done = (λ z. absurd (omega arith), λ p. absurd (never (p .2 .0) (p .2 .1)));
 }
-job-numbers job word number b (one-agrees h k some e) = record {
+job-numbers job word number group g b (one-agrees h k some e) = record {
+  group-is = λ z. absurd (omega arith);
+  named = λ z. absurd (omega arith);
   long = (λ z. absurd (omega arith), λ p. absurd (p h));
   ended = (λ z. absurd (omega arith), λ p. absurd (k (p .1)));
   contradictory = (λ z. absurd (omega arith), λ p. absurd (p .2 (some b .0) (some b .1)));
@@ -170,28 +212,41 @@ module _ (handle : ℕ) (word : List ℕ) (desk : Desk) where
   serve-number zero = refl
   serve-number (suc r) = refl
 
+  -- a 9 carries the group of the recovery, another number none
+  nine-group : (r : ℕ) → r ≡ 9 → (serveBy r handle word desk) .group ≡ (recoveryOf job word) .group
+  nine-group r e = ap (λ n. (serveBy n handle word desk) .group) e
+
+  other-group : (r : ℕ) → ¬ (r ≡ 9) → (serveBy r handle word desk) .group ≡ 0
+  other-group zero h = refl
+  other-group (suc r) h = ap (λ b. cond b ((recoveryOf job word) .group) 0) (ne-eqb (suc r) 9 h)
+
   job-one-of : (number : ℕ) → JobCase job word number → (number ≡ 0) ⊎ (number ≡ 31) ⊎ (number ≡ 12) ⊎ (number ≡ 5) ⊎ (number ≡ 13) ⊎ (number ≡ 9)
   job-one-of number (other-length _ e) = inr (inr (inr (inl e)))
   job-one-of number (at-end _ _ e) = inr (inr (inr (inr (inl e))))
-  job-one-of number (none-agrees _ _ _ e) = inr (inr (inr (inr (inr e))))
+  job-one-of number (none-agrees _ _ _ _ _ e) = inr (inr (inr (inr (inr e))))
   job-one-of number (one-agrees _ _ _ e) = inl e
 
   -- a job answers no number of the desk or the handle
   of-desk : (number : ℕ) → JobCase job word number → ¬ (number ≡ 31) × ¬ (number ≡ 12)
   of-desk number (other-length _ e) = (λ k. omega arith, λ k. omega arith)
   of-desk number (at-end _ _ e) = (λ k. omega arith, λ k. omega arith)
-  of-desk number (none-agrees _ _ _ e) = (λ k. omega arith, λ k. omega arith)
+  of-desk number (none-agrees _ _ _ _ _ e) = (λ k. omega arith, λ k. omega arith)
   of-desk number (one-agrees _ _ _ e) = (λ k. omega arith, λ k. omega arith)
 
   -- a refusal by the handle comes first
-  by-handle : (r : ℕ) → handleRefusal handle desk ≡ r → HandleCase handle desk r → ServeNumbers handle word desk (r orElse jobNumber job word)
-  by-handle r q (not-sound n e) = subst (λ x. ServeNumbers handle word desk (x orElse jobNumber job word)) (sym e) (record {
+  abbrev Numbers : ℕ → Type 0
+  Numbers r = ServeNumbers handle word desk r ((serveBy r handle word desk) .group)
+
+  by-handle : (r : ℕ) → handleRefusal handle desk ≡ r → HandleCase handle desk r → Numbers (r orElse jobNumber job word)
+  by-handle r q (not-sound n e) = subst (λ x. Numbers (x orElse jobNumber job word)) (sym e) (record {
+    no-group = other-group 31;
     one-of = inr (inl refl);
     unsound = (λ _. n, λ _. refl);
     shut = (λ k. absurd (omega arith), λ p. absurd (n (p .0)));
     of-job = λ s D H b. absurd (n D);
   })
-  by-handle r q (not-open D n e) = subst (λ x. ServeNumbers handle word desk (x orElse jobNumber job word)) (sym e) (record {
+  by-handle r q (not-open D n e) = subst (λ x. Numbers (x orElse jobNumber job word)) (sym e) (record {
+    no-group = other-group 12;
     one-of = inr (inr (inl refl));
     unsound = (λ k. absurd (omega arith), λ p. absurd (p D));
     shut = (λ _. (D, n), λ _. refl);
@@ -199,19 +254,50 @@ module _ (handle : ℕ) (word : List ℕ) (desk : Desk) where
   })
   by-handle r q (is-open D o e) =
       let J = job-case job word (open-good handle desk (q ∙ e)) in
-      subst (λ x. ServeNumbers handle word desk (x orElse jobNumber job word)) (sym e) (record {
+      subst (λ x. Numbers (x orElse jobNumber job word)) (sym e) (record {
+        no-group = other-group (jobNumber job word);
         one-of = job-one-of (jobNumber job word) J;
         unsound = (λ k. absurd (of-desk (jobNumber job word) J .0 k), λ p. absurd (p D));
         shut = (λ k. absurd (of-desk (jobNumber job word) J .1 k), λ p. absurd (p .1 o));
         of-job = λ s _ H b.
-            subst (λ r. JobNumbers (jobAt desk r) word (jobNumber job word)) (sym (held-slot desk D H)) (job-numbers job word (jobNumber job word) b J);
+            subst (λ r. JobNumbers (jobAt desk r) word (jobNumber job word) ((serveBy (jobNumber job word) handle word desk) .group))
+            (sym (held-slot desk D H))
+            (job-numbers job word (jobNumber job word) ((serveBy (jobNumber job word) handle word desk) .group) (nine-group (jobNumber job word)) b J);
       })
 
-  pub serve-numbers : ServeNumbers handle word desk ((serveOf handle word desk) .number)
+  pub serve-numbers : ServeNumbers handle word desk ((serveOf handle word desk) .number) ((serveOf handle word desk) .group)
   unfolding serveOf serveNumber
   serve-numbers =
-      subst (ServeNumbers handle word desk) (sym (serve-number (handleRefusal handle desk orElse jobNumber job word)))
+      subst (λ n. ServeNumbers handle word desk n ((serveBy (handleRefusal handle desk orElse jobNumber job word) handle word desk) .group))
+      (sym (serve-number (handleRefusal handle desk orElse jobNumber job word)))
       (by-handle (handleRefusal handle desk) refl (handle-case handle desk))
+
+  -- what an accepted Serve does with a word of bytes
+  pub serves : length (desk .jobs) ≡ 8 → ((p : ℕ) → getD word p 0 < 256) → (serveOf handle word desk) .number ≡ 0
+      → Serves handle word desk (serveOf handle word desk)
+  unfolding serveOf serveNumber
+  serves size b e =
+      let z : (handleRefusal handle desk orElse jobNumber job word) ≡ 0 = sym (serve-number (handleRefusal handle desk orElse jobNumber job word)) ∙ e in
+      let p = orElse-zero (handleRefusal handle desk) (jobNumber job word) z in
+      let good = open-good handle desk (p .0) in
+      let S = served (jobNumber job word) (job-case job word good) (p .1) in
+      let T = job-demand job word good (S .0) b in
+      let r = sym (job-recovery job word (S .0) (S .1)) ∙ p .1 in
+      subst (λ n. Serves handle word desk (serveBy n handle word desk)) (sym z) (record {
+        slot = slotOf handle;
+        held = open-held desk handle (handle-parts handle desk (p .0) .1);
+        agrees = T .agrees r;
+        only = T .only r;
+        count = refl;
+        job = put-same desk size (desk .t) (slotOf handle) (slot-below handle) (servedOnce job);
+        others = λ s n. put-other desk size (desk .t) (slotOf handle) (slot-below handle) (servedOnce job) s n;
+      })
+    where
+      served : (number : ℕ) → JobCase job word number → number ≡ 0 → (length word ≡ job .m * job .w) × ¬ (job .served ≡ 4294967295)
+      served number (other-length _ q) k = absurd (omega arith)
+      served number (at-end _ _ q) k = absurd (omega arith)
+      served number (none-agrees _ _ _ _ _ q) k = absurd (omega arith)
+      served number (one-agrees h n _ q) k = (h, n)
 
 -- "a serve can't meet 8, since open refused it"
 pub never-eight : (handle : ℕ) (word : List ℕ) (desk : Desk) → ¬ ((serveOf handle word desk) .number ≡ 8)
@@ -345,3 +431,24 @@ module _ (m w c : ℕ) (marks : List ℕ) (desk : Desk) where
   unfolding openOf
   open-numbers size =
       subst (OpenNumbers m w c marks desk) (sym (open-number (openNumber m w c marks desk))) (case-numbers (openNumber m w c marks desk) (open-case size))
+
+-- ---- refusals
+
+module _ (desk : Desk) where
+  -- a refusal leaves the desk, and Serve's word, as they were
+  pub kept-if-refused : KeptIfRefused desk
+  unfolding openOf serveOf closeOf
+  kept-if-refused = record {
+    by-open = λ m w c marks n.
+        let r = openNumber m w c marks desk in
+        ap (λ (o : Opening). o .desk) (open-refused r (λ z. n (open-number m w c marks desk r ∙ z)) m w c marks desk);
+    by-serve = λ handle word n.
+        let r = serveNumber handle word desk in
+        ap (λ (o : Serving). o .desk) (serve-refused r (λ z. n (serve-number handle word desk r ∙ z)) handle word desk);
+    word-by-serve = λ handle word n.
+        let r = serveNumber handle word desk in
+        ap (λ (o : Serving). o .word) (serve-refused r (λ z. n (serve-number handle word desk r ∙ z)) handle word desk);
+    by-close = λ handle n.
+        let r = handleRefusal handle desk in
+        ap (λ (o : Closing). o .desk) (close-refused r (λ z. n (close-number handle desk r ∙ z)) handle desk);
+  }

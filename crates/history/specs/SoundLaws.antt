@@ -84,7 +84,8 @@ module _ (desk : Desk) (e : isSound desk ≡ false) where
 
   pub unsound-serve : (h : ℕ) (word : List ℕ) → step (Serve h word) desk ≡ refused31 desk
   unfolding step serveOf
-  unsound-serve h word = ap (λ r. record { number = serveBy r h word desk .number; value = 0; desk = serveBy r h word desk .desk }) (serve-31 h word)
+  unsound-serve h word =
+      ap (λ r. record { number = serveBy r h word desk .number; value = serveBy r h word desk .group; desk = serveBy r h word desk .desk }) (serve-31 h word)
 
   pub unsound-read : (h : ℕ) → step (Read h) desk ≡ refused31 desk
   unfolding step readOf

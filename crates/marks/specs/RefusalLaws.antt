@@ -1,6 +1,6 @@
 -- Laws: The refusals of a service that is lent marks.
 use mathlib.Core.Path.{_≡_, refl, sym, subst}
-use mathlib.Core.Bool.{true, false}
+use mathlib.Core.Bool.{true, false, not}
 use mathlib.Core.List.{List}
 use Prim.Native.Nat.{ℕ, zero, suc, _<_, _≤_}
 use native.Mathlib.Omega.{arith}
@@ -11,7 +11,9 @@ use lib.Ieee.Bits.{is-true}
 use lib.ListN.{length, getD, List·getD-eq-default}
 use Rattle.counting.specs.TestLaws.{all-at, all-intro}
 use Rattle.shape.specs.Refusals.{_orElse_}
-use Rattle.shape.specs.RefusalsLaws.{refuse-zero, orElse-zero}
+use Rattle.shape.specs.RefusalsLaws.{refuse-zero, orElse-zero, refuse-most, orElse-most}
+use Rattle.shape.specs.Laws.{word-most}
+use Rattle.shape.specs.Shapes.{wordRefusal}
 use Rattle.groups.specs.LentLaws.{lent, not-refused}
 use Rattle.marks.specs.Refusal.{areMarks, marksRefusal, Marked}
 
@@ -51,3 +53,10 @@ module _ (m w c : ℕ) (marks : List ℕ) where
   unfolding marksRefusal
   marks-of-good M =
       simp (not-refused m w c marks (record { good = M .good; size = M .size }), marks-each marks (λ p _. M .each p))
+
+  -- the numbers of these refusals
+  pub marks-most : marksRefusal m w c marks ≤ 6
+  unfolding marksRefusal
+  marks-most =
+      orElse-most 6 (wordRefusal m w c (length marks)) _ (let h = word-most m w c (length marks) in omega arith)
+      (refuse-most 6 6 (not (areMarks marks)) (omega arith))

@@ -46,7 +46,7 @@ pub record Ready (m w c : ℕ) (h : Held) : Type 0 where
   pub marked : Marked m w c (h .marks)
 
 -- "Group repairs first, in any order, repeated and refused ones included, do not change what a recovery answers": the recovery after the
--- calls of the list gives the number of the recovery at once, 8 exactly when the excess of the start's marks is above two and, where it is
+-- calls of the list gives the number and the group of the recovery at once, 8 exactly when the excess of the start's marks is above two and, where it is
 -- done, the same n bytes with all marks clear.
 pub record OrderHolds (m w c : ℕ) (list word marks : List ℕ) : Type 0 where
   pub same : SameEnd (recoverAfter m w c list word marks) (recoverOf m w c word marks)

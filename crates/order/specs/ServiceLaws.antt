@@ -13,8 +13,8 @@ use borrow.Author.Tests.{lt-ltb, le-ltb}
 use lib.Dec.{ltb}
 use lib.ListN.{length, getD, drop, replicate, length-replicate, getD-replicate, drop-of-length-le}
 use lib.Seq.{drop-cons}
-use Rattle.shape.specs.declared.Answer.{Answer}
-use Rattle.shape.specs.Answers.{answerAt}
+use Rattle.shape.specs.declared.Mending.{Mending}
+use Rattle.shape.specs.Answers.{mendingAt}
 use Rattle.shape.specs.Refusals.{refuse, _orElse_}
 use Rattle.shape.specs.RefusalsLaws.{orElse-zero}
 use Rattle.shape.specs.Shapes.{Good, wordRefusal}
@@ -97,7 +97,7 @@ module _ (m w c : ℕ) where
     -- after a repair each mark is 0 or 1 still
     group-marks : (word : List ℕ) (p : ℕ) → getD ((repairedGroup bytes w c g word marks) .marks) p 0 < 2
     group-marks word p =
-        elim (AnswerLaws.cases 256 (λ x. isLocal bytes w c x 0) (ltb c (lostIn w (stretch w g marks) 0)) (stretch w g word) (stretch w g marks)) [
+        elim (AnswerLaws.cases 256 (λ x. isLocal bytes w c x 0) (ltb c (lostIn w (stretch w g marks) 0)) g (stretch w g word) (stretch w g marks)) [
           | Answer.eight _ e ↦ same (ap (λ o. o .marks) e)
           | Answer.nine _ _ e ↦ same (ap (λ o. o .marks) e)
           | Answer.done _ x _ e ↦ clear (ap (λ o. o .marks) e)
@@ -159,6 +159,7 @@ module _ (m w c : ℕ) (list word marks : List ℕ) where
       record {
         same = record {
           number = is .number ∙ S .same .number ∙ ap (λ o. o .number) (sym once);
+          group = is .group ∙ S .same .group ∙ ap (λ o. o .group) (sym once);
           word = λ e. is .word e ∙ S .same .word (sym (is .number) ∙ e) ∙ ap (λ o. o .word) (sym once);
           marks = λ e. is .marks e ∙ S .same .marks (sym (is .number) ∙ e) ∙ ap (λ o. o .marks) (sym once);
         };
@@ -193,7 +194,7 @@ module _ (m w c : ℕ) (list word marks : List ℕ) where
       → ((recoverAfter m w c list word marks) .number ≡ 8) ↔ (2 < excess m w c marks)
   order-eight small e = order-accepted small e .eight
 
-  -- Of every call, good or bad: the same number and, where it is 0, the same bytes and marks.
+  -- Of every call, good or bad: the same number, the same group and, where the number is 0, the same bytes and marks.
   pub same-recovery : ((p : ℕ) → getD word p 0 < 256) → SameEnd (recoverAfter m w c list word marks) (recoverOf m w c word marks)
   same-recovery small = elim (ℕ-discrete (recoverRefusal m w c word marks) 0) [
     | yes e ↦ order-accepted small e .same
@@ -215,8 +216,8 @@ module _ (m w c : ℕ) (list : List ℕ) (i : ℕ) (word marks : List ℕ) (end 
   list-end l = ap (λ gs. heldAfterList m w c gs (held word marks)) (sym (drop-of-length-le list l)) ∙ left
 
 -- ---- the contract, from what the calls say: word₁ and marks₁ stand before the recovery, word₂ and marks₂ after it
-module _ (m w c : ℕ) (list word marks word₁ marks₁ word₂ marks₂ : List ℕ) (r : Answer) (small : (p : ℕ) → getD word p 0 < 256)
-    (before : held word₁ marks₁ ≡ heldAfterList m w c list (held word marks)) (answer-is : r ≡ answerAt ((recoverOf m w c word₁ marks₁) .number))
+module _ (m w c : ℕ) (list word marks word₁ marks₁ word₂ marks₂ : List ℕ) (r : Mending) (small : (p : ℕ) → getD word p 0 < 256)
+    (before : held word₁ marks₁ ≡ heldAfterList m w c list (held word marks)) (answer-is : r ≡ mendingAt ((recoverOf m w c word₁ marks₁) .number) ((recoverOf m w c word₁ marks₁) .group))
     (word-is : word₂ ≡ (recoverOf m w c word₁ marks₁) .word) (marks-is : marks₂ ≡ (recoverOf m w c word₁ marks₁) .marks) where
   outcome : recoverOf m w c word₁ marks₁ ≡ recoverAfter m w c list word marks
   outcome = ap (recoverHeld m w c) before
@@ -224,8 +225,8 @@ module _ (m w c : ℕ) (list word marks word₁ marks₁ word₂ marks₂ : List
   S : SameEnd (recoverAfter m w c list word marks) (recoverOf m w c word marks)
   S = same-recovery m w c list word marks small
 
-  pub after-answer : r ≡ answerAt ((recoverAfter m w c list word marks) .number)
-  after-answer = answer-is ∙ ap (λ o. answerAt (o .number)) outcome
+  pub after-answer : r ≡ mendingAt ((recoverAfter m w c list word marks) .number) ((recoverAfter m w c list word marks) .group)
+  after-answer = answer-is ∙ ap (λ o. mendingAt (o .number) (o .group)) outcome
 
   pub after-word : word₂ ≡ (recoverAfter m w c list word marks) .word
   after-word = word-is ∙ ap (λ o. o .word) outcome
@@ -234,10 +235,10 @@ module _ (m w c : ℕ) (list word marks word₁ marks₁ word₂ marks₂ : List
   after-marks = marks-is ∙ ap (λ o. o .marks) outcome
 
   -- the clauses in their order
-  pub contract : (r ≡ answerAt ((recoverAfter m w c list word marks) .number))
+  pub contract : (r ≡ mendingAt ((recoverAfter m w c list word marks) .number) ((recoverAfter m w c list word marks) .group))
       × ((word₂ ≡ (recoverAfter m w c list word marks) .word)
       × ((marks₂ ≡ (recoverAfter m w c list word marks) .marks)
-      × ((r ≡ answerAt ((recoverOf m w c word marks) .number))
+      × ((r ≡ mendingAt ((recoverOf m w c word marks) .number) ((recoverOf m w c word marks) .group))
       × (((recoverOf m w c word marks) .number ≡ 0 → word₂ ≡ (recoverOf m w c word marks) .word)
       × ((recoverOf m w c word marks) .number ≡ 0 → marks₂ ≡ (recoverOf m w c word marks) .marks)))))
   contract = (
@@ -246,7 +247,7 @@ module _ (m w c : ℕ) (list word marks word₁ marks₁ word₂ marks₂ : List
       after-word,
       (
         after-marks,
-        (after-answer ∙ ap answerAt (S .number), ((λ e. after-word ∙ S .word (S .number ∙ e)), (λ e. after-marks ∙ S .marks (S .number ∙ e)))),
+        (after-answer ∙ ap₂ mendingAt (S .number) (S .group), ((λ e. after-word ∙ S .word (S .number ∙ e)), (λ e. after-marks ∙ S .marks (S .number ∙ e)))),
       ),
     ),
   )

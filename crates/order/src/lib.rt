@@ -1,7 +1,7 @@
 // Repairs of groups and then a recovery, which answers as it would at once.
-use shape::Answer;
+use shape::Mending;
 ghost use mathlib.Core.Path.{_≡_};
-ghost use Rattle.shape.specs.Answers.{answerAt};
+ghost use Rattle.shape.specs.Answers.{mendingAt};
 ghost use Rattle.recover.specs.Service.{recoverOf};
 ghost use Rattle.order.specs.Service.{held, heldAfterList, recoverAfter};
 
@@ -25,11 +25,11 @@ pub fn repair_then_recover(
     word: &mut [u8],
     marks: &mut [u8],
     list: &[usize],
-) -> Answer
-    ensures answer { λ r. ⌜ r ≡ answerAt ((recoverAfter m w c (now (list .entry)) (now (word .entry)) (now (marks .entry))) .number) ⌝ }
+) -> Mending
+    ensures answer { λ r. ⌜ r ≡ mendingAt ((recoverAfter m w c (now (list .entry)) (now (word .entry)) (now (marks .entry))) .number) ((recoverAfter m w c (now (list .entry)) (now (word .entry)) (now (marks .entry))) .group) ⌝ }
     ensures word { λ _. ⌜ now (word .exit) ≡ (recoverAfter m w c (now (list .entry)) (now (word .entry)) (now (marks .entry))) .word ⌝ }
     ensures marks { λ _. ⌜ now (marks .exit) ≡ (recoverAfter m w c (now (list .entry)) (now (word .entry)) (now (marks .entry))) .marks ⌝ }
-    ensures as_at_once { λ r. ⌜ r ≡ answerAt ((recoverOf m w c (now (word .entry)) (now (marks .entry))) .number) ⌝ }
+    ensures as_at_once { λ r. ⌜ r ≡ mendingAt ((recoverOf m w c (now (word .entry)) (now (marks .entry))) .number) ((recoverOf m w c (now (word .entry)) (now (marks .entry))) .group) ⌝ }
     ensures same_word { λ _. ⌜ ((recoverOf m w c (now (word .entry)) (now (marks .entry))) .number ≡ 0 → now (word .exit) ≡ (recoverOf m w c (now (word .entry)) (now (marks .entry))) .word) ⌝ }
     ensures same_marks { λ _. ⌜ ((recoverOf m w c (now (word .entry)) (now (marks .entry))) .number ≡ 0 → now (marks .exit) ≡ (recoverOf m w c (now (word .entry)) (now (marks .entry))) .marks) ⌝ }
 {

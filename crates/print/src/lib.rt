@@ -4,7 +4,7 @@ ghost use mathlib.Core.List.{[], _∷_};
 ghost use Prim.Native.Nat.{_+_, _*_, _≤_, _<_};
 ghost use lib.ListN.{length};
 ghost use Rattle.text.specs.Decimal.{decimal};
-ghost use Rattle.text.specs.Lines.{cells, lineOf, okLine, refusedLine, wordLine};
+ghost use Rattle.text.specs.Lines.{cells, lineOf, okLine, refusedLine, contradictoryLine, wordLine};
 ghost use Rattle.print.specs.Written.{written};
 ghost use Rattle.print.specs.Holds.{Holds};
 
@@ -93,6 +93,13 @@ pub fn refused(r: u8) -> Line
     ensures { λ made. ⌜ Holds made (refusedLine r) ⌝ }
 {
     line_of(b"refused", &[r])
+}
+
+// The refusal 9 and the group that contradicts.
+pub fn contradictory(group: u8) -> Line
+    ensures { λ made. ⌜ Holds made (contradictoryLine group) ⌝ }
+{
+    line_of(b"refused", &[9, group])
 }
 
 // The answer to a shape: n and k.

@@ -1,19 +1,23 @@
 -- An attempt with the candidate: it is the codeword that agrees, or none does.
 use mathlib.Core.Path.{_≡_}
-use mathlib.Core.Bool.{Bool, true, false}
+use mathlib.Core.Bool.{true, false}
 use mathlib.Core.List.{List}
 use Prim.Native.Nat.{ℕ, _*_, _≤_}
 use lib.ListN.{length}
 use Rattle.code.specs.Edition.{bytes}
 use Rattle.code.specs.Marks.{excess}
+use Rattle.code.specs.Contradiction.{contradictingGroup}
 use Rattle.code.specs.Recovery.{Agrees}
 use Rattle.shape.specs.Shapes.{Good}
+use Rattle.syndrome.specs.declared.Tested.{Tested}
 use Rattle.recover.specs.Service.{recoverRefusal}
 
--- where it succeeds the codeword that agrees is written; else nothing is, and for an excess of at most two no codeword agrees
-pub record Attempt (m w c : ℕ) (marks before after : List ℕ) (ok : Bool) : Type 0 where
-  pub done : ok ≡ true → Agrees bytes m w c marks before after
-  pub failed : ok ≡ false → (after ≡ before) × (excess m w c marks ≤ 2 → (y : List ℕ) → Agrees bytes m w c marks before y → ⊥)
+-- where it succeeds the codeword that agrees is written; else nothing is, the contradicting group is named, and for an excess of at most two
+-- no codeword agrees
+pub record Attempt (m w c : ℕ) (marks before after : List ℕ) (tested : Tested) : Type 0 where
+  pub done : tested .codeword ≡ true → Agrees bytes m w c marks before after
+  pub failed : tested .codeword ≡ false → (after ≡ before) × (excess m w c marks ≤ 2 → (y : List ℕ) → Agrees bytes m w c marks before y → ⊥)
+  pub group : tested .group ≡ contradictingGroup bytes m w c before marks
 
 -- a call that is not refused by its shape, lengths or marks
 pub record Accepted (m w c : ℕ) (word marks : List ℕ) : Type 0 where

@@ -1,8 +1,10 @@
 -- Recover keeps demand 2, and the bytes in lost places play no part in what it answers.
 use mathlib.Core.Path.{_≡_, refl, sym, ap, ap₂, _∙_, subst}
 use mathlib.Core.List.{List}
-use Prim.Native.Nat.{ℕ, zero, suc, _*_, _<_, _^_}
+use Prim.Native.Nat.{ℕ, zero, suc, _*_, _<_, _≤_, _^_}
+use native.Mathlib.Nat.{mul-le-mul-right}
 use native.Mathlib.Omega.{arith}
+use native.Mathlib.Decide.{decLt}
 use lib.Dec.{ltb}
 use lib.ListN.{length, getD, replicate}
 use Rattle.shape.specs.Refusals.{_orElse_}
@@ -13,14 +15,21 @@ use Rattle.marks.specs.RefusalLaws.{marks-of-good}
 use Rattle.code.specs.Edition.{bytes, bytes-sound}
 use Rattle.code.specs.EditionLaws.{bytes-few}
 use Rattle.code.specs.Word.{isCodeword, Symbols}
-use Rattle.code.specs.Marks.{excess, Agree}
+use Rattle.code.specs.Marks.{lostIn, excess, Agree}
+use Rattle.counting.specs.FirstLaws.{first-most, first-before, first-holds}
+use Rattle.code.specs.Stretch.{stretch}
+use Rattle.code.specs.StretchLaws.{stretch-length, stretch-below, stretch-count}
+use Rattle.code.specs.OneGroupLaws.{agrees-satisfies, satisfies-agrees}
+use Rattle.code.specs.Contradiction.{isBroken, contradictingGroup}
+use Rattle.code.specs.ContradictionLaws.{sound-filling, broken-never, contradicting-present}
 use Rattle.code.specs.Answer.{Outcome, SameEnd}
-use Rattle.code.specs.AnswerLaws.{same-refusal, same-present, refused-unchanged}
+use Rattle.code.specs.AnswerLaws.{same-refusal, same-present, refused-unchanged, nine-group, other-group}
 use Rattle.code.specs.Recovery.{Agrees, recovered, Single}
 use Rattle.code.specs.RecoveryLaws.{eight-undetermined, undetermined-eight, nine-contradictory, contradictory-nine}
 use Rattle.code.specs.RecoveryLaws.{done-determined, determined-done, done-single}
 use Rattle.recover.specs.Service.{unlessBefore, recoverRefusal, recoverOf}
-use Rattle.recover.specs.DemandTwo.{end, DemandTwo}
+use Rattle.recover.specs.FillableLaws.{fillable}
+use Rattle.recover.specs.DemandTwo.{end, Named, DemandTwo}
 
 -- a good shape, n bytes and n marks are not refused 1 to 6
 pub good-start : (m w c : ℕ) (word marks : List ℕ) → Marked m w c marks → length word ≡ m * w → recoverRefusal m w c word marks ≡ 0
@@ -49,8 +58,43 @@ module _ (m w c : ℕ) (word marks : List ℕ) (M : Marked m w c marks) (s : Sym
 
   kept : ¬ ((end m w c word marks) .number ≡ 0) → ((end m w c word marks) .word ≡ word) × ((end m w c word marks) .marks ≡ marks)
   kept n =
-      let U = refused-unchanged (2 ^ bytes .bits) (isCodeword bytes m w c) (ltb 2 (excess m w c marks)) word marks (λ e. n (number-is ∙ e)) in
+      let U = refused-unchanged (2 ^ bytes .bits) (isCodeword bytes m w c) (ltb 2 (excess m w c marks))
+      (contradictingGroup bytes m w c word marks) word marks (λ e. n (number-is ∙ e)) in
       (ap (λ o. o .word) is ∙ U .0, ap (λ o. o .marks) is ∙ U .1)
+
+  -- the group that a 9 carries
+  part-symbols : (g : ℕ) → g < m → Symbols bytes w (stretch w g word)
+  part-symbols g l = record {
+    size = stretch-length w g word (subst (λ n. suc g * w ≤ n) (sym (s .size)) (mul-le-mul-right w l));
+    each = stretch-below w g word 256 (s .each);
+  }
+
+  named : Named m w c word marks (contradictingGroup bytes m w c word marks)
+  unfolding contradictingGroup
+  named = record {
+    most = first-most m (isBroken bytes w c word marks);
+    broken = λ l y A.
+        broken-never bytes w c word marks (contradictingGroup bytes m w c word marks) (first-holds m (isBroken bytes w c word marks) l) y
+        (agrees-satisfies bytes w c _ _ y (part-symbols (contradictingGroup bytes m w c word marks) l .size) A);
+    lower = λ i l.
+        let F = sound-filling bytes w c word marks i (first-before m (isBroken bytes w c word marks) i l) in
+        let k : i < m = (let h = first-most m (isBroken bytes w c word marks) in omega arith) in
+        (F .x, satisfies-agrees bytes w c (stretch w i marks) (stretch w i word) (F .x) (part-symbols i k) (F .satisfies));
+    few = λ l. elim (decLt (lostIn w marks (contradictingGroup bytes m w c word marks)) c) [
+      | yes h ↦ h
+      | no h ↦
+          absurd (broken-never bytes w c word marks (contradictingGroup bytes m w c word marks) (first-holds m (isBroken bytes w c word marks) l) _
+          (fillable bytes bytes-sound w c wide (M .good .narrow) (stretch w (contradictingGroup bytes m w c word marks) word)
+          (stretch w (contradictingGroup bytes m w c word marks) marks) (part-symbols (contradictingGroup bytes m w c word marks) l)
+          (stretch-length w (contradictingGroup bytes m w c word marks) marks (subst (λ n. suc (contradictingGroup bytes m w c word marks) * w ≤ n) (sym (M .size)) (mul-le-mul-right w l)))
+          (subst (λ n. c ≤ n) (sym (stretch-count w (contradictingGroup bytes m w c word marks) marks)) (omega arith))))
+    ];
+  }
+
+  group-is : (end m w c word marks) .number ≡ 9 → (end m w c word marks) .group ≡ contradictingGroup bytes m w c word marks
+  group-is e =
+      ap (λ o. o .group) is
+      ∙ nine-group (2 ^ bytes .bits) (isCodeword bytes m w c) (ltb 2 (excess m w c marks)) (contradictingGroup bytes m w c word marks) word marks (sym number-is ∙ e)
 
   demand : DemandTwo m w c word marks
   demand =
@@ -65,6 +109,11 @@ module _ (m w c : ℕ) (word marks : List ℕ) (M : Marked m w c marks) (s : Sym
           (λ e. nine-contradictory bytes bytes-sound m w c few wide narrow word marks s (sym number-is ∙ e)),
           (λ P. number-is ∙ contradictory-nine bytes bytes-sound m w c few wide narrow word marks s (P .0) (P .1)),
         );
+        group = λ e. subst (Named m w c word marks) (sym (group-is e)) named;
+        no-group = λ n.
+            ap (λ o. o .group) is
+            ∙ other-group (2 ^ bytes .bits) (isCodeword bytes m w c) (ltb 2 (excess m w c marks)) (contradictingGroup bytes m w c word marks) word marks
+            (λ e. n (number-is ∙ e));
         done = (
           (λ e. (done-determined bytes bytes-sound m w c few wide narrow word marks s (sym number-is ∙ e), ((end m w c word marks) .word, agrees e))),
           (λ P. number-is ∙ determined-done bytes bytes-sound m w c few wide narrow word marks s (P .0) (P .1 .0) (P .1 .1)),
@@ -83,7 +132,7 @@ demand-two m w c word marks good size small marks-size each =
     demand m w c word marks (record { good = good; size = marks-size; each = each }) (record { size = size; each = small })
 
 -- "The byte standing in a lost place has no effect on any answer": of every call, good or bad, two words of one length that agree at the
--- present places get the same number and, where it is 0, the same word and marks.
+-- present places get the same number and group and, where the number is 0, the same word and marks.
 pub lost-bytes : (m w c : ℕ) (word₁ word₂ marks : List ℕ) → length word₁ ≡ length word₂ → Agree (length word₁) marks word₁ word₂
     → SameEnd (recoverOf m w c word₁ marks) (recoverOf m w c word₂ marks)
 unfolding recoverOf recoverRefusal
@@ -95,5 +144,7 @@ lost-bytes m w c word₁ word₂ marks size same =
     second r = unlessBefore r (recovered bytes m w c word₂ marks) word₂ marks
 
     go : (r : ℕ) → SameEnd (unlessBefore r (recovered bytes m w c word₁ marks) word₁ marks) (second r)
-    go zero = same-present (2 ^ bytes .bits) (isCodeword bytes m w c) (ltb 2 (excess m w c marks)) word₁ word₂ marks size same
+    go zero =
+        same-present (2 ^ bytes .bits) (isCodeword bytes m w c) (ltb 2 (excess m w c marks)) (contradictingGroup bytes m w c word₁ marks)
+        (contradictingGroup bytes m w c word₂ marks) word₁ word₂ marks (contradicting-present bytes m w c word₁ word₂ marks size same) size same
     go (suc r) = same-refusal (suc r) (λ z. omega arith) refl refl

@@ -18,6 +18,6 @@ unlessBefore (suc r) o word marks = refused (suc r) word marks
 unfoldable pub recoverRefusal : ℕ → ℕ → ℕ → List ℕ → List ℕ → ℕ
 recoverRefusal m w c word marks = wordRefusal m w c (length word) orElse marksRefusal m w c marks
 
--- then 8, 9 or the codeword
+-- then 8, 9 with the group that contradicts, or the codeword
 unfoldable pub recoverOf : ℕ → ℕ → ℕ → List ℕ → List ℕ → Outcome
 recoverOf m w c word marks = unlessBefore (recoverRefusal m w c word marks) (recovered bytes m w c word marks) word marks

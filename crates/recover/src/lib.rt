@@ -1,10 +1,11 @@
 // The service Recover.
-use shape::Answer;
+use shape::Mending;
+use syndrome::Tested;
 ghost use mathlib.Core.Path.{_≡_};
 ghost use Prim.Native.Nat.{_*_, _≤_};
 ghost use lib.ListN.{length};
 ghost use Rattle.shape.specs.Shapes.{Good};
-ghost use Rattle.shape.specs.Answers.{answerAt, answerNumber};
+ghost use Rattle.shape.specs.Answers.{mendingAt, mendingNumber};
 ghost use Rattle.code.specs.Marks.{excess};
 ghost use Rattle.recover.specs.Service.{recoverRefusal, recoverOf};
 ghost use Rattle.recover.specs.Attempt.{Attempt};
@@ -20,8 +21,8 @@ pub fn refusal(m: usize, w: usize, c: usize, word: &[u8], marks: &[u8]) -> u8
     marks::marks_refusal(m, w, c, marks)
 }
 
-// Writes the candidate, made in found, into the word if it is a codeword.
-fn attempt(m: usize, w: usize, c: usize, word: &mut [u8], marks: &[u8], found: &mut [u8]) -> bool
+// Writes the candidate, made in found, into the word if it is a codeword; else it names the group that contradicts.
+fn attempt(m: usize, w: usize, c: usize, word: &mut [u8], marks: &[u8], found: &mut [u8]) -> Tested
     requires { ⌜ Good m w c ⌝ }
     requires { ⌜ length (now word) ≡ m * w ⌝ }
     requires { ⌜ length (now marks) ≡ m * w ⌝ }
@@ -29,45 +30,47 @@ fn attempt(m: usize, w: usize, c: usize, word: &mut [u8], marks: &[u8], found: &
     ensures { λ r. ⌜ Attempt m w c (now (marks .entry)) (now (word .entry)) (now (word .exit)) r ⌝ }
 {
     candidate::candidate(m, w, c, word, marks, found);
-    if !syndrome::is_codeword(m, w, c, found) {
-        return false;
+    let tested = syndrome::test(m, w, c, found);
+    if !tested.codeword {
+        return tested;
     }
     let end = word.len();
     buffers::copy(&found[..end], &mut word[..end]);
-    true
+    tested
 }
 
-// What comes after the test of the excess: the codeword that agrees is written and all marks are cleared, or it answers 9 and changes nothing.
-fn recover_determined(m: usize, w: usize, c: usize, word: &mut [u8], marks: &mut [u8]) -> Answer
+// What comes after the test of the excess: the codeword that agrees is written and all marks are cleared, or it answers 9 with the group that contradicts and changes nothing.
+fn recover_determined(m: usize, w: usize, c: usize, word: &mut [u8], marks: &mut [u8]) -> Mending
     requires { ⌜ recoverRefusal m w c (now word) (now marks) ≡ 0 ⌝ }
     requires { ⌜ excess m w c (now marks) ≤ 2 ⌝ }
-    ensures answer { λ r. ⌜ r ≡ answerAt ((recoverOf m w c (now (word .entry)) (now (marks .entry))) .number) ⌝ }
+    ensures answer { λ r. ⌜ r ≡ mendingAt ((recoverOf m w c (now (word .entry)) (now (marks .entry))) .number) ((recoverOf m w c (now (word .entry)) (now (marks .entry))) .group) ⌝ }
     ensures word { λ _. ⌜ now (word .exit) ≡ (recoverOf m w c (now (word .entry)) (now (marks .entry))) .word ⌝ }
     ensures marks { λ _. ⌜ now (marks .exit) ≡ (recoverOf m w c (now (word .entry)) (now (marks .entry))) .marks ⌝ }
-    ensures never_eight { λ r. ⌜ (answerNumber r ≡ 8 → ⊥) ⌝ }
+    ensures never_eight { λ r. ⌜ (mendingNumber r ≡ 8 → ⊥) ⌝ }
 {
     let n = word.len();
     let mut found = [0u8; 240];
-    let done = attempt(m, w, c, word, marks, &mut found[..n]);
+    let tested = attempt(m, w, c, word, marks, &mut found[..n]);
+    let done = tested.codeword;
     buffers::clear_if(done, marks);
     if !done {
-        return Answer::Refused(9);
+        return Mending::Contradictory(tested.group as u8);
     }
-    Answer::Done
+    Mending::Done
 }
 
 // Recovers the whole word from its present bytes, or refuses and changes nothing.
-pub fn recover(m: usize, w: usize, c: usize, word: &mut [u8], marks: &mut [u8]) -> Answer
-    ensures answer { λ r. ⌜ r ≡ answerAt ((recoverOf m w c (now (word .entry)) (now (marks .entry))) .number) ⌝ }
+pub fn recover(m: usize, w: usize, c: usize, word: &mut [u8], marks: &mut [u8]) -> Mending
+    ensures answer { λ r. ⌜ r ≡ mendingAt ((recoverOf m w c (now (word .entry)) (now (marks .entry))) .number) ((recoverOf m w c (now (word .entry)) (now (marks .entry))) .group) ⌝ }
     ensures word { λ _. ⌜ now (word .exit) ≡ (recoverOf m w c (now (word .entry)) (now (marks .entry))) .word ⌝ }
     ensures marks { λ _. ⌜ now (marks .exit) ≡ (recoverOf m w c (now (word .entry)) (now (marks .entry))) .marks ⌝ }
 {
     let r = refusal(m, w, c, word, marks);
     if r != 0 {
-        return Answer::Refused(r);
+        return Mending::Refused(r);
     }
     if 2 < marks::excess_of(m, w, c, marks) {
-        return Answer::Refused(8);
+        return Mending::Refused(8);
     }
     recover_determined(m, w, c, word, marks)
 }

@@ -36,6 +36,9 @@ module _ (m w c g : ℕ) (word marks : List ℕ) where
     pub many : (end .number ≡ 8) ↔ (c < lostIn w marks g)
     -- else 9 exactly when none agrees with the group's present bytes
     pub nine : (end .number ≡ 9) ↔ ((¬ OwnUndetermined) × ((y : List ℕ) → OwnAgrees y → ⊥))
+    -- "Repair gives its own group"; another number carries none
+    pub group : end .number ≡ 9 → end .group ≡ g
+    pub no-group : ¬ (end .number ≡ 9) → end .group ≡ 0
     -- else done
     pub done : (end .number ≡ 0) ↔ ((¬ OwnUndetermined) × ((y : List ℕ) × OwnAgrees y))
     -- the group's stretch is one that agrees, and no other agrees
@@ -52,8 +55,9 @@ module _ (m w c g : ℕ) (word marks : List ℕ) where
     pub word-kept : ¬ (end .number ≡ 0) → end .word ≡ word
     pub marks-kept : ¬ (end .number ≡ 0) → end .marks ≡ marks
 
--- Two repairs of group g with the same marks end alike: the same number and, where it is 0, the same stretch and marks.
+-- Two repairs of group g with the same marks end alike: the same number and group and, where the number is 0, the same stretch and marks.
 pub record SameRepair (m w c g : ℕ) (word₁ word₂ marks : List ℕ) : Type 0 where
   pub number-same : (end m w c g word₁ marks) .number ≡ (end m w c g word₂ marks) .number
+  pub group-same : (end m w c g word₁ marks) .group ≡ (end m w c g word₂ marks) .group
   pub part-same : (end m w c g word₁ marks) .number ≡ 0 → stretch w g ((end m w c g word₁ marks) .word) ≡ stretch w g ((end m w c g word₂ marks) .word)
   pub marks-same : (end m w c g word₁ marks) .number ≡ 0 → (end m w c g word₁ marks) .marks ≡ (end m w c g word₂ marks) .marks

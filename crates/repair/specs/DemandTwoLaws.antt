@@ -18,7 +18,7 @@ use Rattle.code.specs.Edition.{bytes, bytes-sound}
 use Rattle.code.specs.Word.{isLocal, Symbols}
 use Rattle.code.specs.Marks.{lost, lostIn}
 use Rattle.code.specs.Answer.{Outcome, SameEnd}
-use Rattle.code.specs.AnswerLaws.{same-present, refused-unchanged, answered-length, answered-marks}
+use Rattle.code.specs.AnswerLaws.{same-present, refused-unchanged, answered-length, answered-marks, nine-group, other-group}
 use Rattle.code.specs.Answer as Answer
 use Rattle.code.specs.Stretch.{stretch, withStretch}
 use Rattle.code.specs.StretchLaws.{stretch-at, stretch-length, stretch-below, stretch-count, stretch-with}
@@ -39,7 +39,7 @@ use Rattle.repair.specs.DemandTwo.{Outside, end, OwnAgrees, DemandTwo, S
 module _ (m w c g : ℕ) (word marks : List ℕ) (not-refused : repairRefusal m w c g word marks ≡ 0) (l : g < m)
     (size : length word ≡ m * w) (marks-size : length marks ≡ m * w) where
   o : Outcome
-  o = repaired bytes w c (stretch w g word) (stretch w g marks)
+  o = repaired bytes w c g (stretch w g word) (stretch w g marks)
 
   is : repairOf m w c g word marks ≡ repairedGroup bytes w c g word marks
   unfolding repairOf
@@ -66,13 +66,13 @@ module _ (m w c g : ℕ) (word marks : List ℕ) (not-refused : repairRefusal m 
   o-size : length (o .word) ≡ w
   unfolding o
   o-size =
-      answered-length (2 ^ bytes .bits) (λ x. isLocal bytes w c x 0) (ltb c (lostIn w (stretch w g marks) 0)) (stretch w g word) (stretch w g marks)
+      answered-length (2 ^ bytes .bits) (λ x. isLocal bytes w c x 0) (ltb c (lostIn w (stretch w g marks) 0)) g (stretch w g word) (stretch w g marks)
       ∙ stretch-length w g word fits
 
   o-marks-size : length (o .marks) ≡ w
   unfolding o
   o-marks-size =
-      answered-marks (2 ^ bytes .bits) (λ x. isLocal bytes w c x 0) (ltb c (lostIn w (stretch w g marks) 0)) (stretch w g word) (stretch w g marks)
+      answered-marks (2 ^ bytes .bits) (λ x. isLocal bytes w c x 0) (ltb c (lostIn w (stretch w g marks) 0)) g (stretch w g word) (stretch w g marks)
       ∙ stretch-length w g marks fits-marks
 
   own-word : stretch w g ((end m w c g word marks) .word) ≡ o .word
@@ -84,7 +84,7 @@ module _ (m w c g : ℕ) (word marks : List ℕ) (not-refused : repairRefusal m 
   kept : ¬ ((end m w c g word marks) .number ≡ 0) → ((end m w c g word marks) .word ≡ word) × ((end m w c g word marks) .marks ≡ marks)
   unfolding o
   kept n =
-      let U = refused-unchanged (2 ^ bytes .bits) (λ x. isLocal bytes w c x 0) (ltb c (lostIn w (stretch w g marks) 0)) (stretch w g word) (stretch w g marks)
+      let U = refused-unchanged (2 ^ bytes .bits) (λ x. isLocal bytes w c x 0) (ltb c (lostIn w (stretch w g marks) 0)) g (stretch w g word) (stretch w g marks)
       (λ e. n (number-is ∙ e)) in (
         word-is ∙ ap (withStretch w g word) (U .0) ∙ with-same w g word fits,
         marks-is ∙ ap (withStretch w g marks) (U .1) ∙ with-same w g marks fits-marks,
@@ -112,19 +112,19 @@ module _ (m w c g : ℕ) (word marks : List ℕ) (not-refused : repairRefusal m 
     eight : ((end m w c g word marks) .number ≡ 8) ↔ LocallyUndetermined bytes w c (stretch w g marks)
     unfolding o
     eight =
-        let E = local-eight bytes bytes-sound w c wide (good .narrow) (stretch w g marks) (stretch w g word) part-symbols in
+        let E = local-eight bytes bytes-sound w c wide (good .narrow) (stretch w g marks) g (stretch w g word) part-symbols in
         ((λ e. E .0 (sym number-is ∙ e)), (λ U. number-is ∙ E .1 U))
 
     single : (end m w c g word marks) .number ≡ 0
-        → Answer.Single (2 ^ bytes .bits) (λ x. isLocal bytes w c x 0) (ltb c (lostIn w (stretch w g marks) 0)) (stretch w g word) (stretch w g marks)
+        → Answer.Single (2 ^ bytes .bits) (λ x. isLocal bytes w c x 0) (ltb c (lostIn w (stretch w g marks) 0)) g (stretch w g word) (stretch w g marks)
     unfolding o
-    single e = done-single bytes bytes-sound w c wide (good .narrow) (stretch w g word) (stretch w g marks) part-symbols (sym number-is ∙ e)
+    single e = done-single bytes bytes-sound w c wide (good .narrow) (stretch w g word) (stretch w g marks) part-symbols g (sym number-is ∙ e)
 
     demand : DemandTwo m w c g word marks
     unfolding o
     demand =
-        let N = local-nine bytes bytes-sound w c wide (good .narrow) (stretch w g marks) (stretch w g word) part-symbols in
-        let D = local-done bytes bytes-sound w c wide (good .narrow) (stretch w g marks) (stretch w g word) part-symbols in
+        let N = local-nine bytes bytes-sound w c wide (good .narrow) (stretch w g marks) g (stretch w g word) part-symbols in
+        let D = local-done bytes bytes-sound w c wide (good .narrow) (stretch w g marks) g (stretch w g word) part-symbols in
         let U = undetermined-exactly bytes bytes-sound w c wide (good .narrow) (stretch w g marks) in
         record {
           eight = eight;
@@ -133,6 +133,14 @@ module _ (m w c g : ℕ) (word marks : List ℕ) (not-refused : repairRefusal m 
             (λ h. eight .1 (U .1 (subst (λ n. c < n) (sym (stretch-count w g marks)) h))),
           );
           nine = ((λ e. N .0 (sym number-is ∙ e)), (λ P. number-is ∙ N .1 P));
+          group = λ e.
+              ap (λ o. o .group) is
+              ∙ nine-group (2 ^ bytes .bits) (λ x. isLocal bytes w c x 0) (ltb c (lostIn w (stretch w g marks) 0)) g (stretch w g word) (stretch w g marks)
+              (sym number-is ∙ e);
+          no-group = λ n.
+              ap (λ o. o .group) is
+              ∙ other-group (2 ^ bytes .bits) (λ x. isLocal bytes w c x 0) (ltb c (lostIn w (stretch w g marks) 0)) g (stretch w g word) (stretch w g marks)
+              (λ e. n (number-is ∙ e));
           done = ((λ e. D .0 (sym number-is ∙ e)), (λ P. number-is ∙ D .1 P));
           agrees = λ e.
               subst (OwnAgrees m w c g word marks) (sym own-word)
@@ -171,16 +179,18 @@ module _ (m w c g : ℕ) (word₁ word₂ marks : List ℕ) (size : length word�
       let f : (end m w c g word₂ marks) .number ≡ r = ap (λ o. o .number) (service-refused m w c g word₂ marks r refusal-same n) in
       record {
         number-same = e ∙ sym f;
+        group-same =
+            ap (λ o. o .group) (service-refused m w c g word₁ marks r refl n) ∙ sym (ap (λ o. o .group) (service-refused m w c g word₂ marks r refusal-same n));
         part-same = λ z. absurd (n (sym e ∙ z));
         marks-same = λ z. absurd (n (sym e ∙ z));
       }
 
   -- the two stretches by themselves
   parts-alike : suc g * w ≤ length word₁ → suc g * w ≤ length word₂
-      → SameEnd (repaired bytes w c (stretch w g word₁) (stretch w g marks)) (repaired bytes w c (stretch w g word₂) (stretch w g marks))
+      → SameEnd (repaired bytes w c g (stretch w g word₁) (stretch w g marks)) (repaired bytes w c g (stretch w g word₂) (stretch w g marks))
   parts-alike f₁ f₂ =
-      same-present (2 ^ bytes .bits) (λ x. isLocal bytes w c x 0) (ltb c (lostIn w (stretch w g marks) 0)) (stretch w g word₁) (stretch w g word₂)
-      (stretch w g marks) (stretch-length w g word₁ f₁ ∙ sym (stretch-length w g word₂ f₂)) λ j k q.
+      same-present (2 ^ bytes .bits) (λ x. isLocal bytes w c x 0) (ltb c (lostIn w (stretch w g marks) 0)) g g (stretch w g word₁) (stretch w g word₂)
+      (stretch w g marks) refl (stretch-length w g word₁ f₁ ∙ sym (stretch-length w g word₂ f₂)) λ j k q.
       let h : j < w = subst (λ n. j < n) (stretch-length w g word₁ f₁) k in
       stretch-at w g word₁ j h ∙ same j h (ap (λ b. eqb b 1) (sym (stretch-at w g marks j h)) ∙ q) ∙ sym (stretch-at w g word₂ j h)
 
@@ -199,6 +209,9 @@ module _ (m w c g : ℕ) (word₁ word₂ marks : List ℕ) (size : length word�
       let n₁ = number-is m w c g word₁ marks e l (A .word-size) (A .marks-size) in
       record {
         number-same = n₁ ∙ E .number ∙ sym (number-is m w c g word₂ marks e₂ l s₂ (A .marks-size));
+        group-same =
+            ap (λ o. o .group) (is m w c g word₁ marks e l (A .word-size) (A .marks-size)) ∙ E .group
+            ∙ sym (ap (λ o. o .group) (is m w c g word₂ marks e₂ l s₂ (A .marks-size)));
         part-same = λ q.
             own-word m w c g word₁ marks e l (A .word-size) (A .marks-size) ∙ E .word (sym n₁ ∙ q)
             ∙ sym (own-word m w c g word₂ marks e₂ l s₂ (A .marks-size));

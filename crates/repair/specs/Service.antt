@@ -15,7 +15,7 @@ use Rattle.code.specs.Repair.{repairedGroup, Satisfies}
 unfoldable pub repairRefusal : ℕ → ℕ → ℕ → ℕ → List ℕ → List ℕ → ℕ
 repairRefusal m w c g word marks = recoverRefusal m w c word marks orElse refuse 7 (not (ltb g m))
 
--- then 8, 9 or the filling
+-- then 8, 9 with its own group, or the filling
 unfoldable pub repairOf : ℕ → ℕ → ℕ → ℕ → List ℕ → List ℕ → Outcome
 repairOf m w c g word marks = unlessBefore (repairRefusal m w c g word marks) (repairedGroup bytes w c g word marks) word marks
 

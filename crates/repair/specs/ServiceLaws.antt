@@ -11,10 +11,13 @@ use lib.Dec.{T, ltb}
 use lib.ListN.{length, getD, take, drop}
 use lib.Seq.{ext-getD}
 use Rattle.shape.specs.Refusals.{refuse, _orElse_}
-use Rattle.shape.specs.Answers.{answerAt}
+use Rattle.shape.specs.RefusalsLaws.{refuse-most, orElse-most}
+use Rattle.shape.specs.declared.Mending.{Mending}
+use Rattle.shape.specs.Answers.{mendingAt}
 use Rattle.groups.specs.Lent.{Lent}
 use Rattle.groups.specs.LentLaws.{part-stretch, part-length, with-lent}
 use Rattle.recover.specs.Attempt.{Accepted}
+use Rattle.recover.specs.AttemptLaws.{recover-most}
 use Rattle.recover.specs.Service.{unlessBefore, recoverRefusal}
 use Rattle.recover.specs.ServiceLaws.{unless-before}
 use Rattle.code.specs.Edition.{bytes, bytes-sound}
@@ -82,6 +85,12 @@ unfolding repairOf
 service-refused m w c g word marks r e n =
     ap (λ q. unlessBefore q (repairedGroup bytes w c g word marks) word marks) (sym e) ∙ unless-before r (repairedGroup bytes w c g word marks) word marks n
 
+-- the numbers of these refusals
+pub repair-most : (m w c g : ℕ) (word marks : List ℕ) → repairRefusal m w c g word marks ≤ 7
+unfolding repairRefusal
+repair-most m w c g word marks =
+    orElse-most 7 (recoverRefusal m w c word marks) _ (let h = recover-most m w c word marks in omega arith) (refuse-most 7 7 (not (ltb g m)) (omega arith))
+
 pub refused-early : (m w c g : ℕ) (word marks : List ℕ) (r : ℕ) → r ≡ recoverRefusal m w c word marks → (r ≡ 0 → ⊥) → r ≡ repairRefusal m w c g word marks
 unfolding repairRefusal
 refused-early m w c g word marks r e n = sym (ap (λ q. q orElse refuse 7 (not (ltb g m))) (sym e) ∙ orElse-first r _ n)
@@ -99,10 +108,10 @@ module _ (m w c g : ℕ) (word marks : List ℕ) (A : Accepted m w c word marks)
   putBack xs part = take (g * w) xs ++ (part ++ drop (g * w + w - g * w) (drop (g * w) xs))
 
   abbrev left : Outcome
-  left = repaired bytes (length (lentOf word)) c (lentOf word) (lentOf marks)
+  left = repaired bytes (length (lentOf word)) c g (lentOf word) (lentOf marks)
 
   abbrev inWhole : Outcome → Outcome
-  inWhole o = record { number = o .number; word = withStretch w g word (o .word); marks = withStretch w g marks (o .marks) }
+  inWhole o = record { number = o .number; group = o .group; word = withStretch w g word (o .word); marks = withStretch w g marks (o .marks) }
 
   whole : repairOf m w c g word marks ≡ inWhole left
   unfolding repairOf repairRefusal
@@ -110,12 +119,12 @@ module _ (m w c g : ℕ) (word marks : List ℕ) (A : Accepted m w c word marks)
       let L : Lent m w c word = record { good = A .good; size = A .word-size } in
       let M : Lent m w c marks = record { good = A .good; size = A .marks-size } in
       ap₂ (λ r b. unlessBefore (r orElse refuse 7 (not b)) (repairedGroup bytes w c g word marks) word marks) (A .refusal) (lt-ltb g m l)
-      ∙ ap inWhole (sym (ap (λ n. repaired bytes n c (lentOf word) (lentOf marks)) (part-length L g l refl) ∙ ap₂ (repaired bytes w c) (part-stretch L g l refl) (part-stretch M g l refl)))
+      ∙ ap inWhole (sym (ap (λ n. repaired bytes n c g (lentOf word) (lentOf marks)) (part-length L g l refl) ∙ ap₂ (repaired bytes w c g) (part-stretch L g l refl) (part-stretch M g l refl)))
 
-  pub service-lent : (r : ℕ) (part held : List ℕ) → r ≡ left .number → part ≡ left .word → held ≡ left .marks
-      → (answerAt r ≡ answerAt ((repairOf m w c g word marks) .number))
+  pub service-lent : (r : Mending) (part held : List ℕ) → r ≡ mendingAt (left .number) (left .group) → part ≡ left .word → held ≡ left .marks
+      → (r ≡ mendingAt ((repairOf m w c g word marks) .number) ((repairOf m w c g word marks) .group))
       × ((putBack word part ≡ (repairOf m w c g word marks) .word) × (putBack marks held ≡ (repairOf m w c g word marks) .marks))
   service-lent r part held n p h = (
-    ap answerAt n ∙ ap (λ o. answerAt (o .number)) (sym whole),
+    n ∙ ap (λ o. mendingAt (o .number) (o .group)) (sym whole),
     (with-lent w g word part ∙ ap (withStretch w g word) p ∙ ap (λ o. o .word) (sym whole), with-lent w g marks held ∙ ap (withStretch w g marks) h ∙ ap (λ o. o .marks) (sym whole)),
   )

@@ -1,9 +1,9 @@
 // The service Repair: one group, by its own equations.
-use shape::Answer;
+use shape::Mending;
 ghost use mathlib.Core.Path.{_≡_};
 ghost use Prim.Native.Nat.{_≤_, _<_};
 ghost use lib.ListN.{length};
-ghost use Rattle.shape.specs.Answers.{answerAt};
+ghost use Rattle.shape.specs.Answers.{mendingAt};
 ghost use Rattle.code.specs.Edition.{bytes};
 ghost use Rattle.code.specs.Marks.{lostIn};
 ghost use Rattle.code.specs.Repair.{repaired};
@@ -28,47 +28,44 @@ fn attempt(c: usize, part: &mut [u8], marks: &[u8], found: &mut [u8]) -> bool
     true
 }
 
-// Repairs one group's stretch of the word and the marks; answers 0, 8 or 9, and changes nothing unless it is 0.
-fn repair_part(c: usize, part: &mut [u8], marks: &mut [u8]) -> u8
+// Repairs the stretch of group g of the word and the marks; answers done, 8, or 9 with its own group, and changes nothing unless it is done.
+fn repair_part(c: usize, g: usize, part: &mut [u8], marks: &mut [u8]) -> Mending
     requires { ⌜ 0 < length (now part) ⌝ }
     requires { ⌜ length (now part) ≤ 16 ⌝ }
     requires { ⌜ c ≤ 4 ⌝ }
     requires { ⌜ length (now marks) ≡ length (now part) ⌝ }
-    ensures { λ r. ⌜ r ≡ (repaired bytes (length (now (part .entry))) c (now (part .entry)) (now (marks .entry))) .number ⌝ }
-    ensures { λ _. ⌜ now (part .exit) ≡ (repaired bytes (length (now (part .entry))) c (now (part .entry)) (now (marks .entry))) .word ⌝ }
-    ensures { λ _. ⌜ now (marks .exit) ≡ (repaired bytes (length (now (part .entry))) c (now (part .entry)) (now (marks .entry))) .marks ⌝ }
+    requires { ⌜ g < 256 ⌝ }
+    ensures { λ r. ⌜ r ≡ mendingAt ((repaired bytes (length (now (part .entry))) c g (now (part .entry)) (now (marks .entry))) .number) ((repaired bytes (length (now (part .entry))) c g (now (part .entry)) (now (marks .entry))) .group) ⌝ }
+    ensures { λ _. ⌜ now (part .exit) ≡ (repaired bytes (length (now (part .entry))) c g (now (part .entry)) (now (marks .entry))) .word ⌝ }
+    ensures { λ _. ⌜ now (marks .exit) ≡ (repaired bytes (length (now (part .entry))) c g (now (part .entry)) (now (marks .entry))) .marks ⌝ }
 {
     if c < marks::lost_in(marks) {
-        return 8;
+        return Mending::Refused(8);
     }
     let w = part.len();
     let mut found = [0u8; 16];
     let done = attempt(c, part, marks, &mut found[..w]);
     buffers::clear_if(done, marks);
     if !done {
-        return 9;
+        return Mending::Contradictory(g as u8);
     }
-    0
+    Mending::Done
 }
 
 // Repairs group g of the word, or refuses and changes nothing.
-pub fn repair(m: usize, w: usize, c: usize, g: usize, word: &mut [u8], marks: &mut [u8]) -> Answer
-    ensures answer { λ r. ⌜ r ≡ answerAt ((repairOf m w c g (now (word .entry)) (now (marks .entry))) .number) ⌝ }
+pub fn repair(m: usize, w: usize, c: usize, g: usize, word: &mut [u8], marks: &mut [u8]) -> Mending
+    ensures answer { λ r. ⌜ r ≡ mendingAt ((repairOf m w c g (now (word .entry)) (now (marks .entry))) .number) ((repairOf m w c g (now (word .entry)) (now (marks .entry))) .group) ⌝ }
     ensures word { λ _. ⌜ now (word .exit) ≡ (repairOf m w c g (now (word .entry)) (now (marks .entry))) .word ⌝ }
     ensures marks { λ _. ⌜ now (marks .exit) ≡ (repairOf m w c g (now (word .entry)) (now (marks .entry))) .marks ⌝ }
 {
     let r = recover::refusal(m, w, c, word, marks);
     if r != 0 {
-        return Answer::Refused(r);
+        return Mending::Refused(r);
     }
     if m <= g {
-        return Answer::Refused(7);
+        return Mending::Refused(7);
     }
     let a = g * w;
     let e = a + w;
-    let n = repair_part(c, &mut word[a..e], &mut marks[a..e]);
-    if n != 0 {
-        return Answer::Refused(n);
-    }
-    Answer::Done
+    repair_part(c, g, &mut word[a..e], &mut marks[a..e])
 }

@@ -1,13 +1,17 @@
 -- The laws by which each turn is met.
-use mathlib.Core.Path.{_≡_, refl, ap}
+use mathlib.Core.Path.{_≡_, refl, sym, ap, _∙_}
+use mathlib.Core.Bool.{Bool, true, false, cond}
 use mathlib.Core.List.{List}
 use Prim.Native.Nat.{ℕ, zero, suc, _≤_}
 use native.Mathlib.Omega.{arith}
+use lib.Dec.{eqb}
 use lib.ListN.{length}
 use Rattle.code.specs.Answer.{Outcome}
 use Rattle.shape.specs.declared.Answer.{Answer}
 use Rattle.shape.specs.declared.Described.{Described}
-use Rattle.shape.specs.Answers.{answerAt}
+use Rattle.shape.specs.declared.Mending.{Mending}
+use Rattle.shape.specs.Answers.{answerAt, mendingAt, mendingNumber, mendingGroup}
+use Rattle.shape.specs.AnswersLaws.{mending-number}
 use Rattle.shape.specs.RefusalsLaws.{orElse-zero}
 use Rattle.shape.specs.Shapes.{placeCount, dataCount, sureCount, shapeRefusal, bufferRefusal, describedOf, describedAt}
 use Rattle.shape.specs.Laws.{Unshaped, good-of-refusal, good-of-word, good-of-buffers, buffers-unshaped, places-most, data-and-checks}
@@ -15,7 +19,7 @@ use Rattle.recover.specs.Service.{recoverOf, recoverRefusal, unlessBefore}
 use Rattle.encode.specs.Service.{encodeOf, encodedWord, encodedBuffer}
 use Rattle.text.specs.Lines.{okLine, wordLine}
 use Rattle.session.specs.declared.Reply.{Reply}
-use Rattle.session.specs.Turn.{Turn, turn, turnUnless, refusedTurn, shapeTurn, dataTurn, wordTurn}
+use Rattle.session.specs.Turn.{Turn, turn, turnUnless, refusedTurn, contradictoryTurn, shapeTurn, dataTurn, wordTurn}
 use Rattle.session.specs.Replies.{Replies}
 
 -- the answer of a service
@@ -100,21 +104,56 @@ none-before : (r : ℕ) (o : Outcome) (word marks : List ℕ) → (unlessBefore 
 none-before zero o word marks e = refl
 none-before (suc r) o word marks e = e
 
-pub word-most : (word marks : List ℕ) (m w c : ℕ) → answerAt ((recoverOf m w c word marks) .number) ≡ Answer.Done → length word ≤ 240
-unfolding recoverOf recoverRefusal
-word-most word marks m w c e =
-    let z = none-before (recoverRefusal m w c word marks) _ word marks (done _ e) in
-    let g = good-of-word m w c (length word) (orElse-zero _ _ z .0) in
-    let p = places-most (g .0) in
-    omega arith
+mended : (x group : ℕ) → mendingAt x group ≡ Mending.Done → x ≡ 0
+mended x group e = sym (mending-number x group) ∙ ap mendingNumber e
 
-module _ (word marks : List ℕ) (m w c : ℕ) (reply : Reply) where
-  pub word-refused : (r : ℕ) → answerAt ((recoverOf m w c word marks) .number) ≡ Answer.Refused r → Replies reply (refusedTurn r m w c)
-      → Replies reply (wordTurn word marks m w c)
-  unfolding wordTurn
-  word-refused r e h = rw (turn-refused _ r _ m w c e) h
+-- the turn of a number and a group, by what a service that mends answers
+module _ (x group : ℕ) (t : Turn) (m w c : ℕ) where
+  turn-contradictory : (g : ℕ) → mendingAt x group ≡ Mending.Contradictory g
+      → cond (eqb x 9) (contradictoryTurn group m w c) (turnUnless x t m w c) ≡ contradictoryTurn g m w c
+  turn-contradictory g e =
+      let n : x ≡ 9 = sym (mending-number x group) ∙ ap mendingNumber e in
+      let h : mendingAt 9 group ≡ Mending.Contradictory g = rw n at e in
+      rw n (ap (λ k. contradictoryTurn k m w c) (ap mendingGroup h))
 
-  pub word-done : (after : List ℕ) → answerAt ((recoverOf m w c word marks) .number) ≡ Answer.Done → after ≡ (recoverOf m w c word marks) .word
-      → Replies reply (turn (wordLine after) m w c) → Replies reply (wordTurn word marks m w c)
-  unfolding wordTurn
-  word-done after e q h = let z : (recoverOf m w c word marks) .number ≡ 0 = done _ e in rw (z, ← q) h
+  turn-unmended : (r : ℕ) → mendingAt x group ≡ Mending.Refused r
+      → cond (eqb x 9) (contradictoryTurn group m w c) (turnUnless x t m w c) ≡ refusedTurn r m w c
+  turn-unmended r e = go x (sym (mending-number x group) ∙ ap mendingNumber e) e
+    where
+      go : (y : ℕ) → y ≡ r → mendingAt y group ≡ Mending.Refused r
+          → cond (eqb y 9) (contradictoryTurn group m w c) (turnUnless y t m w c) ≡ refusedTurn r m w c
+      go zero q h = let z : _≡_ {A = ℕ} 0 1 = cc in absurd (omega arith)
+      go (suc y) q h = pick (eqb (suc y) 9) h
+        where
+          pick : (b : Bool) → cond b (Mending.Contradictory group) (Mending.Refused (suc y)) ≡ Mending.Refused r
+              → cond b (contradictoryTurn group m w c) (refusedTurn (suc y) m w c) ≡ refusedTurn r m w c
+          pick true k = let z : _≡_ {A = ℕ} 0 1 = cc in absurd (omega arith)
+          pick false k = ap (λ n. refusedTurn n m w c) q
+
+module _ (word marks : List ℕ) (m w c : ℕ) where
+  abbrev out : Outcome
+  out = recoverOf m w c word marks
+
+  pub word-most : mendingAt (out .number) (out .group) ≡ Mending.Done → length word ≤ 240
+  unfolding recoverOf recoverRefusal
+  word-most e =
+      let z = none-before (recoverRefusal m w c word marks) _ word marks (mended _ _ e) in
+      let g = good-of-word m w c (length word) (orElse-zero _ _ z .0) in
+      let p = places-most (g .0) in
+      omega arith
+
+  module _ (reply : Reply) where
+    pub word-refused : (r : ℕ) → mendingAt (out .number) (out .group) ≡ Mending.Refused r → Replies reply (refusedTurn r m w c)
+        → Replies reply (wordTurn word marks m w c)
+    unfolding wordTurn
+    word-refused r e h = rw (turn-unmended _ _ _ m w c r e) h
+
+    pub word-contradictory : (g : ℕ) → mendingAt (out .number) (out .group) ≡ Mending.Contradictory g → Replies reply (contradictoryTurn g m w c)
+        → Replies reply (wordTurn word marks m w c)
+    unfolding wordTurn
+    word-contradictory g e h = rw (turn-contradictory _ _ _ m w c g e) h
+
+    pub word-done : (after : List ℕ) → mendingAt (out .number) (out .group) ≡ Mending.Done → after ≡ out .word
+        → Replies reply (turn (wordLine after) m w c) → Replies reply (wordTurn word marks m w c)
+    unfolding wordTurn
+    word-done after e q h = let z : (recoverOf m w c word marks) .number ≡ 0 = mended _ _ e in rw (z, ← q) h

@@ -3,3 +3,4 @@ pub mod Replies
 pub mod RepliesLaws
 pub mod Laws
 pub mod LinesLaws
+pub mod ContradictionLaws

@@ -9,7 +9,7 @@ use Rattle.shape.specs.Shapes.{placeCount, dataCount, shapeRefusal, bufferRefus
 use Rattle.recover.specs.Service.{recoverOf}
 use Rattle.encode.specs.Service.{encodedWord}
 use Rattle.text.specs.Records.{lineKind, lineBytes, lineMarks}
-use Rattle.text.specs.Lines.{okLine, refusedLine, wordLine}
+use Rattle.text.specs.Lines.{okLine, refusedLine, contradictoryLine, wordLine}
 
 -- An output line and the shape then in force; m 0 stands for no shape yet.
 pub record Turn : Type 0 where
@@ -26,6 +26,10 @@ turn line m w c = record { output = line; m = m; w = w; c = c }
 abbrev pub refusedTurn : ℕ → ℕ → ℕ → ℕ → Turn
 refusedTurn r m w c = turn (refusedLine r) m w c
 
+-- and so does a 9, which names the group that contradicts
+abbrev pub contradictoryTurn : ℕ → ℕ → ℕ → ℕ → Turn
+contradictoryTurn group m w c = turn (contradictoryLine group) m w c
+
 -- a turn, unless a refusal, 0 for none, comes before it
 abbrev pub turnUnless : ℕ → Turn → ℕ → ℕ → ℕ → Turn
 turnUnless zero t m w c = t
@@ -39,9 +43,9 @@ shapeTurn a b d m w c = turnUnless (shapeRefusal a b d) (turn (okLine (placeCoun
 unfoldable pub dataTurn : List ℕ → ℕ → ℕ → ℕ → Turn
 dataTurn bytes m w c = turnUnless (bufferRefusal m w c (placeCount m w) (length bytes)) (turn (wordLine (encodedWord m w c bytes)) m w c) m w c
 
--- and a word is recovered
+-- and a word is recovered. "A 9 now carries a group number [..]. The program writes refused, 9 and that number"
 abbrev pub recoveredTurn : Outcome → ℕ → ℕ → ℕ → Turn
-recoveredTurn o m w c = turnUnless (o .number) (turn (wordLine (o .word)) m w c) m w c
+recoveredTurn o m w c = cond (eqb (o .number) 9) (contradictoryTurn (o .group) m w c) (turnUnless (o .number) (turn (wordLine (o .word)) m w c) m w c)
 
 -- the turn of a word with its marks
 unfoldable pub wordTurn : List ℕ → List ℕ → ℕ → ℕ → ℕ → Turn

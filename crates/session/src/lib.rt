@@ -2,12 +2,13 @@
 use print::Line;
 use shape::Answer;
 use shape::Described;
+use shape::Mending;
 ghost use mathlib.Core.Path.{_≡_};
 ghost use Prim.Native.Nat.{_≤_};
 ghost use lib.ListN.{length};
 ghost use Rattle.text.specs.Lines.{okLine, wordLine};
 ghost use Rattle.shape.specs.Shapes.{placeCount};
-ghost use Rattle.session.specs.Turn.{turn, refusedTurn, shapeTurn, dataTurn, wordTurn, turnOf};
+ghost use Rattle.session.specs.Turn.{turn, refusedTurn, contradictoryTurn, shapeTurn, dataTurn, wordTurn, turnOf};
 ghost use Rattle.session.specs.Replies.{Replies};
 
 // An output line with its line feed, at the start of a row of bytes with zeros after it, and the shape then in force; m is 0 for no shape yet.
@@ -38,6 +39,14 @@ fn refuse(number: u8, m: usize, w: usize, c: usize) -> Reply
     ensures { λ r. ⌜ Replies r (refusedTurn number m w c) ⌝ }
 {
     let line = print::refused(number);
+    reply_with(line, m, w, c)
+}
+
+// A 9 with the group that contradicts, which leaves the shape in force.
+fn contradict(group: u8, m: usize, w: usize, c: usize) -> Reply
+    ensures { λ r. ⌜ Replies r (contradictoryTurn group m w c) ⌝ }
+{
+    let line = print::contradictory(group);
     reply_with(line, m, w, c)
 }
 
@@ -98,8 +107,9 @@ fn answer_word(word: &mut [u8], marks: &mut [u8], m: usize, w: usize, c: usize) 
     ensures { λ r. ⌜ Replies r (wordTurn (now (word .entry)) (now (marks .entry)) m w c) ⌝ }
 {
     match recover::recover(m, w, c, word, marks) {
-        Answer::Refused(r) => refuse(r, m, w, c),
-        Answer::Done => reply_word(word, m, w, c),
+        Mending::Refused(r) => refuse(r, m, w, c),
+        Mending::Contradictory(group) => contradict(group, m, w, c),
+        Mending::Done => reply_word(word, m, w, c),
     }
 }
 

@@ -1,16 +1,18 @@
 -- The laws of a shape, by which whoever uses one goes.
 use mathlib.Core.Path.{_≡_, refl, ap}
 use mathlib.Core.Logic.{_↔_}
-use mathlib.Core.Bool.{Bool, true, false, _||_}
+use mathlib.Core.Bool.{Bool, true, false, not, _||_}
 use mathlib.Core.List.{[], _∷_}
 use Prim.Native.Nat.{ℕ, zero, suc, _+_, _-_, _*_, _/_, _≤_}
 use native.Mathlib.Nat.{mul-sub, mul-comm, mul-le-mul, mul-le-mul-left, div-eq-of-lt}
 use native.Mathlib.Omega.{arith}
 use native.Mathlib.Decide.{ℕ-discrete}
 use borrow.Author.Tests.{eqb-true, eqb-false, ltb-false, not-false, eq-eqb, ne-eqb, le-ltb}
+use lib.Dec.{eqb, ltb}
 use Rattle.shape.specs.declared.Shape.{Shape}
 use Rattle.shape.specs.declared.Made.{Made}
-use Rattle.shape.specs.RefusalsLaws.{refuse-zero, orElse-zero}
+use Rattle.shape.specs.Refusals.{refuse}
+use Rattle.shape.specs.RefusalsLaws.{refuse-zero, refuse-most, orElse-zero, orElse-most}
 use Rattle.shape.specs.Shapes.{Good, placeCount, dataCount, sureCount, shapeRefusal, wordRefusal, bufferRefusal, madeOf, madeAt, madeNumber, describedOf, describedNumber, describedFigures}
 
 or-none : (a b : Bool) → (a || b) ≡ false → (a ≡ false) × (b ≡ false)
@@ -57,6 +59,20 @@ module _ (m w c : ℕ) where
         le-ltb 16 w (omega arith),
         ne-eqb (dataCount m w c) 0 (omega arith),
       )
+
+  -- the numbers of these refusals
+  pub shape-most : shapeRefusal m w c ≤ 4
+  unfolding shapeRefusal
+  shape-most =
+      orElse-most 4 (refuse 1 (eqb m 0 || ltb 15 m)) _ (refuse-most 4 1 (eqb m 0 || ltb 15 m) (omega arith))
+      (orElse-most 4 (refuse 2 (eqb c 0 || ltb 4 c)) _ (refuse-most 4 2 (eqb c 0 || ltb 4 c) (omega arith))
+      (orElse-most 4 (refuse 3 (ltb w (c + 2) || ltb 16 w)) _ (refuse-most 4 3 (ltb w (c + 2) || ltb 16 w) (omega arith))
+      (refuse-most 4 4 (eqb (dataCount m w c) 0) (omega arith))))
+
+  pub word-most : (lent : ℕ) → wordRefusal m w c lent ≤ 5
+  unfolding wordRefusal
+  word-most lent = orElse-most 5 (shapeRefusal m w c) _ (let h = shape-most in omega arith)
+      (refuse-most 5 5 (not (eqb lent (placeCount m w))) (omega arith))
 
   pub refusal-iff : (shapeRefusal m w c ≡ 0) ↔ Good m w c
   refusal-iff = (good-of-refusal, refusal-of-good)

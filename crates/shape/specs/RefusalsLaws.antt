@@ -2,7 +2,7 @@
 use mathlib.Core.Path.{_≡_, refl}
 use mathlib.Core.Bool.{Bool, true, false}
 use mathlib.Core.List.{List}
-use Prim.Native.Nat.{ℕ, zero, suc}
+use Prim.Native.Nat.{ℕ, zero, suc, _≤_}
 use native.Mathlib.Omega.{arith}
 use Rattle.shape.specs.Refusals.{refuse, _orElse_, unlessRefused}
 
@@ -13,6 +13,15 @@ refuse-zero r false e = refl
 pub orElse-zero : (r s : ℕ) → r orElse s ≡ 0 → (r ≡ 0) × (s ≡ 0)
 orElse-zero zero s e = (refl, e)
 orElse-zero (suc r) s e = let z : suc r ≡ 0 = e in absurd (omega arith)
+
+-- a refusal's number is at most a bound that holds of each
+pub refuse-most : (k r : ℕ) (b : Bool) → r ≤ k → refuse r b ≤ k
+refuse-most k r true l = l
+refuse-most k r false l = omega arith
+
+pub orElse-most : (k r s : ℕ) → r ≤ k → s ≤ k → (r orElse s) ≤ k
+orElse-most k zero s l h = h
+orElse-most k (suc r) s l h = l
 
 pub unless-refused : (r : ℕ) (written lent : List ℕ) → (r ≡ 0 → ⊥) → unlessRefused r written lent ≡ lent
 unless-refused zero written lent h = absurd (h refl)

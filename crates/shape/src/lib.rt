@@ -21,6 +21,13 @@ pub enum Answer {
     Refused(u8),
 }
 
+// The answer of a service that mends: done, contradictory with the number of a group, or the number of another refusal.
+pub enum Mending {
+    Done,
+    Contradictory(u8),
+    Refused(u8),
+}
+
 // The figures of a good shape, or the number of a refusal.
 pub enum Described {
     Figures { n: usize, k: usize, sure: usize },

@@ -1,78 +1,42 @@
 -- An answered word, fed back with the same shape in force, is answered by itself.
 use mathlib.Core.Path.{_≡_, refl, sym, ap, _∙_}
 use mathlib.Core.List.{List, [], _∷_, _++_, append-cancel-right}
-use Prim.Native.Nat.{ℕ, zero, suc, _+_, _*_, _%_, _<_}
+use Prim.Native.Nat.{ℕ, zero, suc, _%_, _<_}
 use native.Mathlib.Nat.{mod-lt}
 use native.Mathlib.Omega.{arith}
 use borrow.Author.Tests.{ne-eqb}
-use lib.Dec.{eqb}
-use lib.ListN.{length, getD, take, replicate, length-replicate, List·getD-map, List·getD-append}
+use lib.ListN.{length, getD, take, List·getD-map, List·getD-append}
 use lib.Seq.{getD-take}
-use Rattle.counting.specs.Count.{one, countBelow}
-use Rattle.counting.specs.CountLaws.{total-zero}
 use Rattle.code.specs.Edition.{bytes, bytes-sound}
 use Rattle.code.specs.EditionLaws.{bytes-few}
 use Rattle.code.specs.Word.{Codeword}
-use Rattle.code.specs.Marks.{lost, lostIn, excess}
-use Rattle.code.specs.BlankLaws.{blank-at}
-use Rattle.code.specs.Answer.{Outcome, written}
+use Rattle.code.specs.Answer.{Outcome}
 use Rattle.code.specs.Recovery.{recovered}
 use Rattle.code.specs.RecoveryLaws.{done-single}
 use Rattle.shape.specs.Shapes.{Good, placeCount, dataCount, bufferRefusal}
-use Rattle.shape.specs.Laws.{good-of-buffers, word-of-good, places-most}
-use Rattle.marks.specs.RefusalLaws.{marks-of-good}
+use Rattle.shape.specs.Laws.{good-of-buffers, places-most}
 use Rattle.recover.specs.Service.{unlessBefore, recoverRefusal, recoverOf}
-use Rattle.recover.specs.AttemptLaws.{accepted, service-done}
+use Rattle.recover.specs.AttemptLaws.{accepted}
 use Rattle.encode.specs.Service.{encodedWord}
 use Rattle.encode.specs.Laws.{encoded}
 use Rattle.text.specs.Records.{wordName, contents, lineKind, lineBytes, lineMarks}
 use Rattle.text.specs.RecordLaws.{name-first, line-values, word-named}
 use Rattle.text.specs.FieldLaws.{toTab, take-field}
-use Rattle.text.specs.Lines.{cells, lineOf, okLine, refusedLine, wordLine}
+use Rattle.text.specs.Lines.{cells, lineOf, okLine, refusedLine, contradictoryLine, wordLine}
 use Rattle.text.specs.ReadBackLaws.{line-parts, word-back, bytes-back, marks-back}
 use Rattle.session.specs.Turn.{Turn, turn, wordTurn, recordTurn, turnOf}
+use Rattle.stream.specs.NoneLostLaws.{codeword-stays}
 use Rattle.stream.specs.OutputLinesLaws.{turn-cases}
 
 -- ---- nothing lost
 module _ {m w c : ℕ} (g : Good m w c) (word : List ℕ) (C : Codeword bytes m w c word) where
-  size : length word ≡ m * w
-  size = C .symbols .size
-
-  none : List ℕ
-  none = replicate (length word) 0
-
-  none-excess : excess m w c none ≡ 0
-  unfolding excess lostIn none
-  none-excess =
-      total-zero m _ (λ i _.
-      let z : countBelow w (λ j. lost none (i * w + j)) ≡ 0 = total-zero w _ (λ j _. ap (λ v. one (eqb v 1)) (blank-at (length word) (i * w + j))) in
-      omega arith)
-
-  not-refused : recoverRefusal m w c word none ≡ 0
-  unfolding recoverRefusal none
-  not-refused =
-      simp (
-        word-of-good m w c (length word) g size,
-        marks-of-good m w c none (record {
-          good = g;
-          size = length-replicate (length word) 0 ∙ size;
-          each = λ p. let z = blank-at (length word) p in omega arith;
-        }),
-      )
-
-  stays : recoverOf m w c word none ≡ written word none
-  stays =
-      let e = none-excess in
-      service-done m w c word none (accepted m w c word none (recoverRefusal m w c word none) refl not-refused) (C .symbols .each) word (omega arith)
-      (record { codeword = C; agree = λ p l e. refl })
-
   -- the word line of a codeword
   pub codeword-again : turnOf (wordName ++ cells word) m w c ≡ turn (wordLine word) m w c
-  unfolding turnOf recordTurn wordTurn none
+  unfolding turnOf recordTurn wordTurn
   codeword-again =
       let l = places-most g in
       let h = C .symbols .each in
-      rw (word-back word h (omega arith), bytes-back word h, marks-back word h, ne-eqb m 0 (omega arith), stays)
+      rw (word-back word h (omega arith), bytes-back word h, marks-back word h, ne-eqb m 0 (omega arith), codeword-stays g word (C .symbols) C)
 
 -- ---- every word that is answered is a codeword of a good shape
 line-bytes : (line : List ℕ) (i : ℕ) → getD (lineBytes line) i 0 < 256
@@ -127,10 +91,11 @@ word-back-again {m} {w} {c} word p body e k =
     ap (λ l. turnOf l m w c) b ∙ codeword-again (p .0) word (p .1)
 
 pub word-again : (line : List ℕ) (m w c : ℕ) → Back m w c (turnOf line m w c)
-unfolding okLine refusedLine lineOf
+unfolding okLine refusedLine contradictoryLine lineOf
 word-again line m w c =
     turn-cases (Back m w c) line m w c
-    (λ r body e k. let z : _≡_ {A = ℕ} 114 119 = starts body (refusedLine r) k e in absurd (omega arith))
+    (λ r _ _ body e k. let z : _≡_ {A = ℕ} 114 119 = starts body (refusedLine r) k e in absurd (omega arith))
+    (λ _ body e k. let z : _≡_ {A = ℕ} 114 119 = starts body (contradictoryLine _) k e in absurd (omega arith))
     (λ a b d body e k. let z : _≡_ {A = ℕ} 111 119 = starts body (okLine (placeCount a b) (dataCount a b d)) k e in absurd (omega arith))
     (λ z. word-back-again _ (encoded-word line m w c z))
     (λ z. word-back-again _ (recovered-word line m w c z))

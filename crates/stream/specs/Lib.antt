@@ -10,4 +10,7 @@ pub mod Steps
 pub mod StepsLaws
 pub mod OutputLines
 pub mod OutputLinesLaws
+pub mod NoneLost
+pub mod NoneLostLaws
 pub mod AgainLaws
+pub mod NinesLaws

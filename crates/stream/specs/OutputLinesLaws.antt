@@ -1,30 +1,48 @@
 -- Laws: "Each input line gives exactly one output line.": what an answer can be, and the lines of a session's output.
 use mathlib.Core.Path.{_≡_, refl, ap, _∙_}
-use mathlib.Core.Bool.{Bool, true, false, cond}
+use mathlib.Core.Bool.{Bool, true, false, cond, not}
 use mathlib.Core.List.{List, [], _∷_, _++_, append-assoc}
-use Prim.Native.Nat.{ℕ, zero, suc}
+use Prim.Native.Nat.{ℕ, zero, suc, _≤_}
+use native.Mathlib.Omega.{arith}
+use borrow.Author.Tests.{eqb-true, eqb-false}
 use lib.Dec.{T, eqb}
 use lib.ListN.{length, getD}
-use Rattle.shape.specs.Shapes.{placeCount, dataCount, shapeRefusal, bufferRefusal}
+use Rattle.code.specs.Answer.{Outcome}
+use Rattle.shape.specs.Refusals.{refuse}
+use Rattle.shape.specs.RefusalsLaws.{orElse-most}
+use Rattle.shape.specs.Shapes.{placeCount, dataCount, shapeRefusal, wordRefusal, bufferRefusal}
+use Rattle.shape.specs.Laws.{shape-most, word-most}
 use Rattle.encode.specs.Service.{encodedWord}
 use Rattle.recover.specs.Service.{recoverOf}
 use Rattle.text.specs.DecimalLaws.{without}
 use Rattle.text.specs.Records.{wordName, lineKind, lineBytes, lineMarks}
-use Rattle.text.specs.Lines.{cells, lineOf, okLine, refusedLine, wordLine}
+use Rattle.text.specs.Lines.{cells, lineOf, okLine, refusedLine, contradictoryLine, wordLine}
 use Rattle.text.specs.Input.{lines}
 use Rattle.text.specs.InputLaws.{lines-feed}
 use Rattle.text.specs.ReadBackLaws.{line-parts, one-line}
-use Rattle.session.specs.Turn.{Turn, turn, turnUnless, refusedTurn, shapeTurn, dataTurn, wordTurn, recordTurn, turnOf}
+use Rattle.session.specs.Turn.{Turn, turn, turnUnless, refusedTurn, contradictoryTurn, shapeTurn, dataTurn, wordTurn, recordTurn, turnOf}
+use Rattle.session.specs.ContradictionLaws.{recovered-most}
 use Rattle.stream.specs.Session.{answers, joined, sessionOf}
 use Rattle.stream.specs.OutputLines.{IsLine}
 
--- ---- every turn is a refusal, the figures of a shape, or a word: of encoded data, or a recovered one
-unless-case : (P : Turn → Type 0) (x : ℕ) (t : Turn) (m w c : ℕ) → ((r : ℕ) → P (refusedTurn r m w c)) → (x ≡ 0 → P t) → P (turnUnless x t m w c)
-unless-case P zero t m w c f p = p refl
-unless-case P (suc r) t m w c f p = f (suc r)
+-- ---- every turn is a refusal other than 9, a 9 with its group, the figures of a shape, or a word: of encoded data, or a recovered one
+unless-case : (P : Turn → Type 0) (x : ℕ) (t : Turn) (m w c : ℕ) → x ≤ 15 → ¬ (x ≡ 9) → ((r : ℕ) → r ≤ 15 → ¬ (r ≡ 9) → P (refusedTurn r m w c))
+    → (x ≡ 0 → P t) → P (turnUnless x t m w c)
+unless-case P zero t m w c l n f p = p refl
+unless-case P (suc r) t m w c l n f p = f (suc r) l n
+
+buffer-most : (m w c n k : ℕ) → bufferRefusal m w c n k ≤ 5
+unfolding bufferRefusal
+buffer-most m w c n k = orElse-most 5 (wordRefusal m w c n) _ (word-most m w c n) (go (not (eqb k (dataCount m w c))))
+  where
+    go : (b : Bool) → refuse 5 b ≤ 5
+    go true = omega arith
+    go false = omega arith
 
 module _ (P : Turn → Type 0) (line : List ℕ) (m w c : ℕ)
-    (no : (r : ℕ) → P (refusedTurn r m w c))
+    (no : (r : ℕ) → r ≤ 15 → ¬ (r ≡ 9) → P (refusedTurn r m w c))
+    (nine : (recoverOf m w c (lineBytes line) (lineMarks line)) .number ≡ 9
+    → P (contradictoryTurn ((recoverOf m w c (lineBytes line) (lineMarks line)) .group) m w c))
     (ok : (a b d : ℕ) → P (turn (okLine (placeCount a b) (dataCount a b d)) a b d))
     (encodes : bufferRefusal m w c (placeCount m w) (length (lineBytes line)) ≡ 0 → P (turn (wordLine (encodedWord m w c (lineBytes line))) m w c))
     (recovers : (recoverOf m w c (lineBytes line) (lineMarks line)) .number ≡ 0
@@ -34,25 +52,39 @@ module _ (P : Turn → Type 0) (line : List ℕ) (m w c : ℕ)
   turn-cases = go (eqb (lineKind line) 0) (eqb (lineKind line) 1) (eqb m 0) (eqb (lineKind line) 2)
     where
       shapes : (a b d : ℕ) → P (shapeTurn a b d m w c)
-      shapes a b d = unless-case P (shapeRefusal a b d) _ m w c no (λ _. ok a b d)
+      shapes a b d =
+          let l = shape-most a b d in
+          unless-case P (shapeRefusal a b d) _ m w c (omega arith) (λ z. omega arith) no (λ _. ok a b d)
+
+      out : Outcome
+      out = recoverOf m w c (lineBytes line) (lineMarks line)
+
+      mends : (b : Bool) → eqb (out .number) 9 ≡ b
+          → P (cond b (contradictoryTurn (out .group) m w c) (turnUnless (out .number) (turn (wordLine (out .word)) m w c) m w c))
+      mends true e = nine (eqb-true (out .number) 9 e)
+      mends false e =
+          let l = recovered-most m w c (lineBytes line) (lineMarks line) in
+          unless-case P (out .number) _ m w c (omega arith) (eqb-false (out .number) 9 e) no recovers
 
       go : (p q r s : Bool)
           → P (cond p (refusedTurn 14 m w c) (cond q (shapeTurn (getD (lineBytes line) 0 0) (getD (lineBytes line) 1 0) (getD (lineBytes line) 2 0) m w c)
           (cond r (refusedTurn 15 m w c) (cond s (dataTurn (lineBytes line) m w c) (wordTurn (lineBytes line) (lineMarks line) m w c)))))
-      go true q r s = no 14
+      go true q r s = no 14 (omega arith) (λ z. omega arith)
       go false true r s = shapes (getD (lineBytes line) 0 0) (getD (lineBytes line) 1 0) (getD (lineBytes line) 2 0)
-      go false false true s = no 15
-      go false false false true = unless-case P (bufferRefusal m w c (placeCount m w) (length (lineBytes line))) _ m w c no encodes
-      go false false false false = unless-case P ((recoverOf m w c (lineBytes line) (lineMarks line)) .number) _ m w c no recovers
+      go false false true s = no 15 (omega arith) (λ z. omega arith)
+      go false false false true =
+          let l = buffer-most m w c (placeCount m w) (length (lineBytes line)) in
+          unless-case P (bufferRefusal m w c (placeCount m w) (length (lineBytes line))) _ m w c (omega arith) (λ z. omega arith) no encodes
+      go false false false false = mends (eqb (out .number) 9) refl
 
 printed : (name numbers : List ℕ) → T (without 10 name) → IsLine (lineOf name numbers)
 printed name numbers t = record { body = name ++ cells numbers; clean = one-line name numbers t; ends = line-parts name numbers }
 
 pub one-feed : (line : List ℕ) (m w c : ℕ) → IsLine ((turnOf line m w c) .output)
-unfolding okLine refusedLine wordLine without
+unfolding okLine refusedLine contradictoryLine wordLine without
 one-feed line m w c =
-    turn-cases (λ t. IsLine (t .output)) line m w c (λ r. printed _ (r ∷ []) tt) (λ a b d. printed _ (placeCount a b ∷ dataCount a b d ∷ []) tt)
-    (λ _. printed wordName _ tt) (λ _. printed wordName _ tt)
+    turn-cases (λ t. IsLine (t .output)) line m w c (λ r _ _. printed _ (r ∷ []) tt) (λ _. printed _ _ tt)
+    (λ a b d. printed _ (placeCount a b ∷ dataCount a b d ∷ []) tt) (λ _. printed wordName _ tt) (λ _. printed wordName _ tt)
 
 -- ---- so the output has as many lines as the input
 each-one : (ls : List (List ℕ)) (m w c : ℕ) → length (lines (joined (answers ls m w c))) ≡ length ls

@@ -33,3 +33,4 @@ pub record Passed (xs : List ℕ) (p : Point) (out line₂ : List ℕ) (at₂ : 
   pub point : pointAt line₂ at₂ ≡ kept (after p xs)
   pub used : at₂ .used ≡ length (adds p xs)
   pub output : out₂ ≡ written out 0 (adds p xs)
+  pub fits : at₂ .length ≤ 1025

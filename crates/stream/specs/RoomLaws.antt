@@ -9,20 +9,21 @@ use borrow.Author.Tests.{eqb-true}
 use lib.Dec.{eqb}
 use lib.ListN.{length, getD, length-append, length-map}
 use Rattle.code.specs.Edition.{bytes}
-use Rattle.code.specs.Answer.{Outcome, answered, eight, nine, done}
-use Rattle.code.specs.AnswerLaws.{cases}
+use Rattle.code.specs.Answer.{Outcome}
+use Rattle.code.specs.AnswerLaws.{answered-length}
 use Rattle.code.specs.Recovery.{recovered}
 use Rattle.shape.specs.Shapes.{Good, placeCount, dataCount, shapeRefusal, bufferRefusal}
-use Rattle.shape.specs.Laws.{good-of-buffers}
+use Rattle.shape.specs.Laws.{good-of-buffers, data-some, data-and-checks}
 use Rattle.places.specs.Places.{placedOf, checkMarks}
 use Rattle.places.specs.Laws.{placed-length}
 use Rattle.encode.specs.Service.{encodedWord}
 use Rattle.recover.specs.Service.{unlessBefore, recoverRefusal, recoverOf}
 use Rattle.text.specs.Records.{wordName, contents, lineKind, lineBytes, lineMarks}
 use Rattle.text.specs.RecordLaws.{line-values, data-named}
-use Rattle.text.specs.Lines.{lineOf, okLine, refusedLine, wordLine}
+use Rattle.text.specs.Lines.{lineOf, refusedName, okLine, refusedLine, contradictoryLine, wordLine}
 use Rattle.print.specs.CellsLaws.{cells-most}
-use Rattle.session.specs.Turn.{Turn, turnUnless, refusedTurn, shapeTurn, dataTurn, wordTurn, recordTurn, turnOf}
+use Rattle.session.specs.Turn.{Turn, turn, turnUnless, refusedTurn, contradictoryTurn, shapeTurn, dataTurn, wordTurn, recordTurn, turnOf}
+use Rattle.session.specs.ContradictionLaws.{nine-accepted}
 
 -- ---- the length of a printed line
 line-size : (name numbers : List ℕ) → length (lineOf name numbers) ≤ length name + 4 * length numbers + 1
@@ -32,6 +33,10 @@ line-size name numbers = simp length-append (omega (arith, cells-most numbers))
 refused-size : (r : ℕ) → length (refusedLine r) ≤ 12
 unfolding refusedLine
 refused-size r = line-size _ (r ∷ [])
+
+contradictory-size : (group : ℕ) → length (contradictoryLine group) ≤ 16
+unfolding contradictoryLine
+contradictory-size group = line-size refusedName (9 ∷ group ∷ [])
 
 ok-size : (n k : ℕ) → length (okLine n k) ≤ 12
 unfolding okLine
@@ -47,24 +52,26 @@ unless-size zero most t m w c l h = h refl
 unless-size (suc r) most t m w c l h = let k = refused-size (suc r) in omega arith
 
 -- ---- the length of a word that is answered
-answered-size : (q : ℕ) (test : List ℕ → Bool) (large : Bool) (word marks : List ℕ) → length ((answered q test large word marks) .word) ≡ length word
-answered-size q test large word marks = elim (cases q test large word marks) [
-  | eight _ e ↦ ap (λ (o : Outcome). length (o .word)) e
-  | nine _ _ e ↦ ap (λ (o : Outcome). length (o .word)) e
-  | done _ x P e ↦ ap (λ (o : Outcome). length (o .word)) e ∙ P .fills .size
-]
-
 recovered-size : (m w c : ℕ) (word marks : List ℕ) → length ((recoverOf m w c word marks) .word) ≡ length word
 unfolding recoverOf
 recovered-size m w c word marks = go (recoverRefusal m w c word marks)
   where
     go : (r : ℕ) → length ((unlessBefore r (recovered bytes m w c word marks) word marks) .word) ≡ length word
-    go zero = answered-size _ _ _ word marks
+    go zero = answered-length _ _ _ _ word marks
     go (suc r) = refl
 
 encoded-size : (m w c : ℕ) (carried : List ℕ) → length (encodedWord m w c carried) ≡ m * w
 unfolding encodedWord
-encoded-size m w c carried = answered-size _ _ _ (placedOf m w c carried) (checkMarks m w c) ∙ placed-length m w c carried
+encoded-size m w c carried = answered-length _ _ _ _ (placedOf m w c carried) (checkMarks m w c) ∙ placed-length m w c carried
+
+-- a 9 is answered to some bytes only: a call with none has the wrong length, or a bad shape
+nine-some : (m w c : ℕ) (word marks : List ℕ) → (recoverOf m w c word marks) .number ≡ 9 → 1 ≤ length word
+nine-some m w c word marks e =
+    let A = nine-accepted m w c word marks e in
+    let n = A .word-size in
+    let d = data-some (A .good) in
+    let k = data-and-checks (A .good) in
+    omega arith
 
 -- "m from 1 to 15, c from 1 to 4, w from c+2": a word has at most three places for each data byte and six more
 word-of-data : {m w c : ℕ} → Good m w c → placeCount m w ≤ 3 * dataCount m w c + 6
@@ -90,10 +97,21 @@ module _ (most m w c : ℕ) (some : 12 ≤ most) where
 
   word-room : (values marks : List ℕ) → 12 * (length values + 1) ≤ most → length ((wordTurn values marks m w c) .output) ≤ most
   unfolding wordTurn
-  word-room values marks l = unless-size ((recoverOf m w c values marks) .number) most _ m w c some (λ z.
-      let n = recovered-size m w c values marks in
-      let k = word-size ((recoverOf m w c values marks) .word) in
-      omega arith)
+  word-room values marks l = go (eqb (out .number) 9) refl
+    where
+      out : Outcome
+      out = recoverOf m w c values marks
+
+      go : (b : Bool) → eqb (out .number) 9 ≡ b
+          → length ((cond b (contradictoryTurn (out .group) m w c) (turnUnless (out .number) (turn (wordLine (out .word)) m w c) m w c)) .output) ≤ most
+      go true e =
+          let s = nine-some m w c values marks (eqb-true (out .number) 9 e) in
+          let k = contradictory-size (out .group) in
+          omega arith
+      go false e = unless-size (out .number) most _ m w c some (λ z.
+          let n = recovered-size m w c values marks in
+          let k = word-size (out .word) in
+          omega arith)
 
   record-room : (kind : ℕ) (values marks : List ℕ) → (kind ≡ 2 → 12 * (length values + 5) ≤ most) → 12 * (length values + 1) ≤ most
       → length ((recordTurn kind values marks m w c) .output) ≤ most

@@ -10,5 +10,4 @@ use Rattle.stream.specs.Places.{Passed}
 -- the state of the loop over bytes: i of them are taken, from the point p and an empty output on
 pub record Midway (bytes : List ℕ) (p : Point) (start : ℕ) (out line₂ : List ℕ) (at₂ : Place) (out₂ : List ℕ) (i : ℕ) : Type 0 where
   pub passed : Passed (take i bytes) p out line₂ at₂ out₂
-  pub fits : at₂ .length ≤ 1025
   pub room : at₂ .used + 12 * at₂ .length ≤ 12 * (start + i)

@@ -84,8 +84,8 @@ midway-first bytes line at out whole fits none = record {
         (sym (take-all 1025 (take (at .length) line) (let h = length-take-le (at .length) line (omega arith) in omega arith)));
     used = none;
     output = sym (written-nothing out 0);
+    fits = fits;
   };
-  fits = fits;
   room = omega arith;
 }
 
@@ -125,7 +125,7 @@ module _ (bytes : List ℕ) (p : Point) (start : ℕ) (out line₂ : List ℕ) (
       ap length (M .passed .output) ∙ length-written out 0 so-far (omega arith)
 
   pub midway-room : (at₂ .length ≤ 1025) × (at₂ .used + 12 * (at₂ .length + 1) ≤ length out₂)
-  midway-room = let s = out-same in let r = M .room in (M .fits, omega arith)
+  midway-room = let s = out-same in let r = M .room in (M .passed .fits, omega arith)
 
   pub midway-more : (line₃ : List ℕ) (at₃ : Place) (out₃ : List ℕ) → Taken (getD bytes i 0) line₂ at₂ out₂ line₃ at₃ out₃
       → Midway bytes p start out line₃ at₃ out₃ (i + 1)
@@ -142,8 +142,8 @@ module _ (bytes : List ℕ) (p : Point) (start : ℕ) (out line₂ : List ℕ) (
           point = t .point ∙ ap (λ r. kept (next r x)) (M .passed .point) ∙ next-kept q x ∙ ap kept (sym after-more);
           used = t .used ∙ rw (adds-more, length-append) (omega arith);
           output = t .output ∙ rw (adds-more, same-said, M .passed .output, M .passed .used) o;
+          fits = t .fits;
         };
-        fits = t .fits;
         room = omega arith;
       }
 
@@ -182,9 +182,10 @@ module _ (s : State) (at : Place) (e : at .length ≡ min (s .length) 1025) (m :
       → Passed (take n input) (pointAt (s .line) at) out line₂ at₂ out₂
       → (pointOf (record { line = line₂; length = at₂ .length; m = at₂ .m; w = at₂ .w; c = at₂ .c }) ≡ kept (after (pointOf s) (take count input)))
       × (at₂ .used ≡ length (adds (pointOf s) (take count input))) × (out₂ ≡ written out 0 (adds (pointOf s) (take count input)))
+      × (at₂ .length ≤ 1025)
   unfolding pointOf pointAt
   took input count n size f out line₂ at₂ out₂ P =
-      rw (← first-point, ← take-least input 1024 count n size f) (P .point, P .used, P .output)
+      rw (← first-point, ← take-least input 1024 count n size f) (P .point, P .used, P .output, P .fits)
 
   pub closing-some : (at .length ≡ 0 → ⊥) → closing (pointOf s) ≡ (turnOn (s .line) at) .output
   unfolding closing pointOf

@@ -2,7 +2,10 @@
 use mathlib.Core.Path.{_≡_}
 use mathlib.Core.List.{List, [], _∷_, _++_}
 use Prim.Native.Nat.{ℕ}
+use lib.ListN.{length, take}
+use Rattle.print.specs.Written.{written}
 use Rattle.stream.specs.declared.State.{State}
+use Rattle.stream.specs.declared.Step.{Step}
 use Rattle.stream.specs.States.{pointOf}
 use Rattle.stream.specs.Points.{Point, after, adds, closing, kept}
 
@@ -15,8 +18,11 @@ inParts p (part ∷ rest) = adds p part ++ inParts (kept (after p part)) rest
 abbrev pub atOnce : Point → List ℕ → List ℕ
 atOnce p input = adds p input ++ closing (after p input)
 
--- A run of the code, by its contracts: a state, the parts of the input that come then, and all that is written.
+-- A run of start, take and finish whose caller writes the first `length` bytes of out each time; the program does so, which is run and not
+-- proved. A state, the parts of the input that come then, and all that is written; the premises are the contracts of take and finish.
 pub data Run : State → List (List ℕ) → List ℕ → Type 0 where
-  ended : {s : State} {output : List ℕ} → output ≡ closing (pointOf s) → Run s [] output
-  took : {s t : State} {part : List ℕ} {rest : List (List ℕ)} {output more : List ℕ}
-      → pointOf t ≡ kept (after (pointOf s) part) → output ≡ adds (pointOf s) part → Run t rest more → Run s (part ∷ rest) (output ++ more)
+  ended : {s : State} (n : ℕ) (before out : List ℕ) → n ≡ length (closing (pointOf s)) → out ≡ written before 0 (closing (pointOf s))
+      → Run s [] (take n out)
+  took : {s : State} {part : List ℕ} {rest : List (List ℕ)} {more : List ℕ} (step : Step) (before out : List ℕ)
+      → pointOf (step .state) ≡ kept (after (pointOf s) part) → step .length ≡ length (adds (pointOf s) part)
+      → out ≡ written before 0 (adds (pointOf s) part) → Run (step .state) rest more → Run s (part ∷ rest) (take (step .length) out ++ more)

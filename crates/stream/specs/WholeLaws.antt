@@ -2,13 +2,16 @@
 use mathlib.Core.Path.{_≡_, refl, sym, ap, ap₂, _∙_}
 use mathlib.Core.Bool.{Bool, true, false, cond}
 use mathlib.Core.List.{List, [], _∷_, _++_, append-assoc, append-nil}
-use Prim.Native.Nat.{ℕ}
+use Prim.Native.Nat.{ℕ, _+_}
 use borrow.Author.Tests.{eqb-true}
 use lib.Dec.{T, eqb}
+use lib.ListN.{length, take, drop}
+use lib.Seq.{take-at}
 use Rattle.text.specs.Input.{lines}
 use Rattle.text.specs.InputLaws.{lines-feed, lines-last}
 use Rattle.text.specs.DecimalLaws.{without}
 use Rattle.text.specs.ReadBackLaws.{without-append}
+use Rattle.print.specs.Written.{written}
 use Rattle.stream.specs.declared.State.{State}
 use Rattle.stream.specs.States.{pointOf}
 use Rattle.stream.specs.Session.{answers, joined, sessionOf}
@@ -56,10 +59,16 @@ pub whole-session : (parts : List (List ℕ)) → inParts (clear 0 0 0) parts �
 unfolding sessionOf without
 whole-session parts = parts-kept parts (clear 0 0 0) (clear 0 0 0) refl ∙ at-once (joined parts) (clear 0 0 0) tt
 
+-- what a caller writes: the front of out, as long as the contract says, is the text that the contract says stands there
+pub front-written : (n : ℕ) (before out text : List ℕ) → n ≡ length text → out ≡ written before 0 text → take n out ≡ text
+unfolding written
+front-written n before out text size e = ap (take n) e ∙ take-at text (drop (0 + length text) before) n (sym size)
+
 run-in-parts : {s : State} {parts : List (List ℕ)} {output : List ℕ} → Run s parts output → output ≡ inParts (pointOf s) parts
 unfolding inParts
-run-in-parts (ended e) = e
-run-in-parts (took {rest = rest} n e r) = ap₂ _++_ e (run-in-parts r ∙ ap (λ p. inParts p rest) n)
+run-in-parts (ended n before out size e) = front-written n before out _ size e
+run-in-parts (took {rest = rest} step before out p size e r) =
+    ap₂ _++_ (front-written (step .length) before out _ size e) (run-in-parts r ∙ ap (λ q. inParts q rest) p)
 
 -- from the first state on, what is written is the output of the whole input, however it is cut
 pub run-session : {s : State} {parts : List (List ℕ)} {output : List ℕ} → pointOf s ≡ clear 0 0 0 → Run s parts output → output ≡ sessionOf (joined parts)

@@ -8,7 +8,7 @@ ghost use Rattle.stream.specs.States.{pointOf};
 ghost use Rattle.stream.specs.Places.{pointAt, turnOn, endedBy, Taken, Passed};
 
 // The line so far, of which 1,025 bytes are kept, and the shape in force; m is 0 for no shape yet. What stands past the length has no meaning.
-// A length above 1,025, which no run has, means the same as 1,025.
+// A length above 1,025 means the same as 1,025; start and take give none.
 pub struct State {
     pub line: [u8; 1025],
     pub length: usize,
@@ -110,7 +110,8 @@ fn take_all(line: &mut [u8], bytes: &[u8], count: usize, first: Place, out: &mut
 
 // The state before any input.
 pub fn start() -> State
-    ensures { λ r. ⌜ pointOf r ≡ clear 0 0 0 ⌝ }
+    ensures state { λ r. ⌜ pointOf r ≡ clear 0 0 0 ⌝ }
+    ensures fits { λ r. ⌜ r .length ≤ 1025 ⌝ }
 {
     State {
         line: [0u8; 1025],
@@ -127,6 +128,7 @@ pub fn take(state: State, input: &[u8; 1024], count: usize, out: &mut [u8; 24588
     ensures state { λ r. ⌜ pointOf (r .state) ≡ kept (after (pointOf state) (take count (now (input .entry)))) ⌝ }
     ensures size { λ r. ⌜ r .length ≡ length (adds (pointOf state) (take count (now (input .entry)))) ⌝ }
     ensures output { λ _. ⌜ now (out .exit) ≡ written (now (out .entry)) 0 (adds (pointOf state) (take count (now (input .entry)))) ⌝ }
+    ensures fits { λ r. ⌜ r .state .length ≤ 1025 ⌝ }
 {
     let mut line = state.line;
     let n = least(count, 1024);

@@ -1,2 +1,4 @@
 pub mod Across
 pub mod PartsLaws
+pub mod Tests
+pub mod TestsLaws

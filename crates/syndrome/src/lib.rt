@@ -3,16 +3,23 @@ ghost use mathlib.Core.Path.{_≡_};
 ghost use mathlib.Core.Bool.{true, false};
 ghost use Prim.Native.Nat.{_*_, _≤_, _<_};
 ghost use lib.ListN.{length};
-ghost use Rattle.counting.specs.Test.{allBelow};
 ghost use Rattle.shape.specs.Shapes.{Good};
 ghost use Rattle.code.specs.Edition.{bytes};
-ghost use Rattle.code.specs.Word.{groupSum, coefficient, twisted, isLocal, isCodeword};
+ghost use Rattle.code.specs.Word.{groupSum, coefficient, twisted, isLocal};
 ghost use Rattle.syndrome.specs.Across.{acrossOf, noSums};
+ghost use Rattle.syndrome.specs.Tests.{brokenGroup, testedOf, notTested};
 
 // What the two equations across sum up to.
 pub struct Sums {
     pub first: u8,
     pub second: u8,
+}
+
+// What the test of a word's equations finds: whether it is a codeword, and the lowest group whose local sums are not all zero, or m if there
+// is none.
+pub struct Tested {
+    pub codeword: bool,
+    pub group: usize,
 }
 
 // Whether the first c local sums of one group's stretch are zero; false for more than 16 places or c above 4.
@@ -100,37 +107,51 @@ pub fn across(m: usize, w: usize, c: usize, word: &[u8]) -> Sums
     Sums { first, second }
 }
 
-// Whether the local sums of every group are zero; false for a shape or length that is refused.
-fn locals_zero(m: usize, w: usize, c: usize, word: &[u8]) -> bool
-    ensures { λ r. ⌜ (Good m w c → length (now (word .entry)) ≡ m * w → r ≡ allBelow m (isLocal bytes w c (now (word .entry)))) ⌝ }
-    ensures { λ r. ⌜ ((Good m w c → length (now (word .entry)) ≡ m * w → ⊥) → r ≡ false) ⌝ }
+// The lowest group whose local sums are not all zero; m if there is none.
+fn broken_group(m: usize, w: usize, c: usize, word: &[u8]) -> usize
+    requires { ⌜ Good m w c ⌝ }
+    requires { ⌜ length (now word) ≡ m * w ⌝ }
+    ensures { λ r. ⌜ r ≡ brokenGroup m w c (now (word .entry)) ⌝ }
 {
-    if shape::word_refusal(m, w, c, word.len()) != 0 {
-        return false;
-    }
     let mut g: usize = 0;
     while g < m {
         let a = g * w;
         let e = a + w;
         if !local_zero(&word[a..e], c) {
-            return false;
+            return g;
         }
         g += 1;
     }
-    true
+    g
 }
 
-// Whether a word of a good shape's length is a codeword; false for a shape or length that is refused.
-pub fn is_codeword(m: usize, w: usize, c: usize, word: &[u8]) -> bool
-    ensures { λ r. ⌜ (Good m w c → length (now (word .entry)) ≡ m * w → r ≡ isCodeword bytes m w c (now (word .entry))) ⌝ }
-    ensures { λ r. ⌜ ((Good m w c → length (now (word .entry)) ≡ m * w → ⊥) → r ≡ false) ⌝ }
+// The test of all the equations of a word of a good shape's length. A shape or length that is refused is no codeword, and its group is 0.
+pub fn test(m: usize, w: usize, c: usize, word: &[u8]) -> Tested
+    ensures { λ r. ⌜ (Good m w c → length (now (word .entry)) ≡ m * w → r ≡ testedOf m w c (now (word .entry))) ⌝ }
+    ensures { λ r. ⌜ ((Good m w c → length (now (word .entry)) ≡ m * w → ⊥) → r ≡ notTested) ⌝ }
 {
-    if !locals_zero(m, w, c, word) {
-        return false;
+    if shape::word_refusal(m, w, c, word.len()) != 0 {
+        return Tested {
+            codeword: false,
+            group: 0,
+        };
+    }
+    let group = broken_group(m, w, c, word);
+    if group != m {
+        return Tested {
+            codeword: false,
+            group,
+        };
     }
     let s = across(m, w, c, word);
     if s.first != 0 {
-        return false;
+        return Tested {
+            codeword: false,
+            group,
+        };
     }
-    s.second == 0
+    Tested {
+        codeword: s.second == 0,
+        group,
+    }
 }

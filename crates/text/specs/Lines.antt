@@ -17,9 +17,17 @@ lineOf name numbers = name ++ (cells numbers ++ (10 ∷ []))
 unfoldable pub okLine : ℕ → ℕ → List ℕ
 okLine n k = lineOf (111 ∷ 107 ∷ []) (n ∷ k ∷ [])
 
+-- the word refused
+abbrev pub refusedName : List ℕ
+refusedName = 114 ∷ 101 ∷ 102 ∷ 117 ∷ 115 ∷ 101 ∷ 100 ∷ []
+
 -- refused and the number
 unfoldable pub refusedLine : ℕ → List ℕ
-refusedLine r = lineOf (114 ∷ 101 ∷ 102 ∷ 117 ∷ 115 ∷ 101 ∷ 100 ∷ []) (r ∷ [])
+refusedLine r = lineOf refusedName (r ∷ [])
+
+-- "A 9 now carries a group number [..]. The program writes refused, 9 and that number"
+unfoldable pub contradictoryLine : ℕ → List ℕ
+contradictoryLine group = lineOf refusedName (9 ∷ group ∷ [])
 
 -- word and its bytes
 unfoldable pub wordLine : List ℕ → List ℕ

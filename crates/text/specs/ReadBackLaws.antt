@@ -1,7 +1,7 @@
 -- Laws: What is printed reads back as what was meant.
 use mathlib.Core.Path.{_≡_, refl, sym, ap, ap₂, _∙_}
 use mathlib.Core.Bool.{Bool, true, false, cond, not}
-use mathlib.Core.List.{List, [], _∷_, _++_, map, append-assoc}
+use mathlib.Core.List.{List, [], _∷_, _++_, map, append-assoc, append-cancel-right}
 use Prim.Native.Nat.{ℕ, suc, _*_, _%_, _/_, _≤_, _<_}
 use native.Mathlib.Nat.{mod-eq-of-lt, div-eq-of-lt}
 use native.Mathlib.Omega.{arith}
@@ -102,6 +102,13 @@ module _ (word : List ℕ) (h : Bytes word) where
 pub line-parts : (name numbers : List ℕ) → lineOf name numbers ≡ (name ++ cells numbers) ++ (10 ∷ [])
 unfolding lineOf
 line-parts name numbers = sym (append-assoc name (cells numbers) (10 ∷ []))
+
+-- two printed lines of one name are the same only if their numbers are
+pub numbers-same : (name xs ys : List ℕ) → T (without 9 name) → Bytes xs → Bytes ys → lineOf name xs ≡ lineOf name ys → xs ≡ ys
+numbers-same name xs ys t h k e =
+    let b : name ++ cells xs ≡ name ++ cells ys =
+    append-cancel-right (name ++ cells xs) (name ++ cells ys) (10 ∷ []) (sym (line-parts name xs) ∙ e ∙ line-parts name ys) in
+    sym (contents-back name xs t h) ∙ ap contents b ∙ contents-back name ys t k
 
 pub without-append : (y : ℕ) (xs ys : List ℕ) → T (without y xs) → T (without y ys) → T (without y (xs ++ ys))
 unfolding without

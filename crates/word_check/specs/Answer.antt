@@ -1,37 +1,42 @@
 -- What Check answers.
-use mathlib.Core.Bool.{Bool, true, false}
+use mathlib.Core.Bool.{Bool, true, false, cond}
 use mathlib.Core.List.{List, [], _∷_}
 use Prim.Native.Nat.{ℕ, zero, suc}
-use lib.ListN.{length}
-use Rattle.counting.specs.Count.{one}
+use lib.ListN.{length, replicate}
 use Rattle.shape.specs.Refusals.{unlessRefused}
 use Rattle.shape.specs.Shapes.{wordRefusal}
 use Rattle.code.specs.Edition.{bytes}
 use Rattle.code.specs.Word.{isCodeword}
+use Rattle.code.specs.Contradiction.{contradictingGroup}
 use Rattle.word_check.specs.declared.Checked.{Checked}
 
--- yes or no, or the number of a refusal
-abbrev pub checkedAt : ℕ → Bool → Checked
-checkedAt zero true = Checked.Codeword
-checkedAt zero false = Checked.Other
-checkedAt (suc r) b = Checked.Refused (suc r)
+-- yes, or no with a group, or the number of a refusal
+abbrev pub checkedAt : ℕ → Bool → ℕ → Checked
+checkedAt zero true group = Checked.Codeword
+checkedAt zero false group = Checked.Other group
+checkedAt (suc r) b group = Checked.Refused (suc r)
+
+-- the group that contradicts where every place is present
+abbrev pub wholeGroup : ℕ → ℕ → ℕ → List ℕ → ℕ
+wholeGroup m w c word = contradictingGroup bytes m w c word (replicate (length word) 0)
 
 -- "Check: yes exactly if the word is a codeword."
 unfoldable pub checkedOf : ℕ → ℕ → ℕ → List ℕ → Checked
-checkedOf m w c word = checkedAt (wordRefusal m w c (length word)) (isCodeword bytes m w c word)
+checkedOf m w c word = checkedAt (wordRefusal m w c (length word)) (isCodeword bytes m w c word) (wholeGroup m w c word)
 
 -- the number given back, 0 for an answer
 abbrev pub checkedNumber : Checked → ℕ
 checkedNumber Checked.Codeword = 0
-checkedNumber Checked.Other = 0
+checkedNumber (Checked.Other group) = 0
 checkedNumber (Checked.Refused r) = r
 
--- and the figure, 1 for yes and 0 for no; none on a refusal
+-- and the figures, 1 for yes, 0 and the group for no; none on a refusal. (C gets a no as 9 with its group.)
 abbrev pub checkedFigures : Checked → List ℕ
 checkedFigures Checked.Codeword = 1 ∷ []
-checkedFigures Checked.Other = 0 ∷ []
+checkedFigures (Checked.Other group) = 0 ∷ group ∷ []
 checkedFigures (Checked.Refused r) = []
 
 -- the figure of any call
 unfoldable pub figuresOf : ℕ → ℕ → ℕ → List ℕ → List ℕ
-figuresOf m w c word = unlessRefused (wordRefusal m w c (length word)) (one (isCodeword bytes m w c word) ∷ []) []
+figuresOf m w c word =
+    unlessRefused (wordRefusal m w c (length word)) (cond (isCodeword bytes m w c word) (1 ∷ []) (0 ∷ wholeGroup m w c word ∷ [])) []

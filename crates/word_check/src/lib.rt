@@ -4,10 +4,10 @@ ghost use lib.ListN.{length};
 ghost use Rattle.shape.specs.Shapes.{wordRefusal};
 ghost use Rattle.word_check.specs.Answer.{checkedOf, checkedNumber, checkedFigures, figuresOf};
 
-// Whether the word is a codeword, or the number of a refusal.
+// Whether the word is a codeword; if not, the group that contradicts; or the number of a refusal.
 pub enum Checked {
     Codeword,
-    Other,
+    Other(u8),
     Refused(u8),
 }
 
@@ -21,9 +21,10 @@ pub fn check(m: usize, w: usize, c: usize, word: &[u8]) -> Checked
     if r != 0 {
         return Checked::Refused(r);
     }
-    if syndrome::is_codeword(m, w, c, word) {
+    let tested = syndrome::test(m, w, c, word);
+    if tested.codeword {
         Checked::Codeword
     } else {
-        Checked::Other
+        Checked::Other(tested.group as u8)
     }
 }

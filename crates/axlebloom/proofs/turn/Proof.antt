@@ -49,7 +49,7 @@ take-requires c κs = search needs
 array-share-prefix-out-2 : tie.Need-array-share-prefix-out-2
 array-share-prefix-out-2 c =
     let e = c .take .ensures .1 in
-    rw (e .0, e .1) (written-holds _ 0 _)
+    rw (e .0, e .1 .0) (written-holds _ 0 _)
 
 slice-aggregate-write-out-2 : tie.Need-slice-aggregate-write-out-2
 slice-aggregate-write-out-2 c = sym (length-take-le _ _ (array-share-prefix-out-2 (c .before)))

@@ -1,14 +1,11 @@
 use mathlib.Core.Path.{_≡_, refl, sym, ap, _∙_}
 use native.Mathlib.Omega.{arith}
-use Rattle.shape.specs.declared.Answer.{Answer}
-use Rattle.shape.specs.Answers.{answerAt}
-use Rattle.shape.specs.AnswersLaws.{answer-refused}
+use Rattle.shape.specs.declared.Mending.{Mending}
+use Rattle.shape.specs.Answers.{mendingAt}
 use Rattle.shape.specs.Refusals.{unlessRefused}
-use Rattle.shape.specs.RefusalsLaws.{unless-refused}
 use Rattle.desk.specs.Desks.{slotOf, jobAt}
 use Rattle.desk.specs.Calls.{withJob, recoveryOf, jobNumber, serveBy, serveOf}
-use Rattle.desk.specs.CallLaws.{serve-refused}
-use Rattle.desk.specs.ServeLaws.{answer-done, answer-number-is, answer-some, open-good, job-room, serve-handle, serve-job}
+use Rattle.desk.specs.ServeLaws.{mending-is, mending-some, open-good, job-room, gives-handle, gives-job, serve-job}
 use borrow.Author.Needs.{needs}
 use Rattle.desk.proofs.serve.Statement.{statement}
 use Rattle.desk.proofs.serve.Tie as tie
@@ -19,9 +16,7 @@ handle-refusal-requires c κs = search needs
 returns : tie.Need-returns
 returns c =
     let a = c .before .before .before .args in
-    let r = c .before .handle-refusal .result in
-    rw (serve-handle (a .handle) (a .word .now) (a .t1) r (c .if1 .taken) (sym (c .before .handle-refusal .ensures)))
-    (record { word-is = refl; desk-is = refl; answer-is = sym (answer-refused r (c .if1 .taken)); number-is = refl })
+    gives-handle (a .handle) (a .word .now) (a .t1) (c .before .handle-refusal .result) (c .if1 .taken) (sym (c .before .handle-refusal .ensures))
 
 mul-job : tie.Need-mul-job
 mul-job c = search needs
@@ -38,6 +33,9 @@ serve-job-requires c κs =
 enum-known-r : tie.Need-enum-known-r
 enum-known-r c = search needs
 
+enum-known-group : tie.Need-enum-known-group
+enum-known-group c = search needs
+
 enum-told : tie.Need-enum-told
 enum-told c = search needs
 
@@ -46,7 +44,8 @@ served-once-requires c κs =
     let k = c .before .before .before .before in
     let a = k .before .before .before .before .before .before .args in
     let j = jobAt (a .t1) (slotOf (a .handle)) in
-    let z : jobNumber j (a .word .now) ≡ 0 = answer-done _ (sym (k .serve-job .ensures .0) ∙ c .enum-told .given .1) in
+    let z : jobNumber j (a .word .now) ≡ 0
+    = mending-is (jobNumber j (a .word .now)) ((recoveryOf j (a .word .now)) .group) (sym (c .enum-told .given .1) ∙ k .serve-job .ensures .0) in
     job-room j (a .word .now) z
 
 mul-raised : tie.Need-mul-raised
@@ -64,20 +63,12 @@ returns-2 c =
     let e₁ = k .before .before .before in
     let a = e₁ .before .before .before .args in
     let j = jobAt (a .t1) (slotOf (a .handle)) in
+    let n = jobNumber j (a .word .now) in
+    let g = (recoveryOf j (a .word .now)) .group in
     let r = c .before .r .given .0 .0 in
-    let q : answerAt (jobNumber j (a .word .now)) ≡ Answer.Refused r = sym (k .serve-job .ensures .0) ∙ c .before .r .given .1 in
-    let n = answer-number-is (jobNumber j (a .word .now)) r q in
-    let some : r ≡ 0 → ⊥ = λ z. answer-some (jobNumber j (a .word .now)) r q (n ∙ z) in
-    let e : serveOf (a .handle) (a .word .now) (a .t1) ≡ record { number = r; word = a .word .now; desk = a .t1 }
-    = serve-job (a .handle) (a .word .now) (a .t1) (sym (e₁ .before .handle-refusal .ensures) ∙ e₁ .if1 .left)
-    ∙ ap (λ n. serveBy n (a .handle) (a .word .now) (a .t1)) n ∙ serve-refused r some (a .handle) (a .word .now) (a .t1) in
-    rw e
-    (record {
-      word-is = k .serve-job .ensures .1 ∙ ap (λ n. unlessRefused n ((recoveryOf j (a .word .now)) .word) (a .word .now)) n ∙ unless-refused r ((recoveryOf j (a .word .now)) .word) (a .word .now) some;
-      desk-is = refl;
-      answer-is = sym (answer-refused r some);
-      number-is = refl;
-    })
+    let q : Mending.Refused r ≡ mendingAt n g = sym (c .before .r .given .1) ∙ k .serve-job .ensures .0 in
+    gives-job (a .handle) (a .word .now) (a .t1) (sym (e₁ .before .handle-refusal .ensures) ∙ e₁ .if1 .left) (mending-some n g r q) _
+    (k .serve-job .ensures .1) (Mending.Refused r) q
 
 same-length-2 : tie.Need-same-length-2
 same-length-2 c = search needs
@@ -88,7 +79,25 @@ returns-3 c =
     let e₁ = k .before .before .before in
     let a = e₁ .before .before .before .args in
     let j = jobAt (a .t1) (slotOf (a .handle)) in
-    let z : jobNumber j (a .word .now) ≡ 0 = answer-done (jobNumber j (a .word .now)) (sym (k .serve-job .ensures .0) ∙ c .before .enum-told .given .1) in
+    let n = jobNumber j (a .word .now) in
+    let g = (recoveryOf j (a .word .now)) .group in
+    let r = c .before .group .given .0 .0 in
+    let q : Mending.Contradictory r ≡ mendingAt n g = sym (c .before .group .given .1) ∙ k .serve-job .ensures .0 in
+    let some : n ≡ 0 → ⊥ = λ z. let e : n ≡ 9 = mending-is n g q in omega arith in
+    gives-job (a .handle) (a .word .now) (a .t1) (sym (e₁ .before .handle-refusal .ensures) ∙ e₁ .if1 .left) some _
+    (k .serve-job .ensures .1) (Mending.Contradictory r) q
+
+same-length-3 : tie.Need-same-length-3
+same-length-3 c = search needs
+
+returns-4 : tie.Need-returns-4
+returns-4 c =
+    let k = c .before .before .before .before .before in
+    let e₁ = k .before .before .before in
+    let a = e₁ .before .before .before .args in
+    let j = jobAt (a .t1) (slotOf (a .handle)) in
+    let z : jobNumber j (a .word .now) ≡ 0
+    = mending-is (jobNumber j (a .word .now)) ((recoveryOf j (a .word .now)) .group) (sym (c .before .enum-told .given .1) ∙ k .serve-job .ensures .0) in
     let e : serveOf (a .handle) (a .word .now) (a .t1) ≡ serveBy 0 (a .handle) (a .word .now) (a .t1)
     = serve-job (a .handle) (a .word .now) (a .t1) (sym (e₁ .before .handle-refusal .ensures) ∙ e₁ .if1 .left)
     ∙ ap (λ n. serveBy n (a .handle) (a .word .now) (a .t1)) z in
@@ -98,6 +107,7 @@ returns-3 c =
       desk-is = ap (withJob (a .t1) (slotOf (a .handle))) (c .served-once .ensures);
       answer-is = refl;
       number-is = refl;
+      group-is = refl;
     })
 
 pub serve-spec : {M : Type 1} → statement M
@@ -110,6 +120,7 @@ serve-spec =
     element-copy-out-job
     serve-job-requires
     enum-known-r
+    enum-known-group
     enum-told
     served-once-requires
     mul-raised
@@ -117,4 +128,6 @@ serve-spec =
     same-length
     returns-2
     same-length-2
-    returns-3)
+    returns-3
+    same-length-3
+    returns-4)

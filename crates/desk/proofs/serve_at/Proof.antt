@@ -43,16 +43,16 @@ use denote.Triple.Walked.{says, Stays, stay-ref, stay-none, gave-slice, walkOf, 
 use denote.Triple.Clauses.{ensured, lasts}
 use denote.Exit.{yes}
 use Rattle.desk.specs.Calls.{serveOf, ServeGives}
-use Rattle.shape.specs.declared.Answer.{Answer}
+use Rattle.shape.specs.declared.Mending.{Mending}
 use Rattle.desk.specs.declared.Desk.{Desk}
-use Rattle.desk.specs.declared.After.{After}
+use Rattle.desk.specs.declared.AfterServe.{AfterServe}
 use Rattle.desk.proofs.Walks.{by-walk, val, IsDesk}
 use Rattle.desk.proofs.Desk as T
 use Rattle.desk.proofs.Desk.Laws as T′
-use Rattle.desk.proofs.After as R
-use Rattle.desk.proofs.After.Laws as R′
-use Rattle.shape.proofs.Answer as E
-use Rattle.shape.proofs.Answer.Laws as E′
+use Rattle.desk.proofs.AfterServe as R
+use Rattle.desk.proofs.AfterServe.Laws as R′
+use Rattle.shape.proofs.Mending as E
+use Rattle.shape.proofs.Mending.Laws as E′
 use Rattle.desk.proofs.serve as serve
 use Rattle.desk.proofs.serve.Symbol as serve-def
 use Rattle.desk.proofs.serve.Symbol.{name as #desk·serve}
@@ -68,10 +68,10 @@ Arg = RefT Desk × (ℕ × (RefT (List ℕ) × Unit {0}))
 abbrev stayed : Stays (serve-at.ended .signature .params) (serve-at.ended .kept)
 stayed = (stay-ref (0 ∷ []) tt (plain (λ _. T.the-row)), (stay-none (λ _. u64) yes, (gave-slice (1 ∷ []) tt (plain (λ _. u8)), tt)))
 
-abbrev answer-val : Answer → Val
+abbrev answer-val : Mending → Val
 answer-val = EL.val E.the-type E′.the-laws
 
-abbrev IsAnswer : Answer → Type 0
+abbrev IsAnswer : Mending → Type 0
 IsAnswer a = Is E.the-row a (answer-val a ∷ [])
 
 -- the contract that the proof cites
@@ -94,10 +94,10 @@ module _ {M : Type 1} (𝓤 : URA M) (H : Heap 𝓤) (A : Atoms 𝓤) (W : Given
   abbrev Post : Val → SProp 𝓤
   Post = walkOf 𝓤 H A serve-at.ended stayed (serve-at.clauses 𝓤 H A at-mem run) .post (((κ, (κ′, tt)), (q, (q′, tt)), tt, a, at), tt)
 
-  abbrev Gives : List ℕ → After → Type 0
+  abbrev Gives : List ℕ → AfterServe → Type 0
   Gives zs r = ServeGives (serveOf n ys h) zs (r .desk) (r .answer)
 
-  exits : (r : After) (zs : List ℕ) → IsAnswer (r .answer) → Gives zs r → length zs ≡ length ys
+  exits : (r : AfterServe) (zs : List ℕ) → IsAnswer (r .answer) → Gives zs r → length zs ≡ length ys
       → ent 𝓤 (⋆ 𝓤 H A (‵ (fobs γ (T.the-row .coded .code (r .desk))) ∷ ‵ (fbor κ (Body (mem T.the-row) b o γ)) ∷ ‵ (flft κ q) ∷ (‵ (flft κ′ q′) ⊛ ‵ ftrue) ∷ ‵ (finally u8 γ′ zs) ∷ [])) (Post (answer-val (r .answer)))
   exits r zs is-answer e l =
       qed W (‵ (fobs γ (T.the-row .coded .code (r .desk))) ∷ ‵ (fbor κ (Body (mem T.the-row) b o γ)) ∷ ‵ (flft κ q) ∷ (‵ (flft κ′ q′) ⊛ ‵ ftrue) ∷ ‵ (finally u8 γ′ zs) ∷ []) ∵
@@ -131,7 +131,7 @@ module _ {M : Type 1} (𝓤 : URA M) (H : Heap 𝓤) (A : Atoms 𝓤) (W : Given
         move ! (6 ∷ []) $ fsplit ! $ drop ! $ fsplit ! $ move ! (7 ∷ 0 ∷ []) $ use2 W (raw (Serve 𝓤 H A at-mem run .pre to-serve)) (goes-serve is) $
         -- [the pre; true; the desk's cell; what it owns; the open borrow; obs; auth; _7; …; _6; …; _5; …; _4; …; _3; …; _2; …; _1; …; room for _0; …]
         calls-at ! fm (Serve 𝓤 H A at-mem run) known to-serve (and-then ! (load ! (from ! (stop !)) (look ! 13 refl)) (and-then ! (load ! (from ! (stop !)) (look ! 17 refl)) (and-then ! (load ! (from ! (stop !)) (look ! 7 refl)) (no-more !)))) (λ v.
-        use1 W (later (some (λ (r : After). ((‵ (flft κ′ q′) ⊛ ‵ ftrue) ⊛ ‵ (R.the-row .own r (v ∷ []))) ⊛ raw (ensured 𝓤 H A serve.ended (serve.clauses 𝓤 H A at-mem run) (κ′, tt) (h, (n, (x, tt))) tt r)))) (id⊢ 𝓤 _) $ await ! tt $ pick ! (λ r.
+        use1 W (later (some (λ (r : AfterServe). ((‵ (flft κ′ q′) ⊛ ‵ ftrue) ⊛ ‵ (R.the-row .own r (v ∷ []))) ⊛ raw (ensured 𝓤 H A serve.ended (serve.clauses 𝓤 H A at-mem run) (κ′, tt) (h, (n, (x, tt))) tt r)))) (id⊢ 𝓤 _) $ await ! tt $ pick ! (λ r.
         -- what `serve` ensures, at some last list
         split ! $ move ! (1 ∷ []) $ use1 W (some (λ (zs : Unit {0} × (Unit {0} × (List ℕ × Unit {0}))). ‵ (lasts serve.ended (κ′, tt) (h, (n, (x, tt))) zs) ⊛ raw (fact 𝓤 (Gives (zs .1 .1 .0) r)))) (id⊢ 𝓤 _) $ pick ! (λ zs.
         split ! $ move ! (1 ∷ []) $ heard ! (Gives (zs .1 .1 .0) r) (λ e. fsplit ! $ drop ! $ fsplit ! $ drop ! $ fsplit ! $ fsplit ! $ move ! (1 ∷ []) $ feqL ! (λ l.

@@ -1,11 +1,11 @@
 use mathlib.Core.Path.{_≡_, sym, ap, _∙_}
 use Prim.Native.Nat.{_≤_}
 use native.Mathlib.Omega.{arith}
-use Rattle.shape.specs.Answers.{answerAt}
-use Rattle.shape.specs.AnswersLaws.{answer-refused}
+use Rattle.shape.specs.Answers.{mendingAt}
+use Rattle.shape.specs.AnswersLaws.{mending-refused}
 use Rattle.code.specs.Marks.{excess}
 use Rattle.recover.specs.Attempt.{Accepted}
-use Rattle.recover.specs.AttemptLaws.{accepted, service-refused, service-eight}
+use Rattle.recover.specs.AttemptLaws.{accepted, recover-most, service-refused, service-eight}
 use borrow.Author.Needs.{needs}
 use Rattle.recover.proofs.recover.Statement.{statement}
 use Rattle.recover.proofs.recover.Tie as tie
@@ -24,7 +24,9 @@ returns c =
     let r = c .before in
     let a = r .before .before .before .before .before in
     let e = service-refused (a .args .m) (a .args .w) (a .args .c) (a .args .word .now) (a .args .marks .now) (r .refusal .result) (r .refusal .ensures) (c .if1 .taken) in
-    (sym (answer-refused (r .refusal .result) (c .if1 .taken)) ∙ ap (λ o. answerAt (o .number)) (sym e), (ap (λ o. o .word) (sym e), ap (λ o. o .marks) (sym e)))
+    let few = recover-most (a .args .m) (a .args .w) (a .args .c) (a .args .word .now) (a .args .marks .now) in
+    let n : r .refusal .result ≡ 9 → ⊥ = (λ z. let k = r .refusal .ensures in omega arith) in
+    (sym (mending-refused (r .refusal .result) 0 (c .if1 .taken) n) ∙ ap (λ o. mendingAt (o .number) (o .group)) (sym e), (ap (λ o. o .word) (sym e), ap (λ o. o .marks) (sym e)))
 
 -- past the first test the shape is good, and word and marks have its length
 fair : (t : tie.Else1) → let a = t .before .before .before .before .before .before .args in Accepted (a .m) (a .w) (a .c) (a .word .now) (a .marks .now)
@@ -50,7 +52,7 @@ returns-2 c =
     let a = k .before .args in
     let h = x .excess-of .ensures .0 (fair t .good) (fair t .marks-size) in
     let e = service-eight (a .m) (a .w) (a .c) (a .word .now) (a .marks .now) (fair t) (λ p. k .slice-known .given p .fits) (rw (← h) (c .if2 .taken)) in
-    (ap (λ o. answerAt (o .number)) (sym e), (ap (λ o. o .word) (sym e), ap (λ o. o .marks) (sym e)))
+    (ap (λ o. mendingAt (o .number) (o .group)) (sym e), (ap (λ o. o .word) (sym e), ap (λ o. o .marks) (sym e)))
 
 -- past the second test the excess is at most two
 low : (t : tie.Else2) → let a = t .before .before .before .before .before .before .before .before .before .args in excess (a .m) (a .w) (a .c) (a .marks .now) ≤ 2

@@ -2,8 +2,11 @@ use mathlib.Core.Path.{_≡_, refl, sym, ap, _∙_}
 use native.Mathlib.Omega.{arith}
 use borrow.Author.Tests.{not-true, not-false}
 use lib.Seq.{length-take-le}
-use Rattle.shape.specs.Answers.{answerAt}
+use Rattle.shape.specs.declared.Mending.{Mending}
+use Rattle.shape.specs.Answers.{mendingAt}
 use Rattle.shape.specs.Laws.{places-most}
+use Rattle.code.specs.Edition.{bytes}
+use Rattle.code.specs.ContradictionLaws.{contradicting-most}
 use Rattle.recover.specs.Attempt.{Accepted}
 use Rattle.recover.specs.AttemptLaws.{accepted, service-nine, service-done}
 use borrow.Author.Needs.{needs}
@@ -30,6 +33,13 @@ attempt-requires c κs =
 clear-if-requires : tie.Need-clear-if-requires
 clear-if-requires c κs = search needs
 
+cast-t20 : tie.Need-cast-t20
+cast-t20 c =
+    let t = c .before .before .before .before .before .before .before .before .before in
+    let s = t .before .before .before .before .before .before in
+    let a = s .args in
+    omega (arith, t .attempt .ensures .group, contradicting-most bytes (a .m) (a .w) (a .c) (a .word .now) (a .marks .now), fair s .good .few)
+
 same-length : tie.Need-same-length
 same-length c = search needs
 
@@ -38,15 +48,17 @@ same-length-2 c = search needs
 
 returns : tie.Need-returns
 returns c =
-    let cl = c .before .before .before in
+    let d = c .before in
+    let cl = d .before .before .before in
     let t = cl .before .before .before .before .before in
     let k = t .before .before .before .before .before in
     let s = k .before in
     let a = s .args in
-    let n = not-true _ (c .if1 .taken) in
+    let n = not-true _ (d .if1 .taken) in
     let F = t .attempt .ensures .failed n in
+    let g = t .attempt .ensures .group in
     let e = service-nine (a .m) (a .w) (a .c) (a .word .now) (a .marks .now) (fair s) (λ p. k .slice-known .given p .fits) (s .pre .1) (F .1 (s .pre .1)) in (
-      ap (λ o. answerAt (o .number)) (sym e),
+      ap Mending.Contradictory g ∙ ap (λ o. mendingAt (o .number) (o .group)) (sym e),
       (F .0 ∙ ap (λ o. o .word) (sym e), (cl .clear-if .ensures .1 n ∙ ap (λ o. o .marks) (sym e), λ z. omega arith)),
     )
 
@@ -66,7 +78,7 @@ returns-2 c =
     let y = not-false _ (c .if1 .left) in
     let D = t .attempt .ensures .done y in
     let e = service-done (a .m) (a .w) (a .c) (a .word .now) (a .marks .now) (fair s) (λ p. k .slice-known .given p .fits) _ (s .pre .1) D in (
-      ap (λ o. answerAt (o .number)) (sym e),
+      ap (λ o. mendingAt (o .number) (o .group)) (sym e),
       (ap (λ o. o .word) (sym e), (cl .clear-if .ensures .0 y ∙ ap (λ o. o .marks) (sym e), λ z. omega arith)),
     )
 
@@ -78,6 +90,7 @@ recover-determined-spec =
     slice-aggregate-attempt
     attempt-requires
     clear-if-requires
+    cast-t20
     same-length
     same-length-2
     returns

@@ -2,13 +2,13 @@ use mathlib.Core.Path.{_≡_, refl, sym, ap, _∙_}
 use Prim.Native.Nat.{_<_, _≤_, _+_, _*_}
 use native.Mathlib.Omega.{arith}
 use lib.ListN.{length}
-use Rattle.shape.specs.Answers.{answerAt}
-use Rattle.shape.specs.AnswersLaws.{answer-refused}
+use Rattle.shape.specs.Answers.{mendingAt}
+use Rattle.shape.specs.AnswersLaws.{mending-refused}
 use Rattle.shape.specs.Laws.{places-most}
 use Rattle.groups.specs.Lent.{Lent}
 use Rattle.groups.specs.LentLaws.{end-fits, part-length, part-narrow}
 use Rattle.recover.specs.Attempt.{Accepted}
-use Rattle.recover.specs.AttemptLaws.{accepted}
+use Rattle.recover.specs.AttemptLaws.{accepted, recover-most}
 use Rattle.repair.specs.ServiceLaws.{service-refused, refused-early, refused-seven, service-lent}
 use borrow.Author.Needs.{needs}
 use Rattle.repair.proofs.repair.Statement.{statement}
@@ -34,7 +34,9 @@ returns c =
     let n = r .refusal .result in
     let e = service-refused (a .m) (a .w) (a .c) (a .g) (a .word .now) (a .marks .now) n
     (refused-early (a .m) (a .w) (a .c) (a .g) (a .word .now) (a .marks .now) n (r .refusal .ensures) (c .if1 .taken)) (c .if1 .taken) in
-    (sym (answer-refused n (c .if1 .taken)) ∙ ap (λ o. answerAt (o .number)) (sym e), (ap (λ o. o .word) (sym e), ap (λ o. o .marks) (sym e)))
+    let few = recover-most (a .m) (a .w) (a .c) (a .word .now) (a .marks .now) in
+    let k : n ≡ 9 → ⊥ = (λ z. let h = r .refusal .ensures in omega arith) in
+    (sym (mending-refused n 0 (c .if1 .taken) k) ∙ ap (λ o. mendingAt (o .number) (o .group)) (sym e), (ap (λ o. o .word) (sym e), ap (λ o. o .marks) (sym e)))
 
 -- past the first test the shape is good, and word and marks have its length
 fair : (t : tie.Else1) → let a = t .before .before .before .before .before .before .args in Accepted (a .m) (a .w) (a .c) (a .word .now) (a .marks .now)
@@ -55,7 +57,7 @@ returns-2 c =
     let a = t .before .before .before .before .before .before .args in
     let e = service-refused (a .m) (a .w) (a .c) (a .g) (a .word .now) (a .marks .now) 7
     (refused-seven (a .m) (a .w) (a .c) (a .g) (a .word .now) (a .marks .now) (fair t .refusal) (c .if2 .taken)) (λ z. omega arith) in
-    (ap (λ o. answerAt (o .number)) (sym e), (ap (λ o. o .word) (sym e), ap (λ o. o .marks) (sym e)))
+    (ap (λ o. mendingAt (o .number) (o .group)) (sym e), (ap (λ o. o .word) (sym e), ap (λ o. o .marks) (sym e)))
 
 -- past the second test the group's part lies within the word, and within the marks
 fits : (t : tie.Else2) → let a = t .before .before .before .before .before .before .before .args in (a .g * a .w + a .w ≤ length (a .word .now)) × (a .g * a .w + a .w ≤ length (a .marks .now))
@@ -99,7 +101,7 @@ repair-part-requires c κs =
     let n = part-length {xs = a .word .now} L (a .g) l refl in
     let k = part-length {xs = a .marks .now} M (a .g) l refl in
     let g = A .good in
-    (rw n (omega arith), (part-narrow {xs = a .word .now} L (a .g) l refl, (g .few-checks, k ∙ sym n)))
+    (rw n (omega arith), (part-narrow {xs = a .word .now} L (a .g) l refl, (g .few-checks, (k ∙ sym n, omega arith))))
 
 same-length-5 : tie.Need-same-length-5
 same-length-5 c = search needs
@@ -109,28 +111,11 @@ same-length-6 c = search needs
 
 returns-3 : tie.Need-returns-3
 returns-3 c =
-    let t = c .before .before .before .before .before in
+    let t = c .before .before .before .before in
     let u = t .before .before .before .before in
     let a = u .before .before .before .before .before .before .args in
     let E = t .repair-part .ensures in
-    let S = service-lent (a .m) (a .w) (a .c) (a .g) (a .word .now) (a .marks .now) (fair u) (omega arith) _ _ _ (E .0) (E .1 .0) (E .1 .1) in
-    (sym (answer-refused (t .repair-part .result) (c .if3 .taken)) ∙ S .0, S .1)
-
-same-length-7 : tie.Need-same-length-7
-same-length-7 c = search needs
-
-same-length-8 : tie.Need-same-length-8
-same-length-8 c = search needs
-
-returns-4 : tie.Need-returns-4
-returns-4 c =
-    let t = c .before .before .before .before .before in
-    let u = t .before .before .before .before in
-    let a = u .before .before .before .before .before .before .args in
-    let E = t .repair-part .ensures in
-    let S = service-lent (a .m) (a .w) (a .c) (a .g) (a .word .now) (a .marks .now) (fair u) (omega arith) _ _ _ (E .0) (E .1 .0) (E .1 .1) in
-    let z : t .repair-part .result ≡ 0 = omega arith in
-    (ap answerAt (sym z) ∙ S .0, S .1)
+    service-lent (a .m) (a .w) (a .c) (a .g) (a .word .now) (a .marks .now) (fair u) (omega arith) _ _ _ (E .0) (E .1 .0) (E .1 .1)
 
 pub repair-spec : {M : Type 1} → statement M
 repair-spec =
@@ -154,7 +139,4 @@ repair-spec =
     repair-part-requires
     same-length-5
     same-length-6
-    returns-3
-    same-length-7
-    same-length-8
-    returns-4)
+    returns-3)

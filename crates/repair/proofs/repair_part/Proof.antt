@@ -3,6 +3,7 @@ use Prim.Native.Nat.{ℕ, _≤_, _<_}
 use borrow.Author.Tests.{not-true, not-false}
 use lib.ListN.{length}
 use lib.Seq.{length-take-le}
+use Rattle.shape.specs.Answers.{mendingAt}
 use Rattle.code.specs.Edition.{bytes, bytes-sound}
 use Rattle.code.specs.Marks.{lostIn}
 use Rattle.code.specs.RepairLaws.{repaired-eight, repaired-nine, repaired-done}
@@ -28,9 +29,9 @@ returns c =
     let a = k .before in
     let w : ℕ = length (a .args .part .now) in
     let e = repaired-eight bytes bytes-sound w (a .args .c) (a .pre .0) (a .pre .1 .0) (a .args .part .now) (a .args .marks .now)
-    (record { size = refl; each = λ p. k .slice-known .given p .fits })
-    (subst (λ n. a .args .c < n) (x .lost-in .ensures ∙ ap (λ n. lostIn n (a .args .marks .now) 0) (a .pre .1 .1 .1)) (c .if1 .taken)) in
-    (ap (λ o. o .number) (sym e), (ap (λ o. o .word) (sym e), ap (λ o. o .marks) (sym e)))
+    (record { size = refl; each = λ p. k .slice-known .given p .fits }) (a .args .g)
+    (subst (λ n. a .args .c < n) (x .lost-in .ensures ∙ ap (λ n. lostIn n (a .args .marks .now) 0) (a .pre .1 .1 .1 .0)) (c .if1 .taken)) in
+    (ap (λ o. mendingAt (o .number) (o .group)) (sym e), (ap (λ o. o .word) (sym e), ap (λ o. o .marks) (sym e)))
 
 array-borrow-prefix-found : tie.Need-array-borrow-prefix-found
 array-borrow-prefix-found c = search needs
@@ -43,11 +44,14 @@ attempt-requires c κs =
     let x = c .before .before .before .before in
     let a = x .before .before .before .before in
     let few : lostIn (length (a .args .part .now)) (a .args .marks .now) 0 ≤ a .args .c =
-    subst (λ n. n ≤ a .args .c) (x .lost-in .ensures ∙ ap (λ n. lostIn n (a .args .marks .now) 0) (a .pre .1 .1 .1)) (c .before .before .before .if1 .left) in
-    (a .pre .0, (a .pre .1 .0, (a .pre .1 .1 .0, (a .pre .1 .1 .1, (sym (slice-aggregate-attempt c), few)))))
+    subst (λ n. n ≤ a .args .c) (x .lost-in .ensures ∙ ap (λ n. lostIn n (a .args .marks .now) 0) (a .pre .1 .1 .1 .0)) (c .before .before .before .if1 .left) in
+    (a .pre .0, (a .pre .1 .0, (a .pre .1 .1 .0, (a .pre .1 .1 .1 .0, (sym (slice-aggregate-attempt c), few)))))
 
 clear-if-requires : tie.Need-clear-if-requires
 clear-if-requires c κs = search needs
+
+cast-t21 : tie.Need-cast-t21
+cast-t21 c = search needs
 
 same-length-2 : tie.Need-same-length-2
 same-length-2 c = search needs
@@ -64,13 +68,13 @@ returns-2 c =
     let a = k .before in
     let w : ℕ = length (a .args .part .now) in
     let few : lostIn w (a .args .marks .now) 0 ≤ a .args .c =
-    subst (λ n. n ≤ a .args .c) (x .lost-in .ensures ∙ ap (λ n. lostIn n (a .args .marks .now) 0) (a .pre .1 .1 .1))
+    subst (λ n. n ≤ a .args .c) (x .lost-in .ensures ∙ ap (λ n. lostIn n (a .args .marks .now) 0) (a .pre .1 .1 .1 .0))
     (t .before .before .before .before .if1 .left) in
     let n = not-true _ (c .if2 .taken) in
     let F = t .attempt .ensures .failed n in
     let e = repaired-nine bytes bytes-sound w (a .args .c) (a .pre .0) (a .pre .1 .0) (a .args .part .now) (a .args .marks .now)
-    (record { size = refl; each = λ p. k .slice-known .given p .fits }) few (F .1) in
-    (ap (λ o. o .number) (sym e), (F .0 ∙ ap (λ o. o .word) (sym e), cl .clear-if .ensures .1 n ∙ ap (λ o. o .marks) (sym e)))
+    (record { size = refl; each = λ p. k .slice-known .given p .fits }) (a .args .g) few (F .1) in
+    (ap (λ o. mendingAt (o .number) (o .group)) (sym e), (F .0 ∙ ap (λ o. o .word) (sym e), cl .clear-if .ensures .1 n ∙ ap (λ o. o .marks) (sym e)))
 
 same-length-4 : tie.Need-same-length-4
 same-length-4 c = search needs
@@ -87,12 +91,12 @@ returns-3 c =
     let a = k .before in
     let w : ℕ = length (a .args .part .now) in
     let few : lostIn w (a .args .marks .now) 0 ≤ a .args .c =
-    subst (λ n. n ≤ a .args .c) (x .lost-in .ensures ∙ ap (λ n. lostIn n (a .args .marks .now) 0) (a .pre .1 .1 .1))
+    subst (λ n. n ≤ a .args .c) (x .lost-in .ensures ∙ ap (λ n. lostIn n (a .args .marks .now) 0) (a .pre .1 .1 .1 .0))
     (t .before .before .before .before .if1 .left) in
     let y = not-false _ (c .if2 .left) in
     let e = repaired-done bytes bytes-sound w (a .args .c) (a .pre .0) (a .pre .1 .0) (a .args .part .now) (a .args .marks .now)
-    (record { size = refl; each = λ p. k .slice-known .given p .fits }) _ few (t .attempt .ensures .done y) in
-    (ap (λ o. o .number) (sym e), (ap (λ o. o .word) (sym e), cl .clear-if .ensures .0 y ∙ ap (λ o. o .marks) (sym e)))
+    (record { size = refl; each = λ p. k .slice-known .given p .fits }) (a .args .g) _ few (t .attempt .ensures .done y) in
+    (ap (λ o. mendingAt (o .number) (o .group)) (sym e), (ap (λ o. o .word) (sym e), cl .clear-if .ensures .0 y ∙ ap (λ o. o .marks) (sym e)))
 
 pub repair-part-spec : {M : Type 1} → statement M
 repair-part-spec =
@@ -105,6 +109,7 @@ repair-part-spec =
     slice-aggregate-attempt
     attempt-requires
     clear-if-requires
+    cast-t21
     same-length-2
     same-length-3
     returns-2

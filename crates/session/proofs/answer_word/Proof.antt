@@ -1,6 +1,6 @@
 use mathlib.Core.Path.{sym, _∙_}
 use native.Mathlib.Omega.{arith}
-use Rattle.session.specs.Laws.{word-refused, word-done, word-most}
+use Rattle.session.specs.Laws.{word-refused, word-contradictory, word-done, word-most}
 use borrow.Author.Needs.{needs}
 use Rattle.session.proofs.answer_word.Statement.{statement}
 use Rattle.session.proofs.answer_word.Tie as tie
@@ -13,6 +13,12 @@ enum-known-r c = search needs
 
 refuse-requires : tie.Need-refuse-requires
 refuse-requires c κs = search needs
+
+enum-known-group : tie.Need-enum-known-group
+enum-known-group c = search needs
+
+contradict-requires : tie.Need-contradict-requires
+contradict-requires c κs = search needs
 
 enum-told : tie.Need-enum-told
 enum-told c = search needs
@@ -44,6 +50,17 @@ same-length-4 c = search needs
 returns-2 : tie.Need-returns-2
 returns-2 c =
     let s = c .before .before .before .before .before .before .before .before in
+    word-contradictory _ _ _ _ _ _ _ (sym (s .recover .ensures .0) ∙ c .before .before .group .given .1) (c .contradict .ensures)
+
+same-length-5 : tie.Need-same-length-5
+same-length-5 c = search needs
+
+same-length-6 : tie.Need-same-length-6
+same-length-6 c = search needs
+
+returns-3 : tie.Need-returns-3
+returns-3 c =
+    let s = c .before .before .before .before .before .before .before .before in
     word-done _ _ _ _ _ _ _ (sym (s .recover .ensures .0) ∙ c .before .before .enum-told .given .1) (s .recover .ensures .1 .0) (c .reply-word .ensures)
 
 pub answer-word-spec : {M : Type 1} → statement M
@@ -53,6 +70,8 @@ answer-word-spec =
     recover-requires
     enum-known-r
     refuse-requires
+    enum-known-group
+    contradict-requires
     enum-told
     reply-word-requires
     same-length
@@ -60,4 +79,7 @@ answer-word-spec =
     returns
     same-length-3
     same-length-4
-    returns-2)
+    returns-2
+    same-length-5
+    same-length-6
+    returns-3)

@@ -1,11 +1,12 @@
 use mathlib.Core.Path.{refl}
+use native.Mathlib.Omega.{arith}
 use Rattle.stream.specs.States.{pointOf}
 use Rattle.stream.proofs.start.Statement.{statement}
 use Rattle.stream.proofs.start.Tie as tie
 
 returns : tie.Need-returns
 unfolding pointOf
-returns c = refl
+returns c = (refl, omega arith)
 
 pub start-spec : {M : Type 1} → statement M
 start-spec = tie.close (tie.spec returns)

@@ -32,7 +32,7 @@ returns c =
     let f : Place = record { length = l .result; used = 0; m = s .state .m; w = s .state .w; c = s .state .c } in
     let t = took (s .state) f (l .ensures .2) refl refl refl (omega arith)
     (s .input .now) (s .count) (n .result) (omega arith) (n .ensures .2) _ _ _ _ (c .before .take-all .ensures) in
-    (t .0, (t .1, t .2))
+    (t .0, (t .1, (t .2, t .3)))
 
 pub take-spec : {M : Type 1} → statement M
 take-spec =

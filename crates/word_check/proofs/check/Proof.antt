@@ -1,11 +1,17 @@
 use mathlib.Core.Path.{_≡_, sym, ap, ap₂, _∙_}
 use mathlib.Core.List.{List}
-use Prim.Native.Nat.{ℕ}
+use Prim.Native.Nat.{ℕ, _*_, _<_}
+use native.Mathlib.Omega.{arith}
 use borrow.Author.Needs.{needs}
-use lib.ListN.{length}
+use lib.ListN.{length, getD}
 use Rattle.shape.specs.Laws.{good-of-word}
 use Rattle.shape.specs.Shapes.{wordRefusal}
-use Rattle.word_check.specs.Answer.{checkedAt, checkedOf, checkedNumber, checkedFigures, figuresOf}
+use Rattle.code.specs.Edition.{bytes}
+use Rattle.code.specs.ContradictionLaws.{whole-groups}
+use Rattle.syndrome.specs.declared.Tested.{Tested}
+use Rattle.syndrome.specs.Tests.{brokenGroup}
+use Rattle.syndrome.specs.TestsLaws.{broken-most}
+use Rattle.word_check.specs.Answer.{checkedAt, wholeGroup, checkedOf, checkedNumber, checkedFigures, figuresOf}
 use Rattle.word_check.specs.Laws.{checked-number, checked-figures, checked-refused}
 use Rattle.word_check.specs.declared.Checked.{Checked}
 use Rattle.word_check.proofs.check.Statement.{statement}
@@ -16,6 +22,11 @@ whole : (m w c : ℕ) (word : List ℕ) (r : Checked) → r ≡ checkedOf m w c 
     → (r ≡ checkedOf m w c word) × ((checkedNumber r ≡ wordRefusal m w c (length word)) × (checkedFigures r ≡ figuresOf m w c word))
 whole m w c word r e = (e, (ap checkedNumber e ∙ checked-number m w c word, ap checkedFigures e ∙ checked-figures m w c word))
 
+-- the lowest broken group is the one that contradicts
+named : (m w c : ℕ) (word : List ℕ) → length word ≡ m * w → ((p : ℕ) → getD word p 0 < 256) → brokenGroup m w c word ≡ wholeGroup m w c word
+unfolding brokenGroup
+named m w c word size small = whole-groups bytes m w c word size small
+
 word-refusal-requires : tie.Need-word-refusal-requires
 word-refusal-requires c κs = search needs
 
@@ -24,33 +35,48 @@ unfolding checkedOf
 returns c =
     let a = c .before .before .before .args in
     let e = c .before .word-refusal .ensures in
-    whole (a .m) (a .w) (a .c) (a .word .now) _ (ap Checked.Refused e ∙ sym (checked-refused _ _ (λ z. c .if1 .taken (e ∙ z))))
+    whole (a .m) (a .w) (a .c) (a .word .now) _ (ap Checked.Refused e ∙ sym (checked-refused _ _ _ (λ z. c .if1 .taken (e ∙ z))))
 
-is-codeword-requires : tie.Need-is-codeword-requires
-is-codeword-requires c κs = search needs
+test-requires : tie.Need-test-requires
+test-requires c κs = search needs
 
-answered : (c : tie.After-is-codeword)
-    → checkedAt 0 (c .is-codeword .result)
-    ≡ checkedOf (c .before .before .before .before .args .m) (c .before .before .before .before .args .w) (c .before .before .before .before .args .c)
-    (c .before .before .before .before .args .word .now)
+answered : (c : tie.After-test) → let a = c .before .before .before .before .args in
+    checkedAt 0 (c .test .result .codeword) (c .test .result .group) ≡ checkedOf (a .m) (a .w) (a .c) (a .word .now)
 unfolding checkedOf
 answered c =
     let t = c .before in
-    let a = t .before .before .before .args in
+    let k = t .before .before in
+    let a = k .before .args in
     let e : wordRefusal (a .m) (a .w) (a .c) (length (a .word .now)) ≡ 0 = sym (t .before .word-refusal .ensures) ∙ t .if1 .left in
     let g = good-of-word (a .m) (a .w) (a .c) (length (a .word .now)) e in
-    ap₂ checkedAt (sym e) (c .is-codeword .ensures .0 (g .0) (g .1))
+    let v = c .test .ensures .0 (g .0) (g .1) in
+    ap (λ r. checkedAt r (c .test .result .codeword) (c .test .result .group)) (sym e)
+    ∙ ap₂ (checkedAt (wordRefusal (a .m) (a .w) (a .c) (length (a .word .now)))) (ap (λ (x : Tested). x .codeword) v)
+    (ap (λ (x : Tested). x .group) v ∙ named (a .m) (a .w) (a .c) (a .word .now) (g .1) (λ p. k .shared-slice-known .given p .fits))
 
 returns-2 : tie.Need-returns-2
 returns-2 c =
     let a = c .before .before .before .before .before .args in
-    whole (a .m) (a .w) (a .c) (a .word .now) _ (ap (checkedAt 0) (sym (c .if2 .taken)) ∙ answered (c .before))
+    whole (a .m) (a .w) (a .c) (a .word .now) _ (ap (λ b. checkedAt 0 b (c .before .test .result .group)) (sym (c .if2 .taken)) ∙ answered (c .before))
+
+cast-t10 : tie.Need-cast-t10
+cast-t10 c =
+    let s = c .before .before in
+    let t = s .before in
+    let k = t .before .before in
+    let a = k .before .args in
+    let e : wordRefusal (a .m) (a .w) (a .c) (length (a .word .now)) ≡ 0 = sym (t .before .word-refusal .ensures) ∙ t .if1 .left in
+    let g = good-of-word (a .m) (a .w) (a .c) (length (a .word .now)) e in
+    let v = ap (λ (x : Tested). x .group) (s .test .ensures .0 (g .0) (g .1)) in
+    omega (arith, v, broken-most (a .m) (a .w) (a .c) (a .word .now), g .0 .few)
 
 returns-3 : tie.Need-returns-3
 returns-3 c =
-    let a = c .before .before .before .before .before .args in
-    whole (a .m) (a .w) (a .c) (a .word .now) _ (ap (checkedAt 0) (sym (c .if2 .left)) ∙ answered (c .before))
+    let t = c .before in
+    let s = t .before in
+    let a = s .before .before .before .before .args in
+    whole (a .m) (a .w) (a .c) (a .word .now) _ (ap (λ b. checkedAt 0 b (s .test .result .group)) (sym (t .if2 .left)) ∙ answered s)
 
 pub check-spec : {M : Type 1} → statement M
 check-spec =
-    tie.close (tie.spec word-refusal-requires returns is-codeword-requires returns-2 returns-3)
+    tie.close (tie.spec word-refusal-requires returns test-requires cast-t10 returns-2 returns-3)

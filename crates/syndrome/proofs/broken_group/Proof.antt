@@ -6,17 +6,14 @@ use borrow.Author.Count.{below-none, below-more}
 use borrow.Author.Needs.{needs}
 use borrow.Author.Tests.{not-true, not-false}
 use lib.Dec.{T}
-use lib.Ieee.Bits.{is-true}
-use lib.ListN.{length}
-use Rattle.counting.specs.TestLaws.{all-at, all-intro}
-use Rattle.shape.specs.Laws.{word-of-good}
 use Rattle.code.specs.Edition.{bytes}
 use Rattle.code.specs.Word.{isLocal}
 use Rattle.groups.specs.Lent.{Lent}
-use Rattle.groups.specs.LentLaws.{lent, end-fits, part-narrow}
-use Rattle.syndrome.specs.PartsLaws.{is-false, part-local}
-use Rattle.syndrome.proofs.locals_zero.Statement.{statement}
-use Rattle.syndrome.proofs.locals_zero.Tie as tie
+use Rattle.groups.specs.LentLaws.{end-fits, part-narrow}
+use Rattle.syndrome.specs.PartsLaws.{part-local}
+use Rattle.syndrome.specs.TestsLaws.{broken-is, broken-none}
+use Rattle.syndrome.proofs.broken_group.Statement.{statement}
+use Rattle.syndrome.proofs.broken_group.Tie as tie
 
 abbrev Inv-loop : tie.InvT-loop
 Inv-loop m w c word g₀ g = Lent m w c word × (g ≤ m) × ((k : ℕ) → k < g → T (isLocal bytes w c word k))
@@ -24,18 +21,8 @@ Inv-loop m w c word g₀ g = Lent m w c word × (g ≤ m) × ((k : ℕ) → k < 
 abbrev μ-loop : tie.MeasureT-loop
 μ-loop m w c word g₀ g = m - g
 
-word-refusal-requires : tie.Need-word-refusal-requires Inv-loop μ-loop
-word-refusal-requires c κs = search needs
-
-returns : tie.Need-returns Inv-loop μ-loop
-returns c =
-    let a = c .before .before .before .args in
-    (λ good size. absurd (c .if1 .taken (c .before .word-refusal .ensures ∙ word-of-good (a .m) (a .w) (a .c) (length (a .word .now)) good size)), λ _. refl)
-
 loop-holds : tie.Need-loop-holds Inv-loop μ-loop
-loop-holds c =
-    let a = c .before .before .before .args in
-    (lent (a .m) (a .w) (a .c) (a .word .now) (sym (c .before .word-refusal .ensures) ∙ c .if1 .left), omega arith, below-none _)
+loop-holds c = let s = c .before in (record { good = s .pre .0; size = s .pre .1 }, omega arith, below-none _)
 
 mul-a : tie.Need-mul-a Inv-loop μ-loop
 mul-a c = omega (arith, end-fits (c .before .loop .inv .0) (c .before .loop .g) (c .loop-test .taken))
@@ -57,8 +44,8 @@ local-zero-requires c κs = search needs
 
 -- what was tested is the group's own equations
 tested : (c : tie.After-local-zero Inv-loop μ-loop)
-    → c .local-zero .result ≡ isLocal bytes (c .before .before .before .before .before .before .before .args .w) (c .before .before .before .before .before .before .before .args .c)
-    (c .before .before .before .before .before .before .before .args .word .now) (c .before .before .before .loop .g)
+    → c .local-zero .result ≡ isLocal bytes (c .before .before .before .before .before .args .w) (c .before .before .before .before .before .args .c)
+    (c .before .before .before .before .before .args .word .now) (c .before .before .before .loop .g)
 tested c =
     let t = c .before .before in
     let s = t .before in
@@ -66,12 +53,11 @@ tested c =
     let n = part-narrow L (s .loop .g) (t .loop-test .taken) refl in
     c .local-zero .ensures .0 n (L .good .few-checks) ∙ part-local L (s .loop .g) (t .loop-test .taken) refl
 
-returns-2 : tie.Need-returns-2 Inv-loop μ-loop
-returns-2 c =
+returns : tie.Need-returns Inv-loop μ-loop
+returns c =
     let s = c .before .before .before .before in
-    let a = s .before .before .before .before .args in
-    let e : isLocal bytes (a .w) (a .c) (a .word .now) (s .loop .g) ≡ false = sym (tested (c .before)) ∙ not-true _ (c .if2 .taken) in
-    (λ _ _. sym (is-false _ (λ t. subst T e (all-at (a .m) (isLocal bytes (a .w) (a .c) (a .word .now)) t (s .loop .g) (omega arith)))), λ _. refl)
+    let a = s .before .before .args in
+    broken-is (a .m) (a .w) (a .c) (a .word .now) (s .loop .g) (omega arith) (s .loop .inv .2) (sym (tested (c .before)) ∙ not-true _ (c .if1 .taken))
 
 add-g : tie.Need-add-g Inv-loop μ-loop
 add-g c = omega arith
@@ -82,27 +68,22 @@ loop-less c = omega arith
 loop-again : tie.Need-loop-again Inv-loop μ-loop
 loop-again c =
     let s = c .before .before .before .before in
-    let a = s .before .before .before .before .args in
-    let e : true ≡ isLocal bytes (a .w) (a .c) (a .word .now) (s .loop .g) = sym (not-false _ (c .if2 .left)) ∙ tested (c .before) in
+    let a = s .before .before .args in
+    let e : true ≡ isLocal bytes (a .w) (a .c) (a .word .now) (s .loop .g) = sym (not-false _ (c .if1 .left)) ∙ tested (c .before) in
     (s .loop .inv .0, omega arith, below-more (λ k. T (isLocal bytes (a .w) (a .c) (a .word .now) k)) (s .loop .g) (s .loop .inv .2) (subst T e tt))
 
-returns-3 : tie.Need-returns-3 Inv-loop μ-loop
-returns-3 c =
+returns-2 : tie.Need-returns-2 Inv-loop μ-loop
+returns-2 c =
     let s = c .before in
-    let a = s .before .before .before .before .args in
-    let L = s .loop .inv .0 in (
-      λ _ _. sym (is-true _ (all-intro (a .m) (isLocal bytes (a .w) (a .c) (a .word .now)) (λ k l. s .loop .inv .2 k (omega arith)))),
-      λ n. absurd (n (L .good) (L .size)),
-    )
+    let a = s .before .before .args in
+    broken-none (a .m) (a .w) (a .c) (a .word .now) (s .loop .g) (s .loop .inv .1) (omega arith) (s .loop .inv .2)
 
-pub locals-zero-spec : {M : Type 1} → statement M
-locals-zero-spec =
+pub broken-group-spec : {M : Type 1} → statement M
+broken-group-spec =
     tie.close
     (tie.spec
     Inv-loop
     μ-loop
-    word-refusal-requires
-    returns
     loop-holds
     mul-a
     add-e
@@ -110,8 +91,8 @@ locals-zero-spec =
     part-local-zero-start
     part-local-zero-end
     local-zero-requires
-    returns-2
+    returns
     add-g
     loop-less
     loop-again
-    returns-3)
+    returns-2)

@@ -1,0 +1,63 @@
+-- Laws: Recover of n bytes with no place lost: a codeword is given back, and every other word is refused 9.
+use mathlib.Core.Path.{_≡_, refl, sym, ap, _∙_, subst}
+use mathlib.Core.Bool.{false}
+use mathlib.Core.List.{List}
+use Prim.Native.Nat.{ℕ, _+_, _*_, _<_}
+use native.Mathlib.Omega.{arith}
+use lib.Dec.{T, eqb}
+use lib.ListN.{length, length-replicate}
+use lib.Seq.{ext-getD}
+use Rattle.counting.specs.Count.{one, countBelow}
+use Rattle.counting.specs.CountLaws.{total-zero}
+use Rattle.code.specs.Edition.{bytes}
+use Rattle.code.specs.Word.{isCodeword, Symbols, Codeword}
+use Rattle.code.specs.Marks.{lost, lostIn, excess}
+use Rattle.code.specs.BlankLaws.{blank-at}
+use Rattle.code.specs.Answer.{written, contradictory}
+use Rattle.code.specs.Contradiction.{contradictingGroup}
+use Rattle.code.specs.Recovery.{Agrees}
+use Rattle.shape.specs.Shapes.{Good}
+use Rattle.marks.specs.Refusal.{Marked}
+use Rattle.recover.specs.Service.{recoverOf}
+use Rattle.recover.specs.Attempt.{Accepted}
+use Rattle.recover.specs.AttemptLaws.{accepted, service-done, service-nine}
+use Rattle.recover.specs.DemandTwoLaws.{good-start}
+use Rattle.stream.specs.NoneLost.{noneLost}
+
+module _ {m w c : ℕ} (g : Good m w c) (word : List ℕ) (s : Symbols bytes (m * w) word) where
+  none-excess : excess m w c (noneLost word) ≡ 0
+  unfolding excess lostIn
+  none-excess =
+      total-zero m _ (λ i _.
+      let z : countBelow w (λ j. lost (noneLost word) (i * w + j)) ≡ 0 =
+      total-zero w _ (λ j _. ap (λ v. one (eqb v 1)) (blank-at (length word) (i * w + j))) in
+      omega arith)
+
+  pub none-marked : Marked m w c (noneLost word)
+  none-marked = record {
+    good = g;
+    size = length-replicate (length word) 0 ∙ s .size;
+    each = λ p. let z = blank-at (length word) p in omega arith;
+  }
+
+  none-accepted : Accepted m w c word (noneLost word)
+  none-accepted = accepted m w c word (noneLost word) 0 (sym (good-start m w c word (noneLost word) none-marked (s .size))) refl
+
+  pub codeword-stays : Codeword bytes m w c word → recoverOf m w c word (noneLost word) ≡ written word (noneLost word)
+  codeword-stays C =
+      let e = none-excess in
+      service-done m w c word (noneLost word) none-accepted (s .each) word (omega arith) (record { codeword = C; agree = λ p l e. refl })
+
+  -- a word that agrees at every place is the word
+  agreeing-same : (y : List ℕ) → Agrees bytes m w c (noneLost word) word y → y ≡ word
+  agreeing-same y Y =
+      let size = Y .codeword .symbols .size in
+      ext-getD 0 y word (size ∙ sym (s .size))
+      (λ p l. Y .agree p (subst (λ n. p < n) size l) (ap (λ v. eqb v 1) (blank-at (length word) p)))
+
+  pub other-nine : isCodeword bytes m w c word ≡ false
+      → recoverOf m w c word (noneLost word) ≡ contradictory (contradictingGroup bytes m w c word (noneLost word)) word (noneLost word)
+  other-nine e =
+      let x = none-excess in
+      service-nine m w c word (noneLost word) none-accepted (s .each) (omega arith)
+      (λ y Y. subst T (ap (isCodeword bytes m w c) (agreeing-same y Y) ∙ e) (Y .codeword .zero))
