@@ -14,7 +14,8 @@ use Rattle.binary_field.specs.XorLaws.{⊕-zero-r}
 use Rattle.binary_field.specs.Product.{product}
 use Rattle.binary_field.specs.ProductLaws.{product-zero}
 use Rattle.binary_field.specs.SumLaws.{sum-ext}
-use Rattle.code.specs.Edition.{Edition, bytes, times}
+use Rattle.code.specs.Edition.{Edition, times}
+use Rattle.byte_edition.specs.Edition.{bytes}
 use Rattle.code.specs.Word.{groupSum, localSum, coefficient, twisted}
 use Rattle.code.specs.Marks.{lost, lostIn}
 use Rattle.code.specs.Stretch.{stretch, withStretch}

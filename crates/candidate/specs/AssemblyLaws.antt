@@ -8,7 +8,7 @@ use native.Mathlib.Decide.{ℕ-discrete}
 use lib.Dec.{eqb}
 use lib.ListN.{length, getD}
 use Rattle.counting.specs.Count.{countBelow}
-use Rattle.code.specs.Edition.{bytes}
+use Rattle.byte_edition.specs.Edition.{bytes}
 use Rattle.code.specs.Word.{localSum, Symbols}
 use Rattle.code.specs.Marks.{lost, lostIn}
 use Rattle.code.specs.Stretch.{stretch}

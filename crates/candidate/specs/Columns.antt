@@ -4,7 +4,8 @@ use mathlib.Core.Path.{_≡_}
 use mathlib.Core.List.{List}
 use Prim.Native.Nat.{ℕ, _/_, _%_, _<_}
 use Rattle.binary_field.specs.Sum.{sumBelow}
-use Rattle.code.specs.Edition.{bytes, times}
+use Rattle.code.specs.Edition.{times}
+use Rattle.byte_edition.specs.Edition.{bytes}
 use Rattle.code.specs.Word.{firstAcross, secondAcross}
 use Rattle.code.specs.Marks.{excess}
 use Rattle.code.specs.Stretch.{stretch}

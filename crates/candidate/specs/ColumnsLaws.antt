@@ -12,8 +12,8 @@ use lib.ListN.{length, getD}
 use Rattle.counting.specs.Count.{one, countBelow}
 use Rattle.counting.specs.CountLaws.{total-zero, total-bump}
 use Rattle.shape.specs.Shapes.{Good}
-use Rattle.code.specs.Edition.{bytes, bytes-sound}
-use Rattle.code.specs.EditionLaws.{bytes-few}
+use Rattle.byte_edition.specs.Edition.{bytes}
+use Rattle.byte_edition.specs.EditionLaws.{bytes-sound, bytes-few}
 use Rattle.code.specs.Marks.{lost, excess}
 use Rattle.code.specs.Blank.{blank}
 use Rattle.code.specs.BlankLaws.{blank-at, blank-symbols, blank-group}

@@ -15,8 +15,9 @@ use Rattle.binary_field.specs.Sum.{sumBelow}
 use Rattle.binary_field.specs.SumLaws.{sum-ext, sum-none, sum-suc}
 use Rattle.binary_field.specs.Inverse.{inverse}
 use Rattle.gf256.specs.BytesLaws.{times-inverse}
-use Rattle.code.specs.Edition.{Edition, bytes, bytes-sound, times}
-use Rattle.code.specs.EditionLaws.{bytes-few}
+use Rattle.code.specs.Edition.{Edition, times}
+use Rattle.byte_edition.specs.Edition.{bytes}
+use Rattle.byte_edition.specs.EditionLaws.{bytes-sound, bytes-few}
 use Rattle.code.specs.Word.{firstAcross, secondAcross}
 use Rattle.code.specs.WordLaws.{equations}
 use Rattle.code.specs.Marks.{excess}

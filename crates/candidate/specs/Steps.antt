@@ -6,7 +6,8 @@ use mathlib.Core.List.{List}
 use Prim.Native.Nat.{ℕ, _<_}
 use lib.ListN.{length, getD}
 use Rattle.binary_field.specs.Xor.{_⊕_}
-use Rattle.code.specs.Edition.{bytes, times}
+use Rattle.code.specs.Edition.{times}
+use Rattle.byte_edition.specs.Edition.{bytes}
 use Rattle.code.specs.Word.{localSum}
 use Rattle.code.specs.Marks.{lost, lostIn}
 

@@ -15,8 +15,9 @@ use Rattle.binary_field.specs.XorLaws.{⊕-zero-r, ⊕-self}
 use Rattle.binary_field.specs.ProductLaws.{product-lt, product-zero}
 use Rattle.binary_field.specs.SumLaws.{sum-lt, sum-zero}
 use Rattle.shape.specs.Shapes.{Good}
-use Rattle.code.specs.Edition.{bytes, bytes-sound, times}
-use Rattle.code.specs.EditionLaws.{bytes-few}
+use Rattle.code.specs.Edition.{times}
+use Rattle.byte_edition.specs.Edition.{bytes}
+use Rattle.byte_edition.specs.EditionLaws.{bytes-sound, bytes-few}
 use Rattle.code.specs.Word.{groupSum, wordSum, localSum, Symbols}
 use Rattle.code.specs.WordLaws.{local-zero, zero-local}
 use Rattle.code.specs.Marks.{lost, lostIn, excess}

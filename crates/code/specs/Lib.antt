@@ -1,5 +1,4 @@
 pub mod Edition
-pub mod EditionLaws
 pub mod Word
 pub mod WordLaws
 pub mod Marks

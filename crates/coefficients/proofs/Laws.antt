@@ -10,7 +10,7 @@ use Rattle.binary_field.specs.ProductLaws.{product-one}
 use Rattle.binary_field.specs.PowerLaws.{power-zero}
 use Rattle.binary_field.specs.Sum.{sumBelow, innerProduct}
 use Rattle.binary_field.specs.SumLaws.{sum-ext}
-use Rattle.code.specs.Edition.{bytes}
+use Rattle.byte_edition.specs.Edition.{bytes}
 use Rattle.coefficients.specs.Rows.{powerRows, noRow}
 use Rattle.coefficients.specs.RowsLaws.{power-at}
 

@@ -15,7 +15,8 @@ use Rattle.binary_field.specs.ProductLaws.{product-lt}
 use Rattle.binary_field.specs.Power.{power, squares}
 use Rattle.binary_field.specs.PowerLaws.{power-squares, power-lt}
 use Rattle.gf256.specs.Locators.{locators}
-use Rattle.code.specs.Edition.{bytes, raised}
+use Rattle.code.specs.Edition.{raised}
+use Rattle.byte_edition.specs.Edition.{bytes}
 use Rattle.code.specs.Word.{coefficient}
 use Rattle.coefficients.specs.Rows.{powerRows, firstRows, secondRows, at}
 

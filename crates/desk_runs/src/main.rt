@@ -1,5 +1,5 @@
 // A desk in use: handles that are open, closed or never issued, a full desk, the ends of its counts, and a record that is not sound.
-use desk::Desk;
+use desk_record::Desk;
 use libc::STDOUT_FILENO;
 
 fn number(n: u64, end: &[u8]) {
@@ -14,14 +14,14 @@ fn refused(r: u8) {
 
 // Opens a job for shape m 2, w 3, c 1 with the first three places lost.
 fn open(d: Desk) -> Desk {
-    let after = desk::open(d, 2, 3, 1, &[1, 1, 1, 0, 0, 0]);
+    let after = desk_open::open(d, 2, 3, 1, &[1, 1, 1, 0, 0, 0]);
     let answer = after.answer;
     match answer {
-        desk::Opened::Handle(h) => {
+        desk_open::Opened::Handle(h) => {
             io::write_all(STDOUT_FILENO, b"handle ");
             number(h, b"\n");
         }
-        desk::Opened::Refused(r) => refused(r),
+        desk_open::Opened::Refused(r) => refused(r),
     }
     after.desk
 }
@@ -49,26 +49,26 @@ fn mended(answer: shape::Mending) {
 }
 
 fn serve(d: Desk, handle: u64, word: &mut [u8]) -> Desk {
-    let after = desk::serve(d, handle, word);
+    let after = desk_serve::serve(d, handle, word);
     let answer = after.answer;
     mended(answer);
     after.desk
 }
 
 fn close(d: Desk, handle: u64) -> Desk {
-    let after = desk::close(d, handle);
+    let after = desk_close::close(d, handle);
     let answer = after.answer;
     done(answer);
     after.desk
 }
 
 fn read(d: Desk, handle: u64) {
-    match desk::read(d, handle) {
-        desk::Counted::Served(n) => {
+    match desk_close::read(d, handle) {
+        desk_close::Counted::Served(n) => {
             io::write_all(STDOUT_FILENO, b"served ");
             number(n as u64, b"\n");
         }
-        desk::Counted::Refused(r) => refused(r),
+        desk_close::Counted::Refused(r) => refused(r),
     }
 }
 
@@ -77,7 +77,7 @@ fn handles() {
     let mut word = [255, 255, 255, 78, 206, 128];
     let mut short = [255, 255, 255, 78, 206];
     let mut broken = [255, 255, 255, 78, 206, 129];
-    let a = open(desk::fresh());
+    let a = open(desk_record::fresh());
     read(a, 0);
     read(a, 7);
     read(a, 18446744073709551615);
@@ -93,7 +93,7 @@ fn handles() {
 
 // The ninth open is refused 11, then accepted after a close.
 fn full() {
-    let two = open(open(desk::fresh()));
+    let two = open(open(desk_record::fresh()));
     let four = open(open(two));
     let eight = open(open(open(open(four))));
     let nine = open(eight);
@@ -105,10 +105,10 @@ fn full() {
 // Open at t = 65,535 is refused 10; a served count at its end is refused 13; a record that is not sound 31.
 fn ends() {
     let mut word = [255, 255, 255, 78, 206, 128];
-    let mut last = desk::fresh();
+    let mut last = desk_record::fresh();
     last.t = 65535;
     let still = open(last);
-    let mut job = open(desk::fresh()).jobs[0];
+    let mut job = open(desk_record::fresh()).jobs[0];
     job.served = 4294967294;
     let mut row = still.jobs;
     row[0] = job;

@@ -3,11 +3,11 @@ use mathlib.Core.Path.{_≡_}
 use mathlib.Core.List.{List}
 use Prim.Native.Nat.{ℕ}
 use Rattle.places.specs.Places.{extractOf}
-use Rattle.code.specs.Edition.{bytes}
+use Rattle.code.specs.Edition.{Edition}
 use Rattle.code.specs.Word.{Codeword}
 
 -- a word is the one codeword that carries these data
-pub record Encoded (m w c : ℕ) (bytes′ word : List ℕ) : Type 0 where
-  pub codeword : Codeword bytes m w c word
-  pub carries : extractOf m w c word ≡ bytes′
-  pub only : (y : List ℕ) → Codeword bytes m w c y → extractOf m w c y ≡ bytes′ → y ≡ word
+pub record Encoded (E : Edition) (m w c : ℕ) (carried word : List ℕ) : Type 0 where
+  pub codeword : Codeword E m w c word
+  pub carries : extractOf m w c word ≡ carried
+  pub only : (y : List ℕ) → Codeword E m w c y → extractOf m w c y ≡ carried → y ≡ word

@@ -2,33 +2,34 @@
 use mathlib.Core.Path.{_≡_, refl, sym, ap, ap₂, _∙_, subst}
 use mathlib.Core.Bool.{Bool, true, false}
 use mathlib.Core.List.{List}
-use Prim.Native.Nat.{ℕ, zero, suc, _+_, _-_, _*_, _<_, _≤_}
+use Prim.Native.Nat.{ℕ, zero, suc, _+_, _-_, _*_, _<_, _≤_, _^_}
 use native.Mathlib.Nat.{suc-mul, mul-le-mul-right}
 use native.Mathlib.Omega.{arith}
 use native.Mathlib.Decide.{decLt}
 use lib.Dec.{eqb}
 use lib.ListN.{length, getD}
+use lib.Pow.{pow-pos}
 use Rattle.counting.specs.Count.{totalBelow, countBelow}
 use Rattle.counting.specs.CountLaws.{total-ext, total-suc, total-zero, count-ext}
 use Rattle.shape.specs.Refusals.{unlessRefused}
-use Rattle.shape.specs.Shapes.{Good, placeCount, dataCount, bufferRefusal}
+use Rattle.shape.specs.Shapes.{GoodIn, Good, placeCount, dataCount, bufferRefusal}
 use Rattle.shape.specs.Laws.{word-of-good, good-of-buffers}
 use Rattle.places.specs.Places.{isCheck, extractOf, placedOf, placedWord, checkMarks, mark}
 use Rattle.places.specs.Laws.{checks-inner, checks-last, marks-length, marks-at, marks-small, placed-length, placed-word, placed-below, extract-placed, extract-agree, agree-extract}
 use Rattle.marks.specs.RefusalLaws.{marks-of-good}
-use Rattle.code.specs.Edition.{bytes, bytes-sound}
-use Rattle.code.specs.EditionLaws.{bytes-few}
+use Rattle.byte_edition.specs.EditionLaws.{bytes-sound}
+use Rattle.code.specs.Edition.{Edition, Sound}
 use Rattle.code.specs.Word.{Symbols, Codeword}
 use Rattle.code.specs.Marks.{lost, lostIn, excess}
 use Rattle.code.specs.Answer.{Outcome, written}
 use Rattle.code.specs.Recovery.{Agrees, recovered}
 use Rattle.code.specs.RecoveryLaws.{recovered-done, only-one}
 use Rattle.code.specs.EncodingLaws.{carried, carried-agrees}
-use Rattle.recover.specs.Service.{unlessBefore, recoverRefusal, recoverOf}
-use Rattle.encode.specs.Service.{encodedWord, encodedBuffer}
+use Rattle.recover.specs.Service.{unlessBefore, recoverRefusalIn, recoverOf, recoverIn}
+use Rattle.encode.specs.Service.{encodedIn, encodedWord, encodedBuffer}
 use Rattle.encode.specs.DemandTwo.{Encoded}
 
-module _ {m w c : ℕ} (good : Good m w c) where
+module _ {E : Edition} (S : Sound E) {m w c : ℕ} (good : GoodIn (E .limits) m w c) where
   -- the lost places are the check places
   pub lost-check : (p : ℕ) → p < m * w → lost (checkMarks m w c) p ≡ isCheck m w c p
   lost-check p l = ap (λ b. eqb b 1) (marks-at m w c p l) ∙ go (isCheck m w c p)
@@ -65,42 +66,48 @@ module _ {m w c : ℕ} (good : Good m w c) where
   wide : 0 < w
   wide = let g = good in omega arith
 
-  module _ (carries : List ℕ) (size : length carries ≡ dataCount m w c) (small : (i : ℕ) → getD carries i 0 < 256) where
-    symbols : Symbols bytes (m * w) (placedOf m w c carries)
-    symbols = record { size = placed-length m w c carries; each = placed-below m w c 256 (omega arith) carries small }
+  few : m ≤ S .r
+  few = let h = good .few in let k = S .groups-few in omega arith
+
+  narrow : w ≤ E .small
+  narrow = let h = good .narrow in let k = S .width-narrow in omega arith
+
+  module _ (carries : List ℕ) (size : length carries ≡ dataCount m w c) (small : (i : ℕ) → getD carries i 0 < 2 ^ E .bits) where
+    symbols : Symbols E (m * w) (placedOf m w c carries)
+    symbols = record { size = placed-length m w c carries; each = placed-below m w c (2 ^ E .bits) (pow-pos (E .bits)) carries small }
 
     agreeing : List ℕ
-    agreeing = carried bytes bytes-sound m w c (bytes-few (good .few)) wide (good .narrow) (checkMarks m w c) (marks-length m w c) full two (placedOf m w c carries)
+    agreeing = carried E S m w c few wide narrow (checkMarks m w c) (marks-length m w c) full two (placedOf m w c carries)
 
-    agreeing-agrees : Agrees bytes m w c (checkMarks m w c) (placedOf m w c carries) agreeing
+    agreeing-agrees : Agrees E m w c (checkMarks m w c) (placedOf m w c carries) agreeing
     unfolding agreeing
     agreeing-agrees =
-        carried-agrees bytes bytes-sound m w c (bytes-few (good .few)) wide (good .narrow) (checkMarks m w c) (marks-length m w c) full two (placedOf m w c carries) symbols
+        carried-agrees E S m w c few wide narrow (checkMarks m w c) (marks-length m w c) full two (placedOf m w c carries) symbols
 
-    encoded-is : agreeing ≡ encodedWord m w c carries
-    unfolding encodedWord
+    encoded-is : agreeing ≡ encodedIn E m w c carries
+    unfolding encodedIn
     encoded-is =
-        sym (ap (λ (o : Outcome). o .word) (recovered-done bytes bytes-sound m w c (bytes-few (good .few)) wide (good .narrow) (placedOf m w c carries) (checkMarks m w c) symbols agreeing
+        sym (ap (λ (o : Outcome). o .word) (recovered-done E S m w c few wide narrow (placedOf m w c carries) (checkMarks m w c) symbols agreeing
         (let e = two in omega arith) agreeing-agrees))
 
-    agrees : Agrees bytes m w c (checkMarks m w c) (placedOf m w c carries) (encodedWord m w c carries)
-    agrees = subst (Agrees bytes m w c (checkMarks m w c) (placedOf m w c carries)) encoded-is agreeing-agrees
+    agrees : Agrees E m w c (checkMarks m w c) (placedOf m w c carries) (encodedIn E m w c carries)
+    agrees = subst (Agrees E m w c (checkMarks m w c) (placedOf m w c carries)) encoded-is agreeing-agrees
 
     -- "it is a codeword; extract gives the data back; it is the only codeword with that data"
-    pub encoded : Encoded m w c carries (encodedWord m w c carries)
+    pub encoded : Encoded E m w c carries (encodedIn E m w c carries)
     encoded = record {
       codeword = agrees .codeword;
       carries = extract-agree m w c _ _ (λ p l e. agrees .agree p l (lost-check p l ∙ e)) ∙ extract-placed good carries size;
       only = λ y C d.
-          only-one bytes bytes-sound m w c (bytes-few (good .few)) wide (good .narrow) (placedOf m w c carries) (checkMarks m w c) symbols (let e = two in omega arith)
-          y (encodedWord m w c carries)
+          only-one E S m w c few wide narrow (placedOf m w c carries) (checkMarks m w c) symbols (let e = two in omega arith)
+          y (encodedIn E m w c carries)
           (record { codeword = C; agree = λ p l e. agree-extract m w c y (placedOf m w c carries) (d ∙ sym (extract-placed good carries size)) p l (sym (lost-check p l) ∙ e) })
           agrees;
     }
 
     -- a recovery of the check places is never refused, and gives the encoded word
-    not-refused : recoverRefusal m w c (placedOf m w c carries) (checkMarks m w c) ≡ 0
-    unfolding recoverRefusal
+    not-refused : recoverRefusalIn (E .limits) m w c (placedOf m w c carries) (checkMarks m w c) ≡ 0
+    unfolding recoverRefusalIn
     not-refused =
         simp (
           word-of-good m w c (length (placedOf m w c carries)) good (placed-length m w c carries),
@@ -111,9 +118,9 @@ module _ {m w c : ℕ} (good : Good m w c) where
           }),
         )
 
-    pub recovered-checks : (recoverOf m w c (placedOf m w c carries) (checkMarks m w c)) .word ≡ encodedWord m w c carries
-    unfolding recoverOf encodedWord
-    recovered-checks = ap (λ r. (unlessBefore r (recovered bytes m w c (placedOf m w c carries) (checkMarks m w c)) (placedOf m w c carries) (checkMarks m w c)) .word) not-refused
+    pub recovered-checks : (recoverIn E m w c (placedOf m w c carries) (checkMarks m w c)) .word ≡ encodedIn E m w c carries
+    unfolding recoverIn encodedIn
+    recovered-checks = ap (λ r. (unlessBefore r (recovered E m w c (placedOf m w c carries) (checkMarks m w c)) (placedOf m w c carries) (checkMarks m w c)) .word) not-refused
 
 -- a call whose buffers are not refused: the word after the data are placed, and at the end
 module _ (m w c : ℕ) (carries word after : List ℕ) (accepted : bufferRefusal m w c (length word) (length carries) ≡ 0) (put : after ≡ placedWord m w c carries word) where
@@ -129,5 +136,5 @@ module _ (m w c : ℕ) (carries word after : List ℕ) (accepted : bufferRefusal
   pub buffer-end : ((i : ℕ) → getD carries i 0 < 256) → (end : List ℕ) → end ≡ (recoverOf m w c after (checkMarks m w c)) .word → end ≡ encodedBuffer m w c carries word
   unfolding encodedBuffer
   buffer-end small end e =
-      e ∙ ap (λ u. (recoverOf m w c u (checkMarks m w c)) .word) put-is ∙ recovered-checks (G .0) carries (G .2) small
+      e ∙ ap (λ u. (recoverOf m w c u (checkMarks m w c)) .word) put-is ∙ recovered-checks bytes-sound (G .0) carries (G .2) small
       ∙ sym (ap (λ r. unlessRefused r (encodedWord m w c carries) word) accepted)

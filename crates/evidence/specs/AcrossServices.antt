@@ -5,11 +5,12 @@ use mathlib.Core.List.{List}
 use Prim.Native.Nat.{ℕ}
 use Rattle.code.specs.Word.{Codeword}
 use Rattle.recover.specs.Service.{recoverOf}
+use Rattle.byte_edition.specs.Edition.{bytes}
 use Rattle.recover.specs.DemandTwo.{Named}
 use Rattle.word_check.specs.declared.Checked.{Checked}
 use Rattle.word_check.specs.Answer.{checkedOf}
 use Rattle.stream.specs.NoneLost.{noneLost}
-use Rattle.desk.specs.Calls.{Serving}
+use Rattle.desk_serve.specs.Serve.{Serving}
 
 -- Check answers as Recover does with no place lost: yes where that gives 0, and no with the group of its 9.
 pub record CheckedAsRecovered (m w c : ℕ) (word : List ℕ) : Type 0 where
@@ -17,7 +18,7 @@ pub record CheckedAsRecovered (m w c : ℕ) (word : List ℕ) : Type 0 where
   pub no : (g : ℕ) → (checkedOf m w c word ≡ Checked.Other g)
       ↔ (((recoverOf m w c word (noneLost word)) .number ≡ 9) × ((recoverOf m w c word (noneLost word)) .group ≡ g))
   -- "the lowest group whose present bytes no filling can satisfy locally, or m"
-  pub named : (g : ℕ) → checkedOf m w c word ≡ Checked.Other g → Named m w c word (noneLost word) g
+  pub named : (g : ℕ) → checkedOf m w c word ≡ Checked.Other g → Named bytes m w c word (noneLost word) g
 
 -- Two serves under one handle end alike: the same number, the same group, the same desk and, where the number is 0, the same word.
 pub record SameServing (a b : Serving) : Type 0 where

@@ -11,7 +11,8 @@ use Rattle.shape.specs.Refusals.{refuse, _orElse_}
 use Rattle.shape.specs.RefusalsLaws.{orElse-zero}
 use Rattle.shape.specs.Shapes.{Good, placeCount}
 use Rattle.shape.specs.Laws.{word-of-good}
-use Rattle.code.specs.Edition.{bytes}
+use Rattle.byte_edition.specs.Edition.{bytes}
+use Rattle.byte_edition.specs.EditionLaws.{bytes-sound}
 use Rattle.code.specs.Word.{isCodeword, Symbols, Codeword}
 use Rattle.code.specs.Marks.{Agree}
 use Rattle.code.specs.Answer.{SameEnd}
@@ -28,10 +29,12 @@ use Rattle.word_check.specs.Answer.{wholeGroup, checkedOf}
 use Rattle.word_check.specs.Laws.{yes-exactly}
 use Rattle.stream.specs.NoneLost.{noneLost}
 use Rattle.stream.specs.NoneLostLaws.{none-marked, codeword-stays, other-nine}
-use Rattle.desk.specs.declared.Job.{Job}
-use Rattle.desk.specs.declared.Desk.{Desk}
-use Rattle.desk.specs.Desks.{jobAt, slotOf, marksOf}
-use Rattle.desk.specs.Calls.{handleRefusal, recoveryOf, jobNumber, serveNumber, groupOfNine, serveBy, serveOf}
+use Rattle.desk_job.specs.declared.Job.{Job}
+use Rattle.desk_record.specs.declared.Desk.{Desk}
+use Rattle.desk_record.specs.Desks.{jobAt, slotOf}
+use Rattle.desk_job.specs.Jobs.{marksOf}
+use Rattle.desk_record.specs.Refusal.{handleRefusal}
+use Rattle.desk_serve.specs.Serve.{recoveryOf, jobNumber, serveNumber, groupOfNine, serveBy, serveOf}
 use Rattle.evidence.specs.AcrossServices.{CheckedAsRecovered, SameServing}
 
 -- "Recover: 8 exactly if judge says 8", for a good shape, n bytes and n marks of 0 or 1.
@@ -67,12 +70,12 @@ module _ (m w c : ℕ) (word : List ℕ) (good : Good m w c) (s : Symbols bytes 
       let n : (recoverOf m w c word (noneLost word)) .number ≡ 9 = ap (λ o. o .number) r in
       let h : (recoverOf m w c word (noneLost word)) .group ≡ wholeGroup m w c word = ap (λ o. o .group) r in
       let M = none-marked good word s in
-      let D = demand-two m w c word (noneLost word) good (s .size) (s .each) (M .size) (M .each) in
+      let D = demand-two bytes-sound m w c word (noneLost word) good (s .size) (s .each) (M .size) (M .each) in
       let same : (g : ℕ) → checkedOf m w c word ≡ Checked.Other g → wholeGroup m w c word ≡ g = λ g q. ap otherGroup (sym k ∙ q) in
       record {
         yes = ((λ q. absurd (let z : _≡_ {A = ℕ} 0 1 = cc in omega arith)), (λ q. absurd (omega arith)));
         no = λ g. ((λ q. (n, h ∙ same g q)), (λ q. k ∙ ap Checked.Other (sym h ∙ q .1)));
-        named = λ g q. subst (Named m w c word (noneLost word)) (h ∙ same g q) (D .group n);
+        named = λ g q. subst (Named bytes m w c word (noneLost word)) (h ∙ same g q) (D .group n);
       }
     where
       otherGroup : Checked → ℕ
@@ -100,7 +103,7 @@ module _ (handle : ℕ) (word₁ word₂ : List ℕ) (desk : Desk) (size : lengt
 
   recovery : SameEnd (recoveryOf job word₁) (recoveryOf job word₂)
   unfolding job
-  recovery = lost-bytes (job .m) (job .w) (job .c) word₁ word₂ (marksOf job) size same
+  recovery = lost-bytes bytes (job .m) (job .w) (job .c) word₁ word₂ (marksOf job) size same
 
   number-same : serveNumber handle word₁ desk ≡ serveNumber handle word₂ desk
   unfolding serveNumber jobNumber job

@@ -3,12 +3,12 @@ use mathlib.Core.Path.{refl}
 use Rattle.binary_field.specs.Xor.{_⊕_, masked}
 use Rattle.binary_field.specs.Product.{double, bitSum, product}
 use Rattle.binary_field.specs.Power.{power}
-use Rattle.shape.specs.Shapes.{sureCount, shapeRefusal, describedOf}
+use Rattle.shape.specs.Shapes.{sureCount, shapeRefusalIn, describedOf}
 use Rattle.evidence.specs.WordSumsLaws.{encoded-first, encoded-second, three-lost, three-done, three-excess, five-lost, five-excess, last-byte}
 use Rattle.evidence.specs.HandSums.{AllSame, handSums}
 
 pub hand-sums : AllSame handSums
-unfolding power product bitSum double masked _⊕_ sureCount shapeRefusal describedOf
+unfolding power product bitSum double masked _⊕_ sureCount shapeRefusalIn describedOf
 hand-sums = (
   refl,
   (

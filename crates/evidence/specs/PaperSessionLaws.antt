@@ -2,7 +2,7 @@
 use mathlib.Core.Path.{_≡_, refl, ap, _∙_}
 use mathlib.Core.List.{List, [], _∷_}
 use Prim.Native.Nat.{ℕ}
-use Rattle.shape.specs.Shapes.{shapeRefusal, wordRefusal, bufferRefusal}
+use Rattle.shape.specs.Shapes.{shapeRefusalIn, wordRefusalIn, bufferRefusalIn}
 use Rattle.text.specs.Decimal.{decimal, digitsAfter, numberOf}
 use Rattle.text.specs.Fields.{fields, same, meaning}
 use Rattle.text.specs.Records.{nameKind, lineName, contents, allUnder, lineKind, lineBytes, lineMarks}
@@ -27,12 +27,12 @@ fourth = 119 ∷ 111 ∷ 114 ∷ 100 ∷ 9 ∷ 45 ∷ 9 ∷ 45 ∷ 9 ∷ 45 ∷ 
 
 -- ---- the turn of each line
 first-turn : turnOf first 0 0 0 ≡ turn (okLine 6 2) 2 3 1
-unfolding turnOf recordTurn lineKind nameKind lineName contents fields same meaning numberOf digitsAfter allUnder lineBytes lineMarks shapeTurn shapeRefusal
+unfolding turnOf recordTurn lineKind nameKind lineName contents fields same meaning numberOf digitsAfter allUnder lineBytes lineMarks shapeTurn shapeRefusalIn
 first-turn = refl
 
 second-turn : turnOf second 2 3 1 ≡ turn (wordLine (1 ∷ 1 ∷ 0 ∷ 78 ∷ 206 ∷ 128 ∷ [])) 2 3 1
-unfolding turnOf recordTurn lineKind nameKind lineName contents fields same meaning numberOf digitsAfter allUnder lineBytes lineMarks dataTurn bufferRefusal wordRefusal
-    shapeRefusal
+unfolding turnOf recordTurn lineKind nameKind lineName contents fields same meaning numberOf digitsAfter allUnder lineBytes lineMarks dataTurn bufferRefusalIn wordRefusalIn
+    shapeRefusalIn
 second-turn = ap (λ word. turn (wordLine word) 2 3 1) encoded-second
 
 third-turn : turnOf third 2 3 1 ≡ turn (wordLine (1 ∷ 1 ∷ 0 ∷ 78 ∷ 206 ∷ 128 ∷ [])) 2 3 1

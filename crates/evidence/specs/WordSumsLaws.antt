@@ -16,10 +16,11 @@ use Rattle.binary_field.specs.Product.{double, bitSum, product}
 use Rattle.binary_field.specs.Power.{power}
 use Rattle.binary_field.specs.Sum.{sumBelow}
 use Rattle.gf256.specs.Locators.{locators}
-use Rattle.shape.specs.Shapes.{shapeRefusal, wordRefusal}
+use Rattle.shape.specs.Shapes.{shapeRefusal, shapeRefusalIn, wordRefusalIn}
 use Rattle.shape.specs.Laws.{good-of-refusal}
 use Rattle.places.specs.Laws.{extract-1-4-1, extract-2-3-1}
-use Rattle.code.specs.Edition.{bytes}
+use Rattle.byte_edition.specs.Edition.{bytes}
+use Rattle.byte_edition.specs.EditionLaws.{bytes-sound}
 use Rattle.code.specs.Word.{coefficient, twisted, groupSum, wordSum, isLocal, isCodeword, Symbols, Codeword}
 use Rattle.code.specs.Marks.{lost, lostIn, excess, Agree}
 use Rattle.code.specs.Answer.{refused, contradictory, written}
@@ -27,8 +28,8 @@ use Rattle.code.specs.Contradiction.{isBroken, contradictingGroup}
 use Rattle.code.specs.Filling.{search}
 use Rattle.code.specs.Stretch.{stretch}
 use Rattle.code.specs.Recovery.{Agrees}
-use Rattle.marks.specs.Refusal.{marksRefusal, areMarks}
-use Rattle.recover.specs.Service.{recoverRefusal, recoverOf}
+use Rattle.marks.specs.Refusal.{marksRefusalIn, areMarks}
+use Rattle.recover.specs.Service.{recoverRefusal, recoverRefusalIn, recoverOf}
 use Rattle.recover.specs.AttemptLaws.{accepted, service-eight, service-done}
 use Rattle.encode.specs.Service.{encodedWord}
 use Rattle.encode.specs.Laws.{encoded}
@@ -57,12 +58,12 @@ unfolding firstWord isCodeword isLocal wordSum groupSum sumBelow coefficient twi
 first-codeword = record { symbols = record { size = refl; each = small firstWord tt }; zero = tt }
 
 good-1-4-1 : shapeRefusal 1 4 1 ≡ 0
-unfolding shapeRefusal
+unfolding shapeRefusalIn
 good-1-4-1 = refl
 
 pub encoded-first : encodedWord 1 4 1 (1 ∷ []) ≡ 1 ∷ 79 ∷ 147 ∷ 221 ∷ []
 unfolding firstWord
-encoded-first = sym (encoded (good-of-refusal 1 4 1 good-1-4-1) (1 ∷ []) refl (small (1 ∷ []) tt) .only firstWord first-codeword extract-1-4-1)
+encoded-first = sym (encoded bytes-sound (good-of-refusal 1 4 1 good-1-4-1) (1 ∷ []) refl (small (1 ∷ []) tt) .only firstWord first-codeword extract-1-4-1)
 
 -- ---- m 2, w 3, c 1, data 1, 1
 secondWord : List ℕ
@@ -73,13 +74,13 @@ unfolding secondWord isCodeword isLocal wordSum groupSum sumBelow coefficient tw
 second-codeword = record { symbols = record { size = refl; each = small secondWord tt }; zero = tt }
 
 good-2-3-1 : shapeRefusal 2 3 1 ≡ 0
-unfolding shapeRefusal
+unfolding shapeRefusalIn
 good-2-3-1 = refl
 
 pub encoded-second : encodedWord 2 3 1 (1 ∷ 1 ∷ []) ≡ 1 ∷ 1 ∷ 0 ∷ 78 ∷ 206 ∷ 128 ∷ []
 unfolding secondWord
 encoded-second =
-    sym (encoded (good-of-refusal 2 3 1 good-2-3-1) (1 ∷ 1 ∷ []) refl (small (1 ∷ 1 ∷ []) tt) .only secondWord second-codeword extract-2-3-1)
+    sym (encoded bytes-sound (good-of-refusal 2 3 1 good-2-3-1) (1 ∷ 1 ∷ []) refl (small (1 ∷ 1 ∷ []) tt) .only secondWord second-codeword extract-2-3-1)
 
 -- ---- recoveries of that word; other bytes stand in the lost places
 -- a call with six bytes and six marks, and the excess, by computing
@@ -94,7 +95,7 @@ firstThree : List ℕ
 firstThree = 1 ∷ 1 ∷ 1 ∷ 0 ∷ 0 ∷ 0 ∷ []
 
 three-called : called threeLost firstThree 2
-unfolding called threeLost firstThree recoverRefusal wordRefusal marksRefusal shapeRefusal areMarks excess lostIn totalBelow
+unfolding called threeLost firstThree recoverRefusalIn wordRefusalIn marksRefusalIn shapeRefusalIn areMarks excess lostIn totalBelow
 three-called = (refl, refl)
 
 three-agrees : Agrees bytes 2 3 1 firstThree threeLost secondWord
@@ -121,7 +122,7 @@ firstFive : List ℕ
 firstFive = 1 ∷ 1 ∷ 1 ∷ 1 ∷ 1 ∷ 0 ∷ []
 
 five-called : called secondWord firstFive 3
-unfolding called secondWord firstFive recoverRefusal wordRefusal marksRefusal shapeRefusal areMarks excess lostIn totalBelow
+unfolding called secondWord firstFive recoverRefusalIn wordRefusalIn marksRefusalIn shapeRefusalIn areMarks excess lostIn totalBelow
 five-called = (refl, refl)
 
 pub five-lost : outcomeList (recoverOf 2 3 1 (1 ∷ 1 ∷ 0 ∷ 78 ∷ 206 ∷ 128 ∷ []) (1 ∷ 1 ∷ 1 ∷ 1 ∷ 1 ∷ 0 ∷ []))
@@ -144,7 +145,7 @@ secondFifth : List ℕ
 secondFifth = 0 ∷ 1 ∷ 0 ∷ 0 ∷ 1 ∷ 0 ∷ []
 
 two-called : called twoLost secondFifth 0
-unfolding called twoLost secondFifth recoverRefusal wordRefusal marksRefusal shapeRefusal areMarks excess lostIn totalBelow
+unfolding called twoLost secondFifth recoverRefusalIn wordRefusalIn marksRefusalIn shapeRefusalIn areMarks excess lostIn totalBelow
 two-called = (refl, refl)
 
 two-agrees : Agrees bytes 2 3 1 secondFifth twoLost secondWord
@@ -163,7 +164,7 @@ fiveLost : List ℕ
 fiveLost = 0 ∷ 0 ∷ 0 ∷ 0 ∷ 0 ∷ 128 ∷ []
 
 five-again : called fiveLost firstFive 3
-unfolding called fiveLost firstFive recoverRefusal wordRefusal marksRefusal shapeRefusal areMarks excess lostIn totalBelow
+unfolding called fiveLost firstFive recoverRefusalIn wordRefusalIn marksRefusalIn shapeRefusalIn areMarks excess lostIn totalBelow
 five-again = (refl, refl)
 
 pub five-lost-again : recoverOf 2 3 1 (0 ∷ 0 ∷ 0 ∷ 0 ∷ 0 ∷ 128 ∷ []) (1 ∷ 1 ∷ 1 ∷ 1 ∷ 1 ∷ 0 ∷ [])

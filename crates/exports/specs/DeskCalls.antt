@@ -2,11 +2,14 @@
 use mathlib.Core.Path.{_≡_}
 use mathlib.Core.List.{List}
 use Prim.Native.Nat.{ℕ, zero, suc}
-use Rattle.desk.specs.declared.Desk.{Desk}
-use Rattle.desk.specs.declared.Opened.{Opened}
-use Rattle.desk.specs.declared.Counted.{Counted}
+use Rattle.desk_record.specs.declared.Desk.{Desk}
+use Rattle.desk_open.specs.declared.Opened.{Opened}
+use Rattle.desk_close.specs.declared.Counted.{Counted}
 use Rattle.exports.specs.declared.Mended.{Mended}
-use Rattle.desk.specs.Calls.{Opening, Reading, Closing, Serving}
+use Rattle.desk_open.specs.Open.{Opening}
+use Rattle.desk_close.specs.Read.{Reading}
+use Rattle.desk_close.specs.Close.{Closing}
+use Rattle.desk_serve.specs.Serve.{Serving}
 
 -- "On every refusal all lent buffers [..] stay as they were": what a lent number holds at the end
 abbrev pub keptUnlessDone : ℕ → ℕ → ℕ → ℕ

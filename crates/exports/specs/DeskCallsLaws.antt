@@ -1,10 +1,11 @@
 -- Laws: What the desk's calls give to C: a number, from Serve with a group, and what the lent desk, word, handle and served count hold then.
 use mathlib.Core.Path.{_≡_, refl, ap, _∙_}
 use Prim.Native.Nat.{ℕ, zero, suc}
-use Rattle.desk.specs.declared.Desk.{Desk}
-use Rattle.desk.specs.declared.Opened.{Opened}
-use Rattle.desk.specs.declared.Counted.{Counted}
-use Rattle.desk.specs.Calls.{Opening, OpenGives, openedAt, openedNumber, Reading, ReadGives, countedAt, countedNumber}
+use Rattle.desk_record.specs.declared.Desk.{Desk}
+use Rattle.desk_open.specs.declared.Opened.{Opened}
+use Rattle.desk_close.specs.declared.Counted.{Counted}
+use Rattle.desk_open.specs.Open.{Opening, OpenGives, openedAt, openedNumber}
+use Rattle.desk_close.specs.Read.{Reading, ReadGives, countedAt, countedNumber}
 use Rattle.exports.specs.DeskCalls.{keptUnlessDone, OpensNumber, ReadsNumber, handleOr, servedOr}
 
 handle-or : (r handle lent : ℕ) → handleOr (openedAt r handle) lent ≡ keptUnlessDone r handle lent

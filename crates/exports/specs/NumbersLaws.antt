@@ -8,7 +8,7 @@ use lib.Dec.{ltb}
 use Rattle.shape.specs.declared.Mending.{Mending}
 use Rattle.shape.specs.Answers.{mendingAt, mendingNumber, mendingGroup}
 use Rattle.shape.specs.AnswersLaws.{mending-refused}
-use Rattle.code.specs.Edition.{bytes}
+use Rattle.byte_edition.specs.Edition.{bytes}
 use Rattle.code.specs.Word.{isLocal, isCodeword}
 use Rattle.code.specs.Marks.{lostIn, excess}
 use Rattle.code.specs.Contradiction.{contradictingGroup}
@@ -17,8 +17,8 @@ use Rattle.code.specs.AnswerLaws.{other-group}
 use Rattle.code.specs.Recovery.{recovered}
 use Rattle.code.specs.Repair.{repairedGroup}
 use Rattle.code.specs.Stretch.{stretch}
-use Rattle.recover.specs.Service.{unlessBefore, recoverOf, recoverRefusal}
-use Rattle.repair.specs.Service.{repairOf, repairRefusal}
+use Rattle.recover.specs.Service.{unlessBefore, recoverOf, recoverIn, recoverRefusal}
+use Rattle.repair.specs.Service.{repairOf, repairIn, repairRefusal}
 use Rattle.exports.specs.declared.Mended.{Mended}
 use Rattle.exports.specs.Numbers.{mendingMended}
 
@@ -39,13 +39,13 @@ before-group zero o word marks none = none
 before-group (suc r) o word marks none = λ _. refl
 
 pub recover-group : (m w c : ℕ) (word marks : List ℕ) → ((recoverOf m w c word marks) .number ≡ 9 → ⊥) → (recoverOf m w c word marks) .group ≡ 0
-unfolding recoverOf
+unfolding recoverIn
 recover-group m w c word marks =
     before-group (recoverRefusal m w c word marks) (recovered bytes m w c word marks) word marks
     (other-group (2 ^ bytes .bits) (isCodeword bytes m w c) (ltb 2 (excess m w c marks)) (contradictingGroup bytes m w c word marks) word marks)
 
 pub repair-group : (m w c g : ℕ) (word marks : List ℕ) → ((repairOf m w c g word marks) .number ≡ 9 → ⊥) → (repairOf m w c g word marks) .group ≡ 0
-unfolding repairOf
+unfolding repairIn
 repair-group m w c g word marks =
     before-group (repairRefusal m w c g word marks) (repairedGroup bytes w c g word marks) word marks
     (other-group (2 ^ bytes .bits) (λ x. isLocal bytes w c x 0) (ltb c (lostIn w (stretch w g marks) 0)) g (stretch w g word) (stretch w g marks))

@@ -1,8 +1,8 @@
 // The services as C calls them: numbers and lent bytes, each with its length, and the number given back, 0 for done; with the group that a 9
 // carries, where a service gives one.
-use desk::Counted;
-use desk::Desk;
-use desk::Opened;
+use desk_close::Counted;
+use desk_open::Opened;
+use desk_record::Desk;
 use judge::Judged;
 use shape::Answer;
 use shape::Described;
@@ -19,8 +19,11 @@ ghost use Rattle.judge.specs.Answer.{judgedNumber, judgedNumberOf};
 ghost use Rattle.recover.specs.Service.{recoverOf};
 ghost use Rattle.repair.specs.Service.{repairOf};
 ghost use Rattle.encode.specs.Service.{encodedBuffer};
-ghost use Rattle.desk.specs.Desks.{freshDesk};
-ghost use Rattle.desk.specs.Calls.{openOf, openedNumber, readOf, countedNumber, closeOf, serveOf};
+ghost use Rattle.desk_record.specs.Desks.{freshDesk};
+ghost use Rattle.desk_open.specs.Open.{openOf, openedNumber};
+ghost use Rattle.desk_close.specs.Read.{readOf, countedNumber};
+ghost use Rattle.desk_close.specs.Close.{closeOf};
+ghost use Rattle.desk_serve.specs.Serve.{serveOf};
 ghost use Rattle.exports.specs.DeskCalls.{OpensNumber, handleOr, ReadsNumber, servedOr, ClosesNumber, ServesMended};
 
 // What Check, Repair, Recover and Serve give to C: the number, 0 for done, and the group that a 9 carries; 0 with any other number.
@@ -261,7 +264,7 @@ fn counted_number(counted: Counted, served: &mut u32) -> u8
 pub extern "C" fn axlebloom_fresh(desk: &mut Desk)
     ensures { λ _. ⌜ now (desk .exit) ≡ freshDesk ⌝ }
 {
-    *desk = desk::fresh();
+    *desk = desk_record::fresh();
 }
 
 #[no_mangle]
@@ -275,26 +278,26 @@ pub extern "C" fn axlebloom_open(
 ) -> u8
     ensures { λ r. ⌜ OpensNumber (openOf m w c (now (marks .entry)) (now (desk .entry))) (now (handle .entry)) (now (desk .exit)) (now (handle .exit)) r ⌝ }
 {
-    opened_number(desk::open_at(desk, m, w, c, marks), handle)
+    opened_number(desk_lent::open_at(desk, m, w, c, marks), handle)
 }
 
 #[no_mangle]
 pub extern "C" fn axlebloom_serve(desk: &mut Desk, handle: u64, word: &mut [u8]) -> Mended
     ensures { λ r. ⌜ ServesMended (serveOf handle (now (word .entry)) (now (desk .entry))) (now (word .exit)) (now (desk .exit)) r ⌝ }
 {
-    mended_of(desk::serve_at(desk, handle, word))
+    mended_of(desk_lent::serve_at(desk, handle, word))
 }
 
 #[no_mangle]
 pub extern "C" fn axlebloom_read(desk: &Desk, handle: u64, served: &mut u32) -> u8
     ensures { λ r. ⌜ ReadsNumber (readOf handle (now (desk .entry))) (now (served .entry)) (now (served .exit)) r ⌝ }
 {
-    counted_number(desk::read_at(desk, handle), served)
+    counted_number(desk_lent::read_at(desk, handle), served)
 }
 
 #[no_mangle]
 pub extern "C" fn axlebloom_close(desk: &mut Desk, handle: u64) -> u8
     ensures { λ r. ⌜ ClosesNumber (closeOf handle (now (desk .entry))) (now (desk .exit)) r ⌝ }
 {
-    number(desk::close_at(desk, handle))
+    number(desk_lent::close_at(desk, handle))
 }

@@ -16,7 +16,9 @@ use Rattle.binary_field.specs.Product.{product}
 use Rattle.binary_field.specs.ProductLaws.{product-comm}
 use Rattle.binary_field.specs.Sum.{sumBelow, innerProduct}
 use Rattle.binary_field.specs.SumLaws.{sum-ext}
-use Rattle.code.specs.Edition.{bytes, bytes-sound, times, raised}
+use Rattle.code.specs.Edition.{times, raised}
+use Rattle.byte_edition.specs.Edition.{bytes}
+use Rattle.byte_edition.specs.EditionLaws.{bytes-sound}
 use Rattle.code.specs.Word.{groupSum, localSum}
 use Rattle.code.specs.Marks.{lost, lostIn}
 use Rattle.code.specs.StretchLaws.{own-place}

@@ -15,7 +15,8 @@ use Rattle.binary_field.specs.Sum.{sumBelow}
 use Rattle.binary_field.specs.SumLaws.{sum-ext}
 use Rattle.binary_field.specs.Element.{Element, reduced}
 use Rattle.binary_field.specs.ElementLaws.{field, same-value, pow-value, sum-value}
-use Rattle.code.specs.Edition.{Edition, Sound, raised, bytes}
+use Rattle.code.specs.Edition.{Edition, Sound, raised}
+use Rattle.byte_edition.specs.Edition.{bytes}
 use Rattle.code.specs.Word.{localSum}
 use Rattle.solve.specs.Elimination.{row, entry}
 use Rattle.solve.specs.Kernel.{TrivialKernel}

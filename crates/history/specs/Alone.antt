@@ -3,10 +3,12 @@
 use mathlib.Core.Path.{_≡_}
 use mathlib.Core.List.{List}
 use Prim.Native.Nat.{ℕ}
-use Rattle.desk.specs.declared.Desk.{Desk}
-use Rattle.desk.specs.Desks.{jobAt, slotOf}
-use Rattle.desk.specs.Calls.{freeSlot, openOf, readOf, closeOf}
-use Rattle.desk.specs.Calls.{serveOf}
+use Rattle.desk_record.specs.declared.Desk.{Desk}
+use Rattle.desk_record.specs.Desks.{jobAt, slotOf}
+use Rattle.desk_open.specs.Open.{freeSlot, openOf}
+use Rattle.desk_close.specs.Read.{readOf}
+use Rattle.desk_close.specs.Close.{closeOf}
+use Rattle.desk_serve.specs.Serve.{serveOf}
 
 -- Two desks answer alike on a handle, and leave the same job in its slot.
 pub record Alike (h : ℕ) (word : List ℕ) (d e : Desk) : Type 0 where

@@ -1,7 +1,7 @@
 -- Laws: "On a sound desk, serve, read and close on one handle depend on that job alone (and the word lent), whatever is done to other jobs.
 -- Open also depends on t and on which slots are taken."
 use mathlib.Core.Path.{_≡_, refl, sym, ap, _∙_, subst}
-use mathlib.Core.Bool.{true, not}
+use mathlib.Core.Bool.{true, not, cond}
 use mathlib.Core.List.{List, [], _∷_}
 use Prim.Native.Nat.{ℕ, zero, suc, _+_, _*_, _<_}
 use native.Mathlib.Omega.{arith}
@@ -10,11 +10,15 @@ use lib.ListN.{length, getD, set}
 use lib.Seq.{getD-set-same, getD-set-other}
 use Rattle.shape.specs.Refusals.{refuse, _orElse_}
 use Rattle.judge.specs.Answer.{judgedNumberOf}
-use Rattle.desk.specs.declared.Job.{Job}
-use Rattle.desk.specs.declared.Desk.{Desk}
-use Rattle.desk.specs.Desks.{emptyJob, noJob, jobAt, isTaken, slotOf, isSound}
-use Rattle.desk.specs.Calls.{pick, freeFrom, freeSlot, openNumber, openBy, openOf, newJob, newHandle, handleRefusal, readBy, readOf, closeBy, closeOf}
-use Rattle.desk.specs.Calls.{recoveryOf, jobNumber, serveNumber, groupOfNine, serveBy, serveOf, servedOnce}
+use Rattle.desk_job.specs.declared.Job.{Job}
+use Rattle.desk_record.specs.declared.Desk.{Desk}
+use Rattle.desk_job.specs.Jobs.{emptyJob, noJob, isTaken}
+use Rattle.desk_record.specs.Desks.{jobAt, slotOf, isSound}
+use Rattle.desk_open.specs.Open.{freeFrom, freeSlot, openNumber, openBy, openOf, newJob, newHandle}
+use Rattle.desk_close.specs.Read.{readBy, readOf}
+use Rattle.desk_close.specs.Close.{closeBy, closeOf}
+use Rattle.desk_record.specs.Refusal.{handleRefusal}
+use Rattle.desk_serve.specs.Serve.{recoveryOf, jobNumber, serveNumber, groupOfNine, serveBy, serveOf, servedOnce}
 use Rattle.history.specs.Effects.{holdsHandle}
 use Rattle.history.specs.EffectsLaws.{slot-below, handle-refusal}
 use Rattle.history.specs.Alone.{Alike, OpenAlike}
@@ -83,8 +87,8 @@ free-same [] [] i l f = refl
 free-same [] (k ∷ y) i l f = absurd (omega arith)
 free-same (j ∷ x) [] i l f = absurd (omega arith)
 free-same (j ∷ x) (k ∷ y) i l f =
-    ap (λ b. pick b (freeFrom x (i + 1)) i) (f 0 (omega arith))
-    ∙ ap (λ n. pick (isTaken k) n i) (free-same x y (i + 1) (omega arith) (λ s h. f (suc s) (omega arith)))
+    ap (λ b. cond b (freeFrom x (i + 1)) i) (f 0 (omega arith))
+    ∙ ap (λ n. cond (isTaken k) n i) (free-same x y (i + 1) (omega arith) (λ s h. f (suc s) (omega arith)))
 
 module _ (m w c : ℕ) (marks : List ℕ) (d e : Desk) (size-d : length (d .jobs) ≡ 8) (size-e : length (e .jobs) ≡ 8)
     (sound-d : isSound d ≡ true) (sound-e : isSound e ≡ true) (same-t : d .t ≡ e .t)

@@ -6,11 +6,13 @@ use Prim.Native.Nat.{ℕ, _+_, _<_}
 use lib.Dec.{eqb}
 use lib.ListN.{length, getD}
 use Rattle.judge.specs.Answer.{judgedNumberOf}
-use Rattle.desk.specs.declared.Job.{Job}
-use Rattle.desk.specs.declared.Desk.{Desk}
-use Rattle.desk.specs.Desks.{emptyJob, noJob, jobAt, isTaken, slotOf, isOpen}
-use Rattle.desk.specs.Calls.{freeFrom, freeSlot, newHandle, newJob, servedOnce}
-use Rattle.desk.specs.Laws.{Sound}
+use Rattle.desk_job.specs.declared.Job.{Job}
+use Rattle.desk_record.specs.declared.Desk.{Desk}
+use Rattle.desk_job.specs.Jobs.{emptyJob, noJob, isTaken}
+use Rattle.desk_record.specs.Desks.{jobAt, slotOf, isOpen}
+use Rattle.desk_open.specs.Open.{freeFrom, freeSlot, newHandle, newJob}
+use Rattle.desk_serve.specs.Serve.{servedOnce}
+use Rattle.desk_record.specs.Laws.{Sound}
 use Rattle.history.specs.Put.{put}
 
 -- the job is taken under this handle

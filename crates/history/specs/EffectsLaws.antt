@@ -1,6 +1,6 @@
 -- Laws: What an accepted Open, Serve or Close does to a sound desk: it stays sound, and which handles are open then.
 use mathlib.Core.Path.{_≡_, refl, sym, ap, _∙_, subst}
-use mathlib.Core.Bool.{Bool, true, false, not, _&&_, _||_, and-true, or-false, true≢false}
+use mathlib.Core.Bool.{Bool, true, false, not, _&&_, _||_, and-true, or-false, true≢false, cond}
 use mathlib.Core.List.{List, [], _∷_}
 use Prim.Native.Nat.{ℕ, zero, suc, _+_, _*_, _-_, _<_, _≤_}
 use native.Mathlib.Nat.{le-trans, le-refl, le-of-suc-le-suc}
@@ -13,11 +13,15 @@ use lib.Seq.{take-at}
 use Rattle.shape.specs.Refusals.{refuse, _orElse_}
 use Rattle.shape.specs.RefusalsLaws.{refuse-zero, orElse-zero}
 use Rattle.judge.specs.Answer.{judgedNumberOf}
-use Rattle.desk.specs.declared.Job.{Job}
-use Rattle.desk.specs.declared.Desk.{Desk}
-use Rattle.desk.specs.Desks.{freshDesk, emptyJob, noJob, jobAt, isFree, isTaken, issueOf, slotOf, isIssued, isGood, isSoundSlot, isSound, isOpen}
-use Rattle.desk.specs.Calls.{handleRefusal, pick, freeFrom, freeSlot, newJob, servedOnce}
-use Rattle.desk.specs.Laws.{Sound, sound-parts, false-of, judged-marked, taken-of, open-slot}
+use Rattle.desk_job.specs.declared.Job.{Job}
+use Rattle.desk_record.specs.declared.Desk.{Desk}
+use Rattle.desk_record.specs.Desks.{freshDesk, jobAt, issueOf, slotOf, isIssued, isSoundSlot, isSound, isOpen}
+use Rattle.desk_job.specs.Jobs.{emptyJob, noJob, isFree, isTaken, isGood}
+use Rattle.desk_record.specs.Refusal.{handleRefusal}
+use Rattle.desk_open.specs.Open.{freeFrom, freeSlot, newJob}
+use Rattle.desk_serve.specs.Serve.{servedOnce}
+use Rattle.desk_record.specs.Laws.{Sound, sound-parts, false-of, taken-of, open-slot}
+use Rattle.desk_job.specs.JobLaws.{judged-marked}
 use Rattle.history.specs.Put.{put}
 use Rattle.history.specs.PutLaws.{and-of, and-to, slot-of-free, slot-of-taken, issued-of, issued-to, unique-of, once-of, put-same, put-other}
 use Rattle.history.specs.PutLaws.{sound-put}
@@ -99,13 +103,13 @@ spot-of (job ∷ jobs) i = go (spot-of jobs (i + 1)) (isTaken job) refl
     go : Spot jobs (i + 1) → (b : Bool) → isTaken job ≡ b → Spot (job ∷ jobs) i
     go P true e = let f = P .found in record {
       place = suc (P .place);
-      found = ap (λ b. pick b (freeFrom jobs (i + 1)) i) e ∙ (omega arith);
+      found = ap (λ b. cond b (freeFrom jobs (i + 1)) i) e ∙ (omega arith);
       free = λ h. P .free (omega arith);
       lower = before P e;
     }
     go P false e = record {
       place = 0;
-      found = ap (λ b. pick b (freeFrom jobs (i + 1)) i) e ∙ (omega arith);
+      found = ap (λ b. cond b (freeFrom jobs (i + 1)) i) e ∙ (omega arith);
       free = λ h. e;
       lower = λ r h. absurd (omega arith);
     }

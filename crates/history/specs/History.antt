@@ -4,9 +4,12 @@ use mathlib.Core.List.{List, [], _∷_}
 use Prim.Native.Nat.{ℕ, zero, suc, _+_}
 use lib.Dec.{eqb}
 use Rattle.counting.specs.Count.{one}
-use Rattle.desk.specs.declared.Desk.{Desk}
-use Rattle.desk.specs.Desks.{freshDesk}
-use Rattle.desk.specs.Calls.{openOf, readOf, closeOf, serveOf}
+use Rattle.desk_record.specs.declared.Desk.{Desk}
+use Rattle.desk_record.specs.Desks.{freshDesk}
+use Rattle.desk_open.specs.Open.{openOf}
+use Rattle.desk_close.specs.Read.{readOf}
+use Rattle.desk_close.specs.Close.{closeOf}
+use Rattle.desk_serve.specs.Serve.{serveOf}
 
 -- The calls on a desk.
 pub data Call : Type 0 where

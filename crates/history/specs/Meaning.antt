@@ -7,16 +7,19 @@ use mathlib.Core.List.{List}
 use Prim.Native.Nat.{ℕ, _+_, _*_, _<_, _≤_}
 use lib.ListN.{length, getD}
 use Rattle.shape.specs.Shapes.{Good, placeCount}
-use Rattle.code.specs.Edition.{bytes}
+use Rattle.byte_edition.specs.Edition.{bytes}
 use Rattle.code.specs.Marks.{excess}
 use Rattle.code.specs.Contradiction.{contradictingGroup}
 use Rattle.code.specs.Recovery.{Agrees}
 use Rattle.recover.specs.DemandTwo.{Named}
 use Rattle.judge.specs.Answer.{judgedNumberOf}
-use Rattle.desk.specs.declared.Job.{Job}
-use Rattle.desk.specs.declared.Desk.{Desk}
-use Rattle.desk.specs.Desks.{emptyJob, jobAt, isFree, isTaken, marksOf}
-use Rattle.desk.specs.Calls.{Opening, newJob, openOf, Closing, closeOf, Serving, servedOnce, serveOf}
+use Rattle.desk_job.specs.declared.Job.{Job}
+use Rattle.desk_record.specs.declared.Desk.{Desk}
+use Rattle.desk_job.specs.Jobs.{emptyJob, isFree, isTaken, marksOf}
+use Rattle.desk_record.specs.Desks.{jobAt}
+use Rattle.desk_open.specs.Open.{Opening, newJob, openOf}
+use Rattle.desk_close.specs.Close.{Closing, closeOf}
+use Rattle.desk_serve.specs.Serve.{Serving, servedOnce, serveOf}
 
 -- ---- soundness
 
@@ -117,7 +120,7 @@ pub record JobNumbers (job : Job) (word : List ℕ) (number group : ℕ) : Type 
   pub contradictory : (number ≡ 9) ↔ ((length word ≡ placeCount (job .m) (job .w)) × ¬ (job .served ≡ 4294967295) × ((y : List ℕ) → ¬ AgreesBy job word y))
   -- "A 9 now carries a group number"
   pub group-is : number ≡ 9 → group ≡ groupBy job word
-  pub named : number ≡ 9 → Named (job .m) (job .w) (job .c) word (marksOf job) group
+  pub named : number ≡ 9 → Named bytes (job .m) (job .w) (job .c) word (marksOf job) group
   pub done : (number ≡ 0) ↔ ((length word ≡ placeCount (job .m) (job .w)) × ¬ (job .served ≡ 4294967295) × ((y : List ℕ) × AgreesBy job word y))
 
 -- "31 comes before all others, and with a handle 12 comes next, then 5, 13, 9; a serve can't meet 8"

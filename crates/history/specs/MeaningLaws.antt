@@ -14,12 +14,14 @@ use Rattle.marks.specs.Refusal.{Marked}
 use Rattle.marks.specs.RefusalLaws.{marks-of-good}
 use Rattle.judge.specs.Answer.{judgedNumberOf}
 use Rattle.judge.specs.Laws.{zero-excess}
-use Rattle.desk.specs.declared.Job.{Job}
-use Rattle.desk.specs.declared.Desk.{Desk}
-use Rattle.desk.specs.Desks.{jobAt, isFree, isTaken, issueOf, slotOf, marksOf, isGood, isSoundSlot, isSound, isOpen}
-use Rattle.desk.specs.Calls.{freeSlot, newHandle, newJob, openNumber, openBy, openOf}
-use Rattle.desk.specs.Laws.{judged-marked, Sound, sound-parts, sound-of, Taken, taken-of}
-use Rattle.desk.specs.CallLaws.{free-most, open-parts}
+use Rattle.desk_job.specs.declared.Job.{Job}
+use Rattle.desk_record.specs.declared.Desk.{Desk}
+use Rattle.desk_record.specs.Desks.{jobAt, issueOf, slotOf, isSoundSlot, isSound, isOpen}
+use Rattle.desk_job.specs.Jobs.{isFree, isTaken, marksOf, isGood}
+use Rattle.desk_open.specs.Open.{freeSlot, newHandle, newJob, openNumber, openBy, openOf}
+use Rattle.desk_job.specs.JobLaws.{judged-marked}
+use Rattle.desk_record.specs.Laws.{Sound, sound-parts, sound-of, Taken, taken-of}
+use Rattle.desk_open.specs.OpenLaws.{free-most, open-parts}
 use Rattle.history.specs.Put.{Unique}
 use Rattle.history.specs.PutLaws.{unique-of, once-of, issued-of, issued-to, slot-of-free, slot-of-taken, free-or-taken, put-same, put-other}
 use Rattle.history.specs.EffectsLaws.{open-held, open-by-slot, spot-of, free-slot}

@@ -1,7 +1,7 @@
 -- Which number each call on a desk gives, and exactly when, and what Serve and Close leave: the proofs of what Meaning says of them.
 use mathlib.Core.Path.{_≡_, refl, sym, ap, _∙_, subst}
 use mathlib.Core.Logic.{inl, inr, _⊎_}
-use mathlib.Core.Bool.{Bool, true, false, not, _||_, cond, false≢true}
+use mathlib.Core.Bool.{Bool, true, false, not, cond, false≢true}
 use mathlib.Core.List.{List}
 use Prim.Native.Nat.{ℕ, zero, suc, _+_, _*_, _≤_, _<_}
 use native.Mathlib.Omega.{arith}
@@ -11,28 +11,38 @@ use lib.Dec.{eqb, ltb}
 use lib.ListN.{length, getD}
 use Rattle.shape.specs.Refusals.{refuse, _orElse_}
 use Rattle.shape.specs.RefusalsLaws.{orElse-zero}
-use Rattle.shape.specs.Shapes.{placeCount, dataCount, shapeRefusal, wordRefusal}
 use Rattle.shape.specs.Laws.{word-of-good}
-use Rattle.marks.specs.Refusal.{areMarks, marksRefusal}
-use Rattle.marks.specs.RefusalLaws.{marks-of-good}
-use Rattle.judge.specs.Answer.{judgedNumberOf}
-use Rattle.code.specs.Edition.{bytes}
+use Rattle.marks.specs.Refusal.{marksRefusal}
+use Rattle.marks.specs.RefusalLaws.{marks-of-good, marks-most}
+use Rattle.judge.specs.Answer.{judgedNumberOf, judgedNumberIn}
+use Rattle.byte_edition.specs.Edition.{bytes}
+use Rattle.byte_edition.specs.EditionLaws.{bytes-sound}
 use Rattle.code.specs.Word.{isCodeword}
 use Rattle.code.specs.Marks.{excess}
 use Rattle.code.specs.Answer.{Outcome, eight, nine, done}
 use Rattle.code.specs.AnswerLaws as AnswerLaws
 use Rattle.code.specs.Recovery.{recovered}
 use Rattle.code.specs.RecoveryLaws.{agrees-passing, passing-agrees}
-use Rattle.recover.specs.Service.{recoverRefusal, recoverOf, unlessBefore}
+use Rattle.recover.specs.Service.{recoverRefusal, recoverRefusalIn, recoverIn, unlessBefore}
 use Rattle.recover.specs.DemandTwo.{Named, DemandTwo}
 use Rattle.recover.specs.DemandTwoLaws.{demand-two}
-use Rattle.desk.specs.declared.Job.{Job}
-use Rattle.desk.specs.declared.Desk.{Desk}
-use Rattle.desk.specs.Desks.{emptyJob, jobAt, slotOf, isGood, marksOf, isSound, isOpen}
-use Rattle.desk.specs.Calls.{handleRefusal, freeSlot, openNumber, openBy, openOf, readBy, readOf, closeBy, closeOf, recoveryOf, jobNumber}
-use Rattle.desk.specs.Calls.{Opening, Closing, Serving, servedOnce, serveNumber, serveBy, serveOf}
-use Rattle.desk.specs.CallLaws.{open-refused, close-refused, serve-refused}
-use Rattle.desk.specs.ServeLaws.{open-good, job-length, job-end, job-recovery}
+use Rattle.desk_job.specs.declared.Job.{Job}
+use Rattle.desk_record.specs.declared.Desk.{Desk}
+use Rattle.desk_job.specs.Jobs.{emptyJob, isGood, marksOf}
+use Rattle.desk_record.specs.Desks.{jobAt, slotOf, isSound, isOpen}
+use Rattle.desk_record.specs.Refusal.{handleRefusal}
+use Rattle.desk_open.specs.Open.{freeSlot, openNumber, openBy, openOf}
+use Rattle.desk_close.specs.Read.{readBy, readOf}
+use Rattle.desk_close.specs.Close.{closeBy, closeOf}
+use Rattle.desk_serve.specs.Serve.{recoveryOf, jobNumber}
+use Rattle.desk_open.specs.Open.{Opening}
+use Rattle.desk_close.specs.Close.{Closing}
+use Rattle.desk_serve.specs.Serve.{Serving, servedOnce, serveNumber, serveBy, serveOf}
+use Rattle.desk_open.specs.OpenLaws.{open-refused}
+use Rattle.desk_close.specs.CloseLaws.{close-refused}
+use Rattle.desk_serve.specs.ServeLaws.{serve-refused}
+use Rattle.desk_record.specs.RefusalLaws.{open-good}
+use Rattle.desk_serve.specs.ServeLaws.{job-length, job-end, job-recovery}
 use Rattle.history.specs.PutLaws.{put-same, put-other}
 use Rattle.history.specs.EffectsLaws.{slot-below, open-held, handle-parts}
 use Rattle.history.specs.Meaning.{SoundDesk, IsHeld, AllTaken, OpenNumbers, HandleNumbers, AgreesBy, groupBy, JobNumbers, ServeNumbers}
@@ -111,20 +121,20 @@ module _ (handle : ℕ) (desk : Desk) where
 module _ (job : Job) (word : List ℕ) (good : isGood job ≡ true) (size : length word ≡ job .m * job .w) where
   -- a good job and a word of its n bytes are refused by none of 1 to 6
   not-before : recoverRefusal (job .m) (job .w) (job .c) word (marksOf job) ≡ 0
-  unfolding recoverRefusal
+  unfolding recoverRefusalIn
   not-before =
       let M = good-iff job .0 good .0 in
       simp (word-of-good (job .m) (job .w) (job .c) (length word) (M .good) size, marks-of-good (job .m) (job .w) (job .c) (marksOf job) M)
 
   pub good-recovery : recoveryOf job word ≡ recovered bytes (job .m) (job .w) (job .c) word (marksOf job)
-  unfolding recoverOf
+  unfolding recoverIn
   good-recovery = ap (λ r. unlessBefore r (recovered bytes (job .m) (job .w) (job .c) word (marksOf job)) word (marksOf job)) not-before
 
   -- demand 2 of the recovery by the job's marks
-  pub job-demand : ((p : ℕ) → getD word p 0 < 256) → DemandTwo (job .m) (job .w) (job .c) word (marksOf job)
+  pub job-demand : ((p : ℕ) → getD word p 0 < 256) → DemandTwo bytes (job .m) (job .w) (job .c) word (marksOf job)
   job-demand b =
       let M = good-iff job .0 good .0 in
-      demand-two (job .m) (job .w) (job .c) word (marksOf job) (M .good) size b (M .size) (M .each)
+      demand-two bytes-sound (job .m) (job .w) (job .c) word (marksOf job) (M .good) size b (M .size) (M .each)
 
 -- what a good job answers; of the words that agree only if it is lent bytes
 data JobCase (job : Job) (word : List ℕ) (number : ℕ) : Type 0 where
@@ -132,7 +142,7 @@ data JobCase (job : Job) (word : List ℕ) (number : ℕ) : Type 0 where
   at-end : length word ≡ job .m * job .w → job .served ≡ 4294967295 → number ≡ 13 → JobCase job word number
   none-agrees : length word ≡ job .m * job .w → ¬ (job .served ≡ 4294967295) → ((y : List ℕ) → ¬ AgreesBy job word y)
       → (recoveryOf job word) .group ≡ groupBy job word
-      → (((p : ℕ) → getD word p 0 < 256) → Named (job .m) (job .w) (job .c) word (marksOf job) ((recoveryOf job word) .group))
+      → (((p : ℕ) → getD word p 0 < 256) → Named bytes (job .m) (job .w) (job .c) word (marksOf job) ((recoveryOf job word) .group))
       → number ≡ 9 → JobCase job word number
   one-agrees : length word ≡ job .m * job .w → ¬ (job .served ≡ 4294967295) → (((p : ℕ) → getD word p 0 < 256) → (y : List ℕ) × AgreesBy job word y)
       → number ≡ 0 → JobCase job word number
@@ -189,7 +199,7 @@ job-numbers job word number group g b (at-end h k e) = record {
 }
 job-numbers job word number group g b (none-agrees h k never q named e) = record {
   group-is = λ z. g z ∙ q;
-  named = λ z. subst (Named (job .m) (job .w) (job .c) word (marksOf job)) (sym (g z)) (named b);
+  named = λ z. subst (Named bytes (job .m) (job .w) (job .c) word (marksOf job)) (sym (g z)) (named b);
   long = (λ z. absurd (omega arith), λ p. absurd (p h));
   ended = (λ z. absurd (omega arith), λ p. absurd (k (p .1)));
   contradictory = (λ _. (h, k, never), λ _. e);
@@ -318,24 +328,9 @@ never-eight handle word desk k = go (serve-numbers handle word desk .one-of)
 
 -- Judge gives one of 0 to 6, or 8
 module _ (m w c : ℕ) (marks : List ℕ) where
-  marks-most : marksRefusal m w c marks ≤ 6
-  unfolding marksRefusal wordRefusal shapeRefusal
-  marks-most =
-      go (eqb m 0 || ltb 15 m) (eqb c 0 || ltb 4 c) (ltb w (c + 2) || ltb 16 w) (eqb (dataCount m w c) 0) (not (eqb (length marks) (placeCount m w)))
-      (not (areMarks marks))
-    where
-      go : (a b c d e f : Bool) → (((refuse 1 a orElse refuse 2 b orElse refuse 3 c orElse refuse 4 d) orElse refuse 5 e) orElse refuse 6 f) ≤ 6
-      go true b c d e f = omega arith
-      go false true c d e f = omega arith
-      go false false true d e f = omega arith
-      go false false false true e f = omega arith
-      go false false false false true f = omega arith
-      go false false false false false true = omega arith
-      go false false false false false false = omega arith
-
   judged-range : (judgedNumberOf m w c marks ≤ 6) ⊎ (judgedNumberOf m w c marks ≡ 8)
-  unfolding judgedNumberOf
-  judged-range = go (marksRefusal m w c marks) marks-most (ltb 2 (excess m w c marks))
+  unfolding judgedNumberIn
+  judged-range = go (marksRefusal m w c marks) (marks-most m w c marks) (ltb 2 (excess m w c marks))
     where
       go : (r : ℕ) → r ≤ 6 → (b : Bool) → ((r orElse refuse 8 b) ≤ 6) ⊎ ((r orElse refuse 8 b) ≡ 8)
       go zero h true = inr refl

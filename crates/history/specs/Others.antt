@@ -4,9 +4,9 @@ use mathlib.Core.Bool.{Bool, true, false, not, _&&_}
 use mathlib.Core.List.{List, [], _∷_}
 use Prim.Native.Nat.{ℕ}
 use lib.Dec.{eqb}
-use Rattle.desk.specs.declared.Desk.{Desk}
-use Rattle.desk.specs.Desks.{jobAt, slotOf, isOpen}
-use Rattle.desk.specs.Calls.{newJob}
+use Rattle.desk_record.specs.declared.Desk.{Desk}
+use Rattle.desk_record.specs.Desks.{jobAt, slotOf, isOpen}
+use Rattle.desk_open.specs.Open.{newJob}
 use Rattle.history.specs.History.{Call, Fresh, Open, Serve, Read, Close}
 
 -- a call that neither starts a new desk nor serves or closes this handle

@@ -7,11 +7,15 @@ use native.Mathlib.Omega.{arith}
 use borrow.Author.Tests.{eq-eqb, not-true}
 use lib.Dec.{eqb}
 use lib.ListN.{length}
-use Rattle.desk.specs.declared.Desk.{Desk}
-use Rattle.desk.specs.Desks.{emptyJob, jobAt, slotOf, isSound, isOpen}
-use Rattle.desk.specs.Calls.{handleRefusal, openNumber, openBy, openOf, newHandle, closeBy, closeOf, serveNumber, serveBy, serveOf, servedOnce}
-use Rattle.desk.specs.Laws.{sound-parts, sound-of}
-use Rattle.desk.specs.CallLaws.{open-parts}
+use Rattle.desk_record.specs.declared.Desk.{Desk}
+use Rattle.desk_job.specs.Jobs.{emptyJob}
+use Rattle.desk_record.specs.Desks.{jobAt, slotOf, isSound, isOpen}
+use Rattle.desk_record.specs.Refusal.{handleRefusal}
+use Rattle.desk_open.specs.Open.{openNumber, openBy, openOf, newHandle}
+use Rattle.desk_close.specs.Close.{closeBy, closeOf}
+use Rattle.desk_serve.specs.Serve.{serveNumber, serveBy, serveOf, servedOnce}
+use Rattle.desk_record.specs.Laws.{sound-parts, sound-of}
+use Rattle.desk_open.specs.OpenLaws.{open-parts}
 use Rattle.history.specs.History.{Call, Fresh, Open, Serve, Read, Close, step, after}
 use Rattle.history.specs.PutLaws.{and-of}
 use Rattle.history.specs.Effects.{holdsHandle}

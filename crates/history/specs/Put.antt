@@ -3,9 +3,10 @@ use mathlib.Core.Path.{_≡_}
 use mathlib.Core.Bool.{true}
 use Prim.Native.Nat.{ℕ, _<_}
 use lib.ListN.{length, set}
-use Rattle.desk.specs.declared.Job.{Job}
-use Rattle.desk.specs.declared.Desk.{Desk}
-use Rattle.desk.specs.Desks.{jobAt, isTaken, issueOf}
+use Rattle.desk_job.specs.declared.Job.{Job}
+use Rattle.desk_record.specs.declared.Desk.{Desk}
+use Rattle.desk_record.specs.Desks.{jobAt, issueOf}
+use Rattle.desk_job.specs.Jobs.{isTaken}
 
 -- "no u twice"
 abbrev pub Unique : Desk → Type 0

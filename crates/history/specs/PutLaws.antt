@@ -13,10 +13,11 @@ use lib.ListN.{length, length-set}
 use lib.Seq.{getD-set-same, getD-set-other}
 use Rattle.counting.specs.Test.{anyBelow}
 use Rattle.counting.specs.TestLaws.{any-at}
-use Rattle.desk.specs.declared.Job.{Job}
-use Rattle.desk.specs.declared.Desk.{Desk}
-use Rattle.desk.specs.Desks.{noJob, jobAt, isFree, isTaken, issueOf, slotOf, isIssued, isGood, isSoundSlot, hasIssue, isTwice}
-use Rattle.desk.specs.Laws.{Sound, holds, false-of, any-true, Taken, isFit, taken-of}
+use Rattle.desk_job.specs.declared.Job.{Job}
+use Rattle.desk_record.specs.declared.Desk.{Desk}
+use Rattle.desk_job.specs.Jobs.{noJob, isFree, isTaken, isGood}
+use Rattle.desk_record.specs.Desks.{jobAt, issueOf, slotOf, isIssued, isSoundSlot, hasIssue, isTwice}
+use Rattle.desk_record.specs.Laws.{Sound, holds, false-of, any-true, Taken, isFit, taken-of}
 use Rattle.history.specs.Put.{Unique, put, Apart}
 
 pub and-of : (a b : Bool) → a && b ≡ true → (a ≡ true) × (b ≡ true)

@@ -6,7 +6,7 @@
 -- which can issue the same: as of any two desks, such handles can't be told apart.
 use mathlib.Core.Path.{_≡_}
 use mathlib.Core.List.{List, _++_}
-use Rattle.desk.specs.Desks.{freshDesk}
+use Rattle.desk_record.specs.Desks.{freshDesk}
 use Rattle.history.specs.History.{Call, after, grown, answers, noted, ledgerOf}
 use Rattle.history.specs.Theorem.{Agrees}
 use Rattle.history.specs.TheoremLaws.{agrees}

@@ -6,8 +6,8 @@
 -- which can issue the same: as of any two desks, such handles can't be told apart.
 use mathlib.Core.Path.{_≡_, refl, sym, ap, _∙_}
 use mathlib.Core.List.{List, [], _∷_, _++_}
-use Rattle.desk.specs.declared.Desk.{Desk}
-use Rattle.desk.specs.Desks.{freshDesk}
+use Rattle.desk_record.specs.declared.Desk.{Desk}
+use Rattle.desk_record.specs.Desks.{freshDesk}
 use Rattle.history.specs.History.{Call, step, after, grown, Answered, answers, Ledger, emptyLedger, note, noted, ledgerOf}
 use Rattle.history.specs.TheoremLaws.{fresh-kept, kept-all, agrees}
 use Rattle.history.specs.Saved.{Saved}

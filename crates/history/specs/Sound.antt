@@ -1,8 +1,8 @@
 -- Every call keeps a sound desk sound, wherever the desk comes from; on any other all but Fresh answer 31 and leave it as it was.
 use mathlib.Core.Path.{_≡_}
 use lib.ListN.{length}
-use Rattle.desk.specs.declared.Desk.{Desk}
-use Rattle.desk.specs.Laws.{Sound}
+use Rattle.desk_record.specs.declared.Desk.{Desk}
+use Rattle.desk_record.specs.Laws.{Sound}
 use Rattle.history.specs.History.{Step}
 
 -- eight slots, and sound

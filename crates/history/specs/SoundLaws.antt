@@ -4,11 +4,16 @@ use mathlib.Core.Bool.{true, false, not}
 use mathlib.Core.List.{List, [], _∷_}
 use Prim.Native.Nat.{ℕ, zero, suc, _+_}
 use lib.Dec.{eqb}
-use Rattle.desk.specs.declared.Desk.{Desk}
-use Rattle.desk.specs.Desks.{emptyJob, jobAt, slotOf, isSound, isOpen}
-use Rattle.desk.specs.Calls.{handleRefusal, freeSlot, newHandle, newJob, openNumber, openBy, openOf, readBy, readOf, closeBy, closeOf, jobNumber, serveNumber}
-use Rattle.desk.specs.Calls.{serveBy, serveOf, servedOnce}
-use Rattle.desk.specs.CallLaws.{open-parts}
+use Rattle.desk_record.specs.declared.Desk.{Desk}
+use Rattle.desk_job.specs.Jobs.{emptyJob}
+use Rattle.desk_record.specs.Desks.{jobAt, slotOf, isSound, isOpen}
+use Rattle.desk_record.specs.Refusal.{handleRefusal}
+use Rattle.desk_open.specs.Open.{freeSlot, newHandle, newJob, openNumber, openBy, openOf}
+use Rattle.desk_close.specs.Read.{readBy, readOf}
+use Rattle.desk_close.specs.Close.{closeBy, closeOf}
+use Rattle.desk_serve.specs.Serve.{jobNumber, serveNumber}
+use Rattle.desk_serve.specs.Serve.{serveBy, serveOf, servedOnce}
+use Rattle.desk_open.specs.OpenLaws.{open-parts}
 use Rattle.shape.specs.Refusals.{refuse, _orElse_}
 use Rattle.shape.specs.RefusalsLaws.{orElse-zero}
 use Rattle.judge.specs.Answer.{judgedNumberOf}

@@ -5,10 +5,11 @@ use mathlib.Core.List.{List, [], _∷_}
 use Prim.Native.Nat.{ℕ}
 use lib.Dec.{eqb}
 use Rattle.recover.specs.Service.{recoverOf}
-use Rattle.desk.specs.declared.Job.{Job}
-use Rattle.desk.specs.declared.Desk.{Desk}
-use Rattle.desk.specs.Desks.{jobAt, slotOf, isOpen}
-use Rattle.desk.specs.Calls.{newJob, recoveryOf}
+use Rattle.desk_job.specs.declared.Job.{Job}
+use Rattle.desk_record.specs.declared.Desk.{Desk}
+use Rattle.desk_record.specs.Desks.{jobAt, slotOf, isOpen}
+use Rattle.desk_open.specs.Open.{newJob}
+use Rattle.desk_serve.specs.Serve.{recoveryOf}
 use Rattle.history.specs.History.{Call, Fresh, Open, Serve, Read, Close}
 
 -- a call that neither starts a new desk nor closes this handle; it may serve it

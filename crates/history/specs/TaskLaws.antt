@@ -8,11 +8,14 @@ use lib.ListN.{length, replicate}
 use lib.Seq.{take-at}
 use Rattle.judge.specs.Answer.{judgedNumberOf}
 use Rattle.recover.specs.Service.{recoverOf}
-use Rattle.desk.specs.declared.Desk.{Desk}
-use Rattle.desk.specs.Desks.{jobAt, slotOf, isOpen}
-use Rattle.desk.specs.Calls.{handleRefusal, openNumber, openBy, openOf, newJob, closeOf, recoveryOf, serveNumber, serveBy, serveOf, servedOnce}
-use Rattle.desk.specs.Laws.{judged-marked}
-use Rattle.desk.specs.CallLaws.{open-parts}
+use Rattle.desk_record.specs.declared.Desk.{Desk}
+use Rattle.desk_record.specs.Desks.{jobAt, slotOf, isOpen}
+use Rattle.desk_record.specs.Refusal.{handleRefusal}
+use Rattle.desk_open.specs.Open.{openNumber, openBy, openOf, newJob}
+use Rattle.desk_close.specs.Close.{closeOf}
+use Rattle.desk_serve.specs.Serve.{recoveryOf, serveNumber, serveBy, serveOf, servedOnce}
+use Rattle.desk_job.specs.JobLaws.{judged-marked}
+use Rattle.desk_open.specs.OpenLaws.{open-parts}
 use Rattle.history.specs.History.{Call, Fresh, Open, Serve, Read, Close, step, after}
 use Rattle.history.specs.PutLaws.{and-of, put-other}
 use Rattle.history.specs.Effects.{holdsHandle}

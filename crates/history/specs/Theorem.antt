@@ -4,10 +4,11 @@ use mathlib.Core.Bool.{true, false, not}
 use Prim.Native.Nat.{ℕ, _<_, _≤_}
 use lib.ListN.{length}
 use Rattle.shape.specs.Refusals.{refuse}
-use Rattle.desk.specs.declared.Desk.{Desk}
-use Rattle.desk.specs.Desks.{jobAt, issueOf, slotOf, isSound, isOpen}
-use Rattle.desk.specs.Calls.{handleRefusal, readOf}
-use Rattle.desk.specs.Laws.{Sound}
+use Rattle.desk_record.specs.declared.Desk.{Desk}
+use Rattle.desk_record.specs.Desks.{jobAt, issueOf, slotOf, isSound, isOpen}
+use Rattle.desk_record.specs.Refusal.{handleRefusal}
+use Rattle.desk_close.specs.Read.{readOf}
+use Rattle.desk_record.specs.Laws.{Sound}
 use Rattle.history.specs.History.{Ledger}
 use Rattle.history.specs.History.{isIn, isDistinct, isLive, servesOf}
 use Rattle.history.specs.Effects.{closed}

@@ -9,13 +9,17 @@ use native.Mathlib.Decide.{ℕ-discrete}
 use borrow.Author.Tests.{eqb-true, eqb-false, eq-eqb, ne-eqb, not-true}
 use lib.Dec.{eqb}
 use Rattle.shape.specs.Refusals.{refuse, _orElse_}
-use Rattle.desk.specs.declared.Desk.{Desk}
-use Rattle.desk.specs.Desks.{freshDesk, emptyJob, jobAt, issueOf, slotOf, isOpen}
-use Rattle.desk.specs.Calls.{handleRefusal, freeSlot, newHandle, newJob, openNumber, openBy, openOf, readBy, readOf, closeBy, closeOf}
-use Rattle.desk.specs.Calls.{serveNumber, serveBy, serveOf, servedOnce}
-use Rattle.desk.specs.Laws.{sound-of, false-of}
-use Rattle.desk.specs.CallLaws.{Openable, open-parts}
-use Rattle.desk.specs.ServeLaws.{job-room}
+use Rattle.desk_record.specs.declared.Desk.{Desk}
+use Rattle.desk_record.specs.Desks.{freshDesk, jobAt, issueOf, slotOf, isOpen}
+use Rattle.desk_job.specs.Jobs.{emptyJob}
+use Rattle.desk_record.specs.Refusal.{handleRefusal}
+use Rattle.desk_open.specs.Open.{freeSlot, newHandle, newJob, openNumber, openBy, openOf}
+use Rattle.desk_close.specs.Read.{readBy, readOf}
+use Rattle.desk_close.specs.Close.{closeBy, closeOf}
+use Rattle.desk_serve.specs.Serve.{serveNumber, serveBy, serveOf, servedOnce}
+use Rattle.desk_record.specs.Laws.{sound-of, false-of}
+use Rattle.desk_open.specs.OpenLaws.{Openable, open-parts}
+use Rattle.desk_serve.specs.ServeLaws.{job-room}
 use Rattle.history.specs.History.{Call, Fresh, Open, Serve, Read, Close, step, after, grown, answers, Ledger, emptyLedger, noteBy, note, noted, ledgerOf}
 use Rattle.counting.specs.Count.{one}
 use Rattle.history.specs.History.{isIn, times, isDistinct, isLive, servesOf}

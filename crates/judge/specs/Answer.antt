@@ -4,12 +4,17 @@ use Prim.Native.Nat.{ℕ, zero, suc}
 use lib.Dec.{ltb}
 use Rattle.shape.specs.Refusals.{refuse, _orElse_}
 use Rattle.code.specs.Marks.{excess}
-use Rattle.marks.specs.Refusal.{marksRefusal}
+use Rattle.shape.specs.Shapes.{Limits, byteLimits}
+use Rattle.marks.specs.Refusal.{marksRefusalIn}
 use Rattle.judge.specs.declared.Judged.{Judged}
 
 -- 8: undetermined, which is an excess above two; after 1 to 6
-unfoldable pub judgedNumberOf : ℕ → ℕ → ℕ → List ℕ → ℕ
-judgedNumberOf m w c marks = marksRefusal m w c marks orElse refuse 8 (ltb 2 (excess m w c marks))
+unfoldable pub judgedNumberIn : Limits → ℕ → ℕ → ℕ → List ℕ → ℕ
+judgedNumberIn L m w c marks = marksRefusalIn L m w c marks orElse refuse 8 (ltb 2 (excess m w c marks))
+
+-- in the edition of bytes
+abbrev pub judgedNumberOf : ℕ → ℕ → ℕ → List ℕ → ℕ
+judgedNumberOf = judgedNumberIn byteLimits
 
 -- the answer by its number
 abbrev pub judgedAt : ℕ → Judged

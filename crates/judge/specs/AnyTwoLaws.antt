@@ -5,8 +5,8 @@ use mathlib.Core.List.{List}
 use Prim.Native.Nat.{ℕ, _≤_, _<_}
 use native.Mathlib.Decide.{decLe}
 use native.Mathlib.Omega.{arith}
-use Rattle.code.specs.Edition.{bytes, bytes-sound}
-use Rattle.code.specs.EditionLaws.{bytes-few}
+use Rattle.byte_edition.specs.Edition.{bytes}
+use Rattle.byte_edition.specs.EditionLaws.{bytes-sound, bytes-few}
 use Rattle.code.specs.Marks.{excess}
 use Rattle.code.specs.Determined.{Ambiguous}
 use Rattle.code.specs.DeterminedLaws.{beyond}

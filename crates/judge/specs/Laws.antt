@@ -10,14 +10,15 @@ use lib.Dec.{ltb}
 use Rattle.counting.specs.Count.{countBelow}
 use Rattle.shape.specs.Refusals.{refuse}
 use Rattle.shape.specs.Shapes.{Good, sureCount}
-use Rattle.code.specs.Edition.{bytes, bytes-sound}
+use Rattle.byte_edition.specs.Edition.{bytes}
+use Rattle.byte_edition.specs.EditionLaws.{bytes-sound}
 use Rattle.code.specs.Marks.{lost, excess}
 use Rattle.code.specs.Determined.{Undetermined}
 use Rattle.code.specs.DeterminedLaws.{above-two, undetermined}
 use Rattle.marks.specs.Refusal.{Marked, marksRefusal}
 use Rattle.marks.specs.RefusalLaws.{good-of-marks, marks-of-good}
 use Rattle.judge.specs.declared.Judged.{Judged}
-use Rattle.judge.specs.Answer.{judgedNumberOf, judgedAt, judgedOf, judgedNumber}
+use Rattle.judge.specs.Answer.{judgedNumberOf, judgedNumberIn, judgedAt, judgedOf, judgedNumber}
 use Rattle.judge.specs.Sure.{firstLost}
 use Rattle.judge.specs.SureLaws.{first-length, first-mark, first-count, sure-excess, first-many}
 use Rattle.judge.specs.SureCount.{IsSure, Fails}
@@ -36,7 +37,7 @@ judged-number m w c marks = go (judgedNumberOf m w c marks)
 
 module _ (m w c : ℕ) (marks : List ℕ) (accepted : marksRefusal m w c marks ≡ 0) where
   pub number-of : judgedNumberOf m w c marks ≡ refuse 8 (ltb 2 (excess m w c marks))
-  unfolding judgedNumberOf
+  unfolding judgedNumberIn
   number-of = rw accepted
 
   above : 2 < excess m w c marks → judgedNumberOf m w c marks ≡ 8

@@ -7,18 +7,26 @@ use lib.Dec.{ltb}
 use lib.ListN.{length, getD}
 use Rattle.counting.specs.Test.{allBelow}
 use Rattle.shape.specs.Refusals.{refuse, _orElse_}
-use Rattle.shape.specs.Shapes.{Good, wordRefusal}
+use Rattle.shape.specs.Shapes.{Limits, byteLimits, GoodIn, wordRefusalIn}
 
 -- "n bytes, 1 for lost and 0 for present"
 unfoldable pub areMarks : List ℕ → Bool
 areMarks marks = allBelow (length marks) (λ p. ltb (getD marks p 0) 2)
 
 -- 6: "a mark is neither 0 nor 1", after 1 to 5
-unfoldable pub marksRefusal : ℕ → ℕ → ℕ → List ℕ → ℕ
-marksRefusal m w c marks = wordRefusal m w c (length marks) orElse refuse 6 (not (areMarks marks))
+unfoldable pub marksRefusalIn : Limits → ℕ → ℕ → ℕ → List ℕ → ℕ
+marksRefusalIn L m w c marks = wordRefusalIn L m w c (length marks) orElse refuse 6 (not (areMarks marks))
+
+-- in the edition of bytes
+abbrev pub marksRefusal : ℕ → ℕ → ℕ → List ℕ → ℕ
+marksRefusal = marksRefusalIn byteLimits
 
 -- a good shape with marks of its length, each 0 or 1
-pub record Marked (m w c : ℕ) (marks : List ℕ) : Type 0 where
-  pub good : Good m w c
+pub record MarkedIn (L : Limits) (m w c : ℕ) (marks : List ℕ) : Type 0 where
+  pub good : GoodIn L m w c
   pub size : length marks ≡ m * w
   pub each : (p : ℕ) → getD marks p 0 < 2
+
+-- in the edition of bytes
+abbrev pub Marked : ℕ → ℕ → ℕ → List ℕ → Type 0
+Marked = MarkedIn byteLimits

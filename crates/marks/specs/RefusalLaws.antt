@@ -12,10 +12,9 @@ use lib.ListN.{length, getD, List·getD-eq-default}
 use Rattle.counting.specs.TestLaws.{all-at, all-intro}
 use Rattle.shape.specs.Refusals.{_orElse_}
 use Rattle.shape.specs.RefusalsLaws.{refuse-zero, orElse-zero, refuse-most, orElse-most}
-use Rattle.shape.specs.Laws.{word-most}
-use Rattle.shape.specs.Shapes.{wordRefusal}
-use Rattle.groups.specs.LentLaws.{lent, not-refused}
-use Rattle.marks.specs.Refusal.{areMarks, marksRefusal, Marked}
+use Rattle.shape.specs.Laws.{word-most, good-of-word, word-of-good}
+use Rattle.shape.specs.Shapes.{Limits, wordRefusal}
+use Rattle.marks.specs.Refusal.{areMarks, marksRefusalIn, marksRefusal, MarkedIn}
 
 -- the first number that is not 0
 pub orElse-first : (r s : ℕ) → (r ≡ 0 → ⊥) → r orElse s ≡ r
@@ -36,27 +35,28 @@ marks-each marks h = is-true _ (all-intro (length marks) (λ p. ltb (getD marks 
 pub other-mark : (marks : List ℕ) (p : ℕ) → 1 < getD marks p 0 → areMarks marks ≡ false
 other-mark marks p h = not-true (areMarks marks) (is-true _ (not-T (areMarks marks) (λ t. let k = each-mark marks t p in omega arith)))
 
-module _ (m w c : ℕ) (marks : List ℕ) where
-  pub good-of-marks : marksRefusal m w c marks ≡ 0 → Marked m w c marks
-  unfolding marksRefusal
+module _ {L : Limits} (m w c : ℕ) (marks : List ℕ) where
+  pub good-of-marks : marksRefusalIn L m w c marks ≡ 0 → MarkedIn L m w c marks
+  unfolding marksRefusalIn
   good-of-marks e =
       let z = orElse-zero _ _ e in
-      let L = lent m w c marks (z .0) in
+      let g = good-of-word m w c (length marks) (z .0) in
       let t : areMarks marks ≡ true = not-false _ (refuse-zero 5 _ (z .1)) in
       record {
-        good = L .good;
-        size = L .size;
+        good = g .0;
+        size = g .1;
         each = each-mark marks (rw t tt);
       }
 
-  pub marks-of-good : Marked m w c marks → marksRefusal m w c marks ≡ 0
-  unfolding marksRefusal
+  pub marks-of-good : MarkedIn L m w c marks → marksRefusalIn L m w c marks ≡ 0
+  unfolding marksRefusalIn
   marks-of-good M =
-      simp (not-refused m w c marks (record { good = M .good; size = M .size }), marks-each marks (λ p _. M .each p))
+      simp (word-of-good m w c (length marks) (M .good) (M .size), marks-each marks (λ p _. M .each p))
 
-  -- the numbers of these refusals
+-- the numbers of these refusals, of bytes
+module _ (m w c : ℕ) (marks : List ℕ) where
   pub marks-most : marksRefusal m w c marks ≤ 6
-  unfolding marksRefusal
+  unfolding marksRefusalIn
   marks-most =
       orElse-most 6 (wordRefusal m w c (length marks)) _ (let h = word-most m w c (length marks) in omega arith)
       (refuse-most 6 6 (not (areMarks marks)) (omega arith))

@@ -1,18 +1,18 @@
--- Demand 3 of the services as they run: calls of Repair first, in any order, repeated and refused ones included, do not change what a call
--- of Recover answers.
+-- Demand 3 of the services as they run, in any edition: calls of Repair first, in any order, repeated and refused ones included, do not
+-- change what a call of Recover answers.
 use mathlib.Core.Path.{_≡_}
 use mathlib.Core.Logic.{_↔_}
 use mathlib.Core.List.{List, [], _∷_}
 use Prim.Native.Nat.{ℕ, _*_, _<_}
 use lib.ListN.{replicate}
-use Rattle.marks.specs.Refusal.{Marked}
-use Rattle.code.specs.Edition.{bytes}
+use Rattle.marks.specs.Refusal.{MarkedIn}
+use Rattle.code.specs.Edition.{Edition}
 use Rattle.code.specs.Word.{Symbols}
 use Rattle.code.specs.Marks.{excess}
 use Rattle.code.specs.Answer.{Outcome, SameEnd}
 use Rattle.code.specs.Order.{Held}
-use Rattle.recover.specs.Service.{recoverOf}
-use Rattle.repair.specs.Service.{repairOf}
+use Rattle.recover.specs.Service.{recoverIn}
+use Rattle.repair.specs.Service.{repairIn}
 
 -- a word and its marks
 abbrev pub held : List ℕ → List ℕ → Held
@@ -23,32 +23,32 @@ abbrev pub leftBy : Outcome → Held
 leftBy o = held (o .word) (o .marks)
 
 -- "Repair group g": what one call leaves of word and marks, whatever it answers
-unfoldable pub heldAfter : ℕ → ℕ → ℕ → ℕ → Held → Held
-heldAfter m w c g h = leftBy (repairOf m w c g (h .word) (h .marks))
+unfoldable pub heldAfter : Edition → ℕ → ℕ → ℕ → ℕ → Held → Held
+heldAfter E m w c g h = leftBy (repairIn E m w c g (h .word) (h .marks))
 
 -- what a list of such calls leaves, the first first
-unfoldable pub heldAfterList : ℕ → ℕ → ℕ → List ℕ → Held → Held
-heldAfterList m w c [] h = h
-heldAfterList m w c (g ∷ gs) h = heldAfterList m w c gs (heldAfter m w c g h)
+unfoldable pub heldAfterList : Edition → ℕ → ℕ → ℕ → List ℕ → Held → Held
+heldAfterList E m w c [] h = h
+heldAfterList E m w c (g ∷ gs) h = heldAfterList E m w c gs (heldAfter E m w c g h)
 
 -- "Recover": what a call answers and leaves of what is held
-abbrev pub recoverHeld : ℕ → ℕ → ℕ → Held → Outcome
-recoverHeld m w c h = recoverOf m w c (h .word) (h .marks)
+abbrev pub recoverHeld : Edition → ℕ → ℕ → ℕ → Held → Outcome
+recoverHeld E m w c h = recoverIn E m w c (h .word) (h .marks)
 
 -- the recovery after the repairs of a list
-abbrev pub recoverAfter : ℕ → ℕ → ℕ → List ℕ → List ℕ → List ℕ → Outcome
-recoverAfter m w c list word marks = recoverHeld m w c (heldAfterList m w c list (held word marks))
+abbrev pub recoverAfter : Edition → ℕ → ℕ → ℕ → List ℕ → List ℕ → List ℕ → Outcome
+recoverAfter E m w c list word marks = recoverHeld E m w c (heldAfterList E m w c list (held word marks))
 
 -- ---- calls that are accepted
 -- a good shape, n bytes and n marks, each 0 or 1
-pub record Ready (m w c : ℕ) (h : Held) : Type 0 where
-  pub symbols : Symbols bytes (m * w) (h .word)
-  pub marked : Marked m w c (h .marks)
+pub record Ready (E : Edition) (m w c : ℕ) (h : Held) : Type 0 where
+  pub symbols : Symbols E (m * w) (h .word)
+  pub marked : MarkedIn (E .limits) m w c (h .marks)
 
 -- "Group repairs first, in any order, repeated and refused ones included, do not change what a recovery answers": the recovery after the
 -- calls of the list gives the number and the group of the recovery at once, 8 exactly when the excess of the start's marks is above two and, where it is
 -- done, the same n bytes with all marks clear.
-pub record OrderHolds (m w c : ℕ) (list word marks : List ℕ) : Type 0 where
-  pub same : SameEnd (recoverAfter m w c list word marks) (recoverOf m w c word marks)
-  pub eight : ((recoverAfter m w c list word marks) .number ≡ 8) ↔ (2 < excess m w c marks)
-  pub clear : (recoverAfter m w c list word marks) .number ≡ 0 → (recoverAfter m w c list word marks) .marks ≡ replicate (m * w) 0
+pub record OrderHolds (E : Edition) (m w c : ℕ) (list word marks : List ℕ) : Type 0 where
+  pub same : SameEnd (recoverAfter E m w c list word marks) (recoverIn E m w c word marks)
+  pub eight : ((recoverAfter E m w c list word marks) .number ≡ 8) ↔ (2 < excess m w c marks)
+  pub clear : (recoverAfter E m w c list word marks) .number ≡ 0 → (recoverAfter E m w c list word marks) .marks ≡ replicate (m * w) 0

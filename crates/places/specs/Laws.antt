@@ -9,7 +9,7 @@ use native.Mathlib.Omega.{arith}
 use lib.Dec.{eqb, leb}
 use lib.ListN.{length, getD, length-map}
 use borrow.Author.Tests.{le-leb, lt-leb, eq-eqb, ne-eqb}
-use Rattle.shape.specs.Shapes.{Good, placeCount, dataCount}
+use Rattle.shape.specs.Shapes.{Limits, GoodIn, Good, placeCount, dataCount}
 use Rattle.shape.specs.Laws.{data-and-checks, word-of-good, buffers-of-good}
 use Rattle.places.specs.Places.{isCheck, othersFrom, dataPlaces, bytesAt, extractOf, placedOf, mark, checkMarks, extractedData, placedWord, markedChecks}
 use Rattle.counting.specs.Count.{totalBelow, countBelow, one}
@@ -37,7 +37,7 @@ check-last m w c g j e h = check-at m w c g j h ∙ rw (eq-eqb (g + 1) m e) (go 
     go (yes a) = let b : w ≤ j + (c + 2) = omega arith in rw (le-leb w (j + c) a) (sym (le-leb w (j + (c + 2)) b))
     go (no a) = let b : j + c < w = omega arith in rw (lt-leb w (j + c) b)
 
-module _ {m w c : ℕ} (good : Good m w c) where
+module _ {L : Limits} {m w c : ℕ} (good : GoodIn L m w c) where
   -- "the last c places of every group"
   pub checks-inner : (g : ℕ) → g + 1 < m → countBelow w (λ j. isCheck m w c (g * w + j)) ≡ c
   checks-inner g l =
@@ -79,7 +79,8 @@ module _ {m w c : ℕ} (good : Good m w c) where
   unfolding extractOf placedOf dataPlaces bytesAt
   extract-placed bytes e = FromLaws.others-spread (isCheck m w c) 0 (placeCount m w) [] bytes refl (e ∙ sym data-length)
 
-  -- what a call that is not refused leaves
+-- of bytes: what a call that is not refused leaves
+module _ {m w c : ℕ} (good : Good m w c) where
   pub extracted-data : (word bytes : List ℕ) → length word ≡ placeCount m w → length bytes ≡ dataCount m w c → extractedData m w c word bytes ≡ extractOf m w c word
   unfolding extractedData
   extracted-data word bytes e f = rw (buffers-of-good m w c (length word) (length bytes) good e f)

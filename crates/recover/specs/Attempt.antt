@@ -4,13 +4,13 @@ use mathlib.Core.Bool.{true, false}
 use mathlib.Core.List.{List}
 use Prim.Native.Nat.{ℕ, _*_, _≤_}
 use lib.ListN.{length}
-use Rattle.code.specs.Edition.{bytes}
+use Rattle.byte_edition.specs.Edition.{bytes}
 use Rattle.code.specs.Marks.{excess}
 use Rattle.code.specs.Contradiction.{contradictingGroup}
 use Rattle.code.specs.Recovery.{Agrees}
-use Rattle.shape.specs.Shapes.{Good}
+use Rattle.shape.specs.Shapes.{Limits, byteLimits, GoodIn}
 use Rattle.syndrome.specs.declared.Tested.{Tested}
-use Rattle.recover.specs.Service.{recoverRefusal}
+use Rattle.recover.specs.Service.{recoverRefusalIn}
 
 -- where it succeeds the codeword that agrees is written; else nothing is, the contradicting group is named, and for an excess of at most two
 -- no codeword agrees
@@ -20,8 +20,12 @@ pub record Attempt (m w c : ℕ) (marks before after : List ℕ) (tested : Teste
   pub group : tested .group ≡ contradictingGroup bytes m w c before marks
 
 -- a call that is not refused by its shape, lengths or marks
-pub record Accepted (m w c : ℕ) (word marks : List ℕ) : Type 0 where
-  pub refusal : recoverRefusal m w c word marks ≡ 0
-  pub good : Good m w c
+pub record AcceptedIn (L : Limits) (m w c : ℕ) (word marks : List ℕ) : Type 0 where
+  pub refusal : recoverRefusalIn L m w c word marks ≡ 0
+  pub good : GoodIn L m w c
   pub word-size : length word ≡ m * w
   pub marks-size : length marks ≡ m * w
+
+-- in the edition of bytes
+abbrev pub Accepted : ℕ → ℕ → ℕ → List ℕ → List ℕ → Type 0
+Accepted = AcceptedIn byteLimits

@@ -9,8 +9,8 @@ use native.Mathlib.Omega.{arith}
 use borrow.Author.Tests.{le-ltb}
 use lib.Dec.{T, ltb}
 use lib.ListN.{length, getD}
-use Rattle.code.specs.Edition.{bytes, bytes-sound}
-use Rattle.code.specs.EditionLaws.{bytes-few}
+use Rattle.byte_edition.specs.Edition.{bytes}
+use Rattle.byte_edition.specs.EditionLaws.{bytes-sound, bytes-few}
 use Rattle.code.specs.Word.{isCodeword, Symbols}
 use Rattle.code.specs.Marks.{excess}
 use Rattle.code.specs.Answer.{refused, contradictory, written}
@@ -20,15 +20,15 @@ use Rattle.code.specs.ContradictionLaws.{same-groups}
 use Rattle.code.specs.Recovery.{Agrees, recovered}
 use Rattle.code.specs.RecoveryLaws.{recovered-eight, recovered-nine, recovered-done}
 use Rattle.shape.specs.RefusalsLaws.{orElse-zero, orElse-most}
-use Rattle.shape.specs.Shapes.{wordRefusal}
+use Rattle.shape.specs.Shapes.{Limits, wordRefusalIn, wordRefusal}
 use Rattle.shape.specs.Laws.{good-of-word, word-most}
-use Rattle.marks.specs.Refusal.{marksRefusal}
+use Rattle.marks.specs.Refusal.{marksRefusalIn}
 use Rattle.marks.specs.RefusalLaws.{good-of-marks, marks-most}
 use Rattle.syndrome.specs.Tests.{brokenGroup}
 use Rattle.candidate.specs.Mended.{IsCandidate}
-use Rattle.recover.specs.Service.{unlessBefore, recoverRefusal, recoverOf}
+use Rattle.recover.specs.Service.{unlessBefore, recoverRefusal, recoverRefusalIn, recoverOf, recoverIn}
 use Rattle.recover.specs.ServiceLaws.{unless-before}
-use Rattle.recover.specs.Attempt.{Attempt, Accepted}
+use Rattle.recover.specs.Attempt.{Attempt, AcceptedIn, Accepted}
 
 module _ (m w c : ℕ) (marks word x : List ℕ) (size : length word ≡ m * w) (small : (p : ℕ) → getD x p 0 < 256) (C : IsCandidate m w c marks word x) where
   group-named : brokenGroup m w c x ≡ contradictingGroup bytes m w c word marks
@@ -52,22 +52,22 @@ module _ (m w c : ℕ) (marks word x : List ℕ) (size : length word ≡ m * w) 
     group = group-named;
   }
 
-pub accepted : (m w c : ℕ) (word marks : List ℕ) (r : ℕ) → r ≡ recoverRefusal m w c word marks → r ≡ 0 → Accepted m w c word marks
-unfolding recoverRefusal
-accepted m w c word marks r e z =
-    let p = orElse-zero (wordRefusal m w c (length word)) (marksRefusal m w c marks) (sym e ∙ z) in
+pub accepted : {L : Limits} (m w c : ℕ) (word marks : List ℕ) (r : ℕ) → r ≡ recoverRefusalIn L m w c word marks → r ≡ 0 → AcceptedIn L m w c word marks
+unfolding recoverRefusalIn
+accepted {L} m w c word marks r e z =
+    let p = orElse-zero (wordRefusalIn L m w c (length word)) (marksRefusalIn L m w c marks) (sym e ∙ z) in
     let g = good-of-word m w c (length word) (p .0) in
     record { refusal = sym e ∙ z; good = g .0; word-size = g .1; marks-size = good-of-marks m w c marks (p .1) .size }
 
 -- the numbers of these refusals
 pub recover-most : (m w c : ℕ) (word marks : List ℕ) → recoverRefusal m w c word marks ≤ 6
-unfolding recoverRefusal
+unfolding recoverRefusalIn
 recover-most m w c word marks =
     orElse-most 6 (wordRefusal m w c (length word)) _ (let h = word-most m w c (length word) in omega arith) (marks-most m w c marks)
 
 -- what the service answers, by how the call goes
 pub service-refused : (m w c : ℕ) (word marks : List ℕ) (r : ℕ) → r ≡ recoverRefusal m w c word marks → (r ≡ 0 → ⊥) → recoverOf m w c word marks ≡ refused r word marks
-unfolding recoverOf
+unfolding recoverIn
 service-refused m w c word marks r e n =
     ap (λ q. unlessBefore q (recovered bytes m w c word marks) word marks) (sym e) ∙ unless-before r (recovered bytes m w c word marks) word marks n
 
@@ -76,7 +76,7 @@ module _ (m w c : ℕ) (word marks : List ℕ) (A : Accepted m w c word marks) (
   symbols = record { size = A .word-size; each = small }
 
   service : recoverOf m w c word marks ≡ recovered bytes m w c word marks
-  unfolding recoverOf
+  unfolding recoverIn
   service = ap (λ r. unlessBefore r (recovered bytes m w c word marks) word marks) (A .refusal)
 
   wide : 0 < w

@@ -1,51 +1,52 @@
 -- Demand 2 of Recover as it runs: "Recovery is refused as undetermined exactly when two different codewords agree at every present place, else
--- as contradictory exactly when no codeword agrees with the present bytes, else the single agreeing codeword stands in the word"; and the group that a 9 carries. It is stated
--- of recoverOf, with which the contract of recover::recover is an equation.
+-- as contradictory exactly when no codeword agrees with the present bytes, else the single agreeing codeword stands in the word"; and the
+-- group that a 9 carries. It is stated for every edition,
+-- of recoverIn, with which, in the edition of bytes, the contract of recover::recover is an equation.
 use mathlib.Core.Path.{_≡_}
 use mathlib.Core.Logic.{_↔_}
 use mathlib.Core.List.{List}
 use Prim.Native.Nat.{ℕ, _*_, _<_, _≤_}
 use lib.ListN.{replicate}
-use Rattle.code.specs.Edition.{bytes}
+use Rattle.code.specs.Edition.{Edition}
 use Rattle.code.specs.Marks.{lostIn}
 use Rattle.code.specs.Answer.{Outcome}
 use Rattle.code.specs.OneGroup.{LocallyAgrees}
 use Rattle.code.specs.Stretch.{stretch}
 use Rattle.code.specs.Determined.{Undetermined}
 use Rattle.code.specs.Recovery.{Agrees}
-use Rattle.recover.specs.Service.{recoverOf}
+use Rattle.recover.specs.Service.{recoverIn}
 
-module _ (m w c : ℕ) (word marks : List ℕ) where
+module _ (E : Edition) (m w c : ℕ) (word marks : List ℕ) where
   -- no filling of the lost places of group i meets its own equations
   abbrev pub Broken : ℕ → Type 0
-  Broken i = (y : List ℕ) → LocallyAgrees bytes w c (stretch w i marks) (stretch w i word) y → ⊥
+  Broken i = (y : List ℕ) → LocallyAgrees E w c (stretch w i marks) (stretch w i word) y → ⊥
 
   -- g is "the lowest group whose present bytes no filling can satisfy locally, or m if each group is sound and only the equations across fail"
   pub record Named (g : ℕ) : Type 0 where
     pub most : g ≤ m
     pub broken : g < m → Broken g
-    pub lower : (i : ℕ) → i < g → (y : List ℕ) × LocallyAgrees bytes w c (stretch w i marks) (stretch w i word) y
+    pub lower : (i : ℕ) → i < g → (y : List ℕ) × LocallyAgrees E w c (stretch w i marks) (stretch w i word) y
     -- a group with c or more lost places is never named: it can always be filled
     pub few : g < m → lostIn w marks g < c
 
   -- the number given back, and the word and the marks at the end of the call
   abbrev pub end : Outcome
-  end = recoverOf m w c word marks
+  end = recoverIn E m w c word marks
 
   -- what demand 2 says of a call that is not refused 1 to 6
   pub record DemandTwo : Type 0 where
     -- 8 exactly when two different codewords agree at every present place
-    pub eight : (end .number ≡ 8) ↔ Undetermined bytes m w c marks
+    pub eight : (end .number ≡ 8) ↔ Undetermined E m w c marks
     -- else 9 exactly when no codeword agrees with the present bytes
-    pub nine : (end .number ≡ 9) ↔ ((¬ Undetermined bytes m w c marks) × ((y : List ℕ) → Agrees bytes m w c marks word y → ⊥))
+    pub nine : (end .number ≡ 9) ↔ ((¬ Undetermined E m w c marks) × ((y : List ℕ) → Agrees E m w c marks word y → ⊥))
     -- "A 9 now carries a group number"; another number carries none
     pub group : end .number ≡ 9 → Named (end .group)
     pub no-group : ¬ (end .number ≡ 9) → end .group ≡ 0
     -- else done
-    pub done : (end .number ≡ 0) ↔ ((¬ Undetermined bytes m w c marks) × ((y : List ℕ) × Agrees bytes m w c marks word y))
+    pub done : (end .number ≡ 0) ↔ ((¬ Undetermined E m w c marks) × ((y : List ℕ) × Agrees E m w c marks word y))
     -- the word holds a codeword that agrees, and no other agrees
-    pub agrees : end .number ≡ 0 → Agrees bytes m w c marks word (end .word)
-    pub only : end .number ≡ 0 → (y : List ℕ) → Agrees bytes m w c marks word y → y ≡ end .word
+    pub agrees : end .number ≡ 0 → Agrees E m w c marks word (end .word)
+    pub only : end .number ≡ 0 → (y : List ℕ) → Agrees E m w c marks word y → y ≡ end .word
     -- all marks are cleared
     pub clear : end .number ≡ 0 → end .marks ≡ replicate (m * w) 0
     -- on 8 and 9 word and marks stay as they were

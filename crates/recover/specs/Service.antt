@@ -3,9 +3,10 @@ use mathlib.Core.List.{List}
 use Prim.Native.Nat.{ℕ, zero, suc}
 use lib.ListN.{length}
 use Rattle.shape.specs.Refusals.{_orElse_}
-use Rattle.shape.specs.Shapes.{wordRefusal}
-use Rattle.marks.specs.Refusal.{marksRefusal}
-use Rattle.code.specs.Edition.{bytes}
+use Rattle.shape.specs.Shapes.{Limits, byteLimits, wordRefusalIn}
+use Rattle.marks.specs.Refusal.{marksRefusalIn}
+use Rattle.code.specs.Edition.{Edition}
+use Rattle.byte_edition.specs.Edition.{bytes}
 use Rattle.code.specs.Answer.{Outcome, refused}
 use Rattle.code.specs.Recovery.{recovered}
 
@@ -15,9 +16,17 @@ unlessBefore zero o word marks = o
 unlessBefore (suc r) o word marks = refused (suc r) word marks
 
 -- 1 to 6: the shape, the lengths of word and marks, the marks
-unfoldable pub recoverRefusal : ℕ → ℕ → ℕ → List ℕ → List ℕ → ℕ
-recoverRefusal m w c word marks = wordRefusal m w c (length word) orElse marksRefusal m w c marks
+unfoldable pub recoverRefusalIn : Limits → ℕ → ℕ → ℕ → List ℕ → List ℕ → ℕ
+recoverRefusalIn L m w c word marks = wordRefusalIn L m w c (length word) orElse marksRefusalIn L m w c marks
 
 -- then 8, 9 with the group that contradicts, or the codeword
-unfoldable pub recoverOf : ℕ → ℕ → ℕ → List ℕ → List ℕ → Outcome
-recoverOf m w c word marks = unlessBefore (recoverRefusal m w c word marks) (recovered bytes m w c word marks) word marks
+unfoldable pub recoverIn : Edition → ℕ → ℕ → ℕ → List ℕ → List ℕ → Outcome
+recoverIn E m w c word marks = unlessBefore (recoverRefusalIn (E .limits) m w c word marks) (recovered E m w c word marks) word marks
+
+-- the refusals 1 to 6 of bytes
+abbrev pub recoverRefusal : ℕ → ℕ → ℕ → List ℕ → List ℕ → ℕ
+recoverRefusal = recoverRefusalIn byteLimits
+
+-- Recover in the edition of bytes
+abbrev pub recoverOf : ℕ → ℕ → ℕ → List ℕ → List ℕ → Outcome
+recoverOf = recoverIn bytes

@@ -1,33 +1,33 @@
 -- Demand 2 of Repair as it runs: "One group's repair obeys the same rule over its own equations", and touches nothing outside its group. It is
--- stated of repairOf, with which the contract of repair::repair is an equation.
+-- stated for every edition, of repairIn, with which, in the edition of bytes, the contract of repair::repair is an equation.
 use mathlib.Core.Path.{_≡_}
 use mathlib.Core.Logic.{_↔_, _⊎_}
 use mathlib.Core.List.{List}
 use Prim.Native.Nat.{ℕ, suc, _*_, _<_, _≤_}
 use lib.ListN.{length, getD, replicate}
-use Rattle.code.specs.Edition.{bytes}
+use Rattle.code.specs.Edition.{Edition}
 use Rattle.code.specs.Marks.{lostIn}
 use Rattle.code.specs.Answer.{Outcome}
 use Rattle.code.specs.Stretch.{stretch}
 use Rattle.code.specs.OneGroup.{LocallyAgrees, LocallyUndetermined}
-use Rattle.repair.specs.Service.{repairOf}
+use Rattle.repair.specs.Service.{repairIn}
 
 -- a place before or after the stretch of group g
 abbrev pub Outside : ℕ → ℕ → ℕ → Type 0
 Outside w g p = (p < g * w) ⊎ (suc g * w ≤ p)
 
-module _ (m w c g : ℕ) (word marks : List ℕ) where
+module _ (E : Edition) (m w c g : ℕ) (word marks : List ℕ) where
   -- the number given back, and the word and the marks at the end of the call
   abbrev pub end : Outcome
-  end = repairOf m w c g word marks
+  end = repairIn E m w c g word marks
 
   -- a stretch that meets the group's own equations and agrees with the group's present bytes
   abbrev pub OwnAgrees : List ℕ → Type 0
-  OwnAgrees y = LocallyAgrees bytes w c (stretch w g marks) (stretch w g word) y
+  OwnAgrees y = LocallyAgrees E w c (stretch w g marks) (stretch w g word) y
 
   -- two different stretches that meet the group's own equations agree at its present places
   abbrev pub OwnUndetermined : Type 0
-  OwnUndetermined = LocallyUndetermined bytes w c (stretch w g marks)
+  OwnUndetermined = LocallyUndetermined E w c (stretch w g marks)
 
   -- what demand 2 says of a call that is not refused 1 to 7
   pub record DemandTwo : Type 0 where
@@ -56,8 +56,8 @@ module _ (m w c g : ℕ) (word marks : List ℕ) where
     pub marks-kept : ¬ (end .number ≡ 0) → end .marks ≡ marks
 
 -- Two repairs of group g with the same marks end alike: the same number and group and, where the number is 0, the same stretch and marks.
-pub record SameRepair (m w c g : ℕ) (word₁ word₂ marks : List ℕ) : Type 0 where
-  pub number-same : (end m w c g word₁ marks) .number ≡ (end m w c g word₂ marks) .number
-  pub group-same : (end m w c g word₁ marks) .group ≡ (end m w c g word₂ marks) .group
-  pub part-same : (end m w c g word₁ marks) .number ≡ 0 → stretch w g ((end m w c g word₁ marks) .word) ≡ stretch w g ((end m w c g word₂ marks) .word)
-  pub marks-same : (end m w c g word₁ marks) .number ≡ 0 → (end m w c g word₁ marks) .marks ≡ (end m w c g word₂ marks) .marks
+pub record SameRepair (E : Edition) (m w c g : ℕ) (word₁ word₂ marks : List ℕ) : Type 0 where
+  pub number-same : (end E m w c g word₁ marks) .number ≡ (end E m w c g word₂ marks) .number
+  pub group-same : (end E m w c g word₁ marks) .group ≡ (end E m w c g word₂ marks) .group
+  pub part-same : (end E m w c g word₁ marks) .number ≡ 0 → stretch w g ((end E m w c g word₁ marks) .word) ≡ stretch w g ((end E m w c g word₂ marks) .word)
+  pub marks-same : (end E m w c g word₁ marks) .number ≡ 0 → (end E m w c g word₁ marks) .marks ≡ (end E m w c g word₂ marks) .marks

@@ -6,18 +6,28 @@ use mathlib.Core.List.{List}
 use Prim.Native.Nat.{ℕ}
 use lib.Dec.{ltb}
 use Rattle.shape.specs.Refusals.{refuse, _orElse_}
-use Rattle.recover.specs.Service.{unlessBefore, recoverRefusal}
-use Rattle.code.specs.Edition.{bytes}
+use Rattle.recover.specs.Service.{unlessBefore, recoverRefusalIn}
+use Rattle.shape.specs.Shapes.{Limits, byteLimits}
+use Rattle.code.specs.Edition.{Edition}
+use Rattle.byte_edition.specs.Edition.{bytes}
 use Rattle.code.specs.Answer.{Outcome}
 use Rattle.code.specs.Repair.{repairedGroup, Satisfies}
 
 -- 1 to 7: the shape, the lengths of word and marks, the marks, the group number
-unfoldable pub repairRefusal : ℕ → ℕ → ℕ → ℕ → List ℕ → List ℕ → ℕ
-repairRefusal m w c g word marks = recoverRefusal m w c word marks orElse refuse 7 (not (ltb g m))
+unfoldable pub repairRefusalIn : Limits → ℕ → ℕ → ℕ → ℕ → List ℕ → List ℕ → ℕ
+repairRefusalIn L m w c g word marks = recoverRefusalIn L m w c word marks orElse refuse 7 (not (ltb g m))
 
 -- then 8, 9 with its own group, or the filling
-unfoldable pub repairOf : ℕ → ℕ → ℕ → ℕ → List ℕ → List ℕ → Outcome
-repairOf m w c g word marks = unlessBefore (repairRefusal m w c g word marks) (repairedGroup bytes w c g word marks) word marks
+unfoldable pub repairIn : Edition → ℕ → ℕ → ℕ → ℕ → List ℕ → List ℕ → Outcome
+repairIn E m w c g word marks = unlessBefore (repairRefusalIn (E .limits) m w c g word marks) (repairedGroup E w c g word marks) word marks
+
+-- the refusals 1 to 7 of bytes
+abbrev pub repairRefusal : ℕ → ℕ → ℕ → ℕ → List ℕ → List ℕ → ℕ
+repairRefusal = repairRefusalIn byteLimits
+
+-- Repair in the edition of bytes
+abbrev pub repairOf : ℕ → ℕ → ℕ → ℕ → List ℕ → List ℕ → Outcome
+repairOf = repairIn bytes
 
 -- where an attempt on a stretch succeeds the filling is written; else nothing is, and no filling satisfies the group's equations
 pub record PartAttempt (w c : ℕ) (marks before after : List ℕ) (ok : Bool) : Type 0 where

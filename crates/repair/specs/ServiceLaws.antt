@@ -11,6 +11,7 @@ use lib.Dec.{T, ltb}
 use lib.ListN.{length, getD, take, drop}
 use lib.Seq.{ext-getD}
 use Rattle.shape.specs.Refusals.{refuse, _orElse_}
+use Rattle.shape.specs.Shapes.{Limits}
 use Rattle.shape.specs.RefusalsLaws.{refuse-most, orElse-most}
 use Rattle.shape.specs.declared.Mending.{Mending}
 use Rattle.shape.specs.Answers.{mendingAt}
@@ -18,9 +19,11 @@ use Rattle.groups.specs.Lent.{Lent}
 use Rattle.groups.specs.LentLaws.{part-stretch, part-length, with-lent}
 use Rattle.recover.specs.Attempt.{Accepted}
 use Rattle.recover.specs.AttemptLaws.{recover-most}
-use Rattle.recover.specs.Service.{unlessBefore, recoverRefusal}
+use Rattle.recover.specs.Service.{unlessBefore, recoverRefusalIn, recoverRefusal}
 use Rattle.recover.specs.ServiceLaws.{unless-before}
-use Rattle.code.specs.Edition.{bytes, bytes-sound}
+use Rattle.byte_edition.specs.Edition.{bytes}
+use Rattle.byte_edition.specs.EditionLaws.{bytes-sound}
+use Rattle.code.specs.Edition.{Edition}
 use Rattle.code.specs.Word.{isLocal, localSum}
 use Rattle.code.specs.WordLaws.{local-zero}
 use Rattle.code.specs.Marks.{lostIn}
@@ -32,7 +35,7 @@ use Rattle.code.specs.Stretch.{withStretch}
 use Rattle.code.specs.StretchLaws.{own-place}
 use Rattle.marks.specs.RefusalLaws.{orElse-first}
 use Rattle.fill.specs.Filled.{Filled}
-use Rattle.repair.specs.Service.{repairRefusal, repairOf, PartAttempt}
+use Rattle.repair.specs.Service.{repairRefusal, repairRefusalIn, repairOf, repairIn, PartAttempt}
 
 -- the stretch as copied (before), its filling x, and what the test of all the group's equations says of x
 module _ (w c : ℕ) (wide : 0 < w) (narrow : w ≤ 16) (few-checks : c ≤ 4) (marks part before x : List ℕ) (size : length part ≡ w) (marks-size : length marks ≡ w)
@@ -80,24 +83,26 @@ module _ (w c : ℕ) (wide : 0 < w) (narrow : w ≤ 16) (few-checks : c ≤ 4) (
   }
 
 -- ---- what the service answers, by how the call goes
-pub service-refused : (m w c g : ℕ) (word marks : List ℕ) (r : ℕ) → r ≡ repairRefusal m w c g word marks → (r ≡ 0 → ⊥) → repairOf m w c g word marks ≡ refused r word marks
-unfolding repairOf
-service-refused m w c g word marks r e n =
-    ap (λ q. unlessBefore q (repairedGroup bytes w c g word marks) word marks) (sym e) ∙ unless-before r (repairedGroup bytes w c g word marks) word marks n
+pub service-refused : (E : Edition) (m w c g : ℕ) (word marks : List ℕ) (r : ℕ) → r ≡ repairRefusalIn (E .limits) m w c g word marks → (r ≡ 0 → ⊥)
+    → repairIn E m w c g word marks ≡ refused r word marks
+unfolding repairIn
+service-refused E m w c g word marks r e n =
+    ap (λ q. unlessBefore q (repairedGroup E w c g word marks) word marks) (sym e) ∙ unless-before r (repairedGroup E w c g word marks) word marks n
 
--- the numbers of these refusals
+-- the numbers of these refusals, of bytes
 pub repair-most : (m w c g : ℕ) (word marks : List ℕ) → repairRefusal m w c g word marks ≤ 7
-unfolding repairRefusal
+unfolding repairRefusalIn
 repair-most m w c g word marks =
     orElse-most 7 (recoverRefusal m w c word marks) _ (let h = recover-most m w c word marks in omega arith) (refuse-most 7 7 (not (ltb g m)) (omega arith))
 
-pub refused-early : (m w c g : ℕ) (word marks : List ℕ) (r : ℕ) → r ≡ recoverRefusal m w c word marks → (r ≡ 0 → ⊥) → r ≡ repairRefusal m w c g word marks
-unfolding repairRefusal
-refused-early m w c g word marks r e n = sym (ap (λ q. q orElse refuse 7 (not (ltb g m))) (sym e) ∙ orElse-first r _ n)
+pub refused-early : (L : Limits) (m w c g : ℕ) (word marks : List ℕ) (r : ℕ) → r ≡ recoverRefusalIn L m w c word marks → (r ≡ 0 → ⊥)
+    → r ≡ repairRefusalIn L m w c g word marks
+unfolding repairRefusalIn
+refused-early L m w c g word marks r e n = sym (ap (λ q. q orElse refuse 7 (not (ltb g m))) (sym e) ∙ orElse-first r _ n)
 
-pub refused-seven : (m w c g : ℕ) (word marks : List ℕ) → recoverRefusal m w c word marks ≡ 0 → m ≤ g → 7 ≡ repairRefusal m w c g word marks
-unfolding repairRefusal
-refused-seven m w c g word marks z h = sym (ap₂ (λ q b. q orElse refuse 7 (not b)) z (le-ltb g m h))
+pub refused-seven : (L : Limits) (m w c g : ℕ) (word marks : List ℕ) → recoverRefusalIn L m w c word marks ≡ 0 → m ≤ g → 7 ≡ repairRefusalIn L m w c g word marks
+unfolding repairRefusalIn
+refused-seven L m w c g word marks z h = sym (ap₂ (λ q b. q orElse refuse 7 (not b)) z (le-ltb g m h))
 
 -- of a call that is accepted: the part of word and marks that is lent, and what its repair leaves, in the whole word and marks
 module _ (m w c g : ℕ) (word marks : List ℕ) (A : Accepted m w c word marks) (l : g < m) where
@@ -114,7 +119,7 @@ module _ (m w c g : ℕ) (word marks : List ℕ) (A : Accepted m w c word marks)
   inWhole o = record { number = o .number; group = o .group; word = withStretch w g word (o .word); marks = withStretch w g marks (o .marks) }
 
   whole : repairOf m w c g word marks ≡ inWhole left
-  unfolding repairOf repairRefusal
+  unfolding repairIn repairRefusalIn
   whole =
       let L : Lent m w c word = record { good = A .good; size = A .word-size } in
       let M : Lent m w c marks = record { good = A .good; size = A .marks-size } in

@@ -4,7 +4,7 @@ ghost use mathlib.Core.Path.{_≡_};
 ghost use Prim.Native.Nat.{_≤_, _<_};
 ghost use lib.ListN.{length};
 ghost use Rattle.shape.specs.Answers.{mendingAt};
-ghost use Rattle.code.specs.Edition.{bytes};
+ghost use Rattle.byte_edition.specs.Edition.{bytes};
 ghost use Rattle.code.specs.Marks.{lostIn};
 ghost use Rattle.code.specs.Repair.{repaired};
 ghost use Rattle.repair.specs.Service.{PartAttempt, repairRefusal, repairOf};

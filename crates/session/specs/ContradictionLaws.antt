@@ -5,14 +5,14 @@ use Prim.Native.Nat.{ℕ, zero, suc, _≤_, _^_}
 use native.Mathlib.Omega.{arith}
 use borrow.Author.Tests.{ne-eqb}
 use lib.Dec.{ltb}
-use Rattle.code.specs.Edition.{bytes}
+use Rattle.byte_edition.specs.Edition.{bytes}
 use Rattle.code.specs.Word.{isCodeword}
 use Rattle.code.specs.Marks.{excess}
 use Rattle.code.specs.Contradiction.{contradictingGroup}
 use Rattle.code.specs.Answer.{Outcome, eight, nine, done}
 use Rattle.code.specs.AnswerLaws.{cases, nine-group}
 use Rattle.code.specs.Recovery.{recovered}
-use Rattle.recover.specs.Service.{unlessBefore, recoverRefusal, recoverOf}
+use Rattle.recover.specs.Service.{unlessBefore, recoverRefusal, recoverOf, recoverIn}
 use Rattle.recover.specs.Attempt.{Accepted}
 use Rattle.recover.specs.AttemptLaws.{accepted, recover-most}
 use Rattle.text.specs.Records.{lineKind, lineBytes, lineMarks}
@@ -21,7 +21,7 @@ use Rattle.session.specs.Turn.{contradictoryTurn, wordTurn, recordTurn, 
 module _ (m w c : ℕ) (word marks : List ℕ) where
   -- the refusals 1 to 6 come before it
   pub nine-accepted : (recoverOf m w c word marks) .number ≡ 9 → Accepted m w c word marks
-  unfolding recoverOf
+  unfolding recoverIn
   nine-accepted = go (recoverRefusal m w c word marks) refl
     where
       go : (r : ℕ) → r ≡ recoverRefusal m w c word marks → (unlessBefore r (recovered bytes m w c word marks) word marks) .number ≡ 9
@@ -30,7 +30,7 @@ module _ (m w c : ℕ) (word marks : List ℕ) where
       go (suc r) e n = let h = recover-most m w c word marks in absurd (omega arith)
 
   pub nine-names : (recoverOf m w c word marks) .number ≡ 9 → (recoverOf m w c word marks) .group ≡ contradictingGroup bytes m w c word marks
-  unfolding recoverOf
+  unfolding recoverIn
   nine-names e =
       let is : recoverOf m w c word marks ≡ recovered bytes m w c word marks =
       ap (λ r. unlessBefore r (recovered bytes m w c word marks) word marks) (nine-accepted e .refusal) in
@@ -40,7 +40,7 @@ module _ (m w c : ℕ) (word marks : List ℕ) where
 
   -- no number of Recover is above 9
   pub recovered-most : (recoverOf m w c word marks) .number ≤ 9
-  unfolding recoverOf
+  unfolding recoverIn
   recovered-most = go (recoverRefusal m w c word marks) refl
     where
       go : (r : ℕ) → r ≡ recoverRefusal m w c word marks → (unlessBefore r (recovered bytes m w c word marks) word marks) .number ≤ 9

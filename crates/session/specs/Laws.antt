@@ -15,7 +15,7 @@ use Rattle.shape.specs.AnswersLaws.{mending-number}
 use Rattle.shape.specs.RefusalsLaws.{orElse-zero}
 use Rattle.shape.specs.Shapes.{placeCount, dataCount, sureCount, shapeRefusal, bufferRefusal, describedOf, describedAt}
 use Rattle.shape.specs.Laws.{Unshaped, good-of-refusal, good-of-word, good-of-buffers, buffers-unshaped, places-most, data-and-checks}
-use Rattle.recover.specs.Service.{recoverOf, recoverRefusal, unlessBefore}
+use Rattle.recover.specs.Service.{recoverOf, recoverIn, recoverRefusal, recoverRefusalIn, unlessBefore}
 use Rattle.encode.specs.Service.{encodeOf, encodedWord, encodedBuffer}
 use Rattle.text.specs.Lines.{okLine, wordLine}
 use Rattle.session.specs.declared.Reply.{Reply}
@@ -135,7 +135,7 @@ module _ (word marks : List ℕ) (m w c : ℕ) where
   out = recoverOf m w c word marks
 
   pub word-most : mendingAt (out .number) (out .group) ≡ Mending.Done → length word ≤ 240
-  unfolding recoverOf recoverRefusal
+  unfolding recoverIn recoverRefusalIn
   word-most e =
       let z = none-before (recoverRefusal m w c word marks) _ word marks (mended _ _ e) in
       let g = good-of-word m w c (length word) (orElse-zero _ _ z .0) in

@@ -1,5 +1,5 @@
 -- The laws of a shape, by which whoever uses one goes.
-use mathlib.Core.Path.{_≡_, refl, ap}
+use mathlib.Core.Path.{_≡_, refl, sym, ap, subst}
 use mathlib.Core.Logic.{_↔_}
 use mathlib.Core.Bool.{Bool, true, false, not, _||_}
 use mathlib.Core.List.{[], _∷_}
@@ -12,31 +12,34 @@ use lib.Dec.{eqb, ltb}
 use Rattle.shape.specs.declared.Shape.{Shape}
 use Rattle.shape.specs.declared.Made.{Made}
 use Rattle.shape.specs.Refusals.{refuse}
-use Rattle.shape.specs.RefusalsLaws.{refuse-zero, refuse-most, orElse-zero, orElse-most}
-use Rattle.shape.specs.Shapes.{Good, placeCount, dataCount, sureCount, shapeRefusal, wordRefusal, bufferRefusal, madeOf, madeAt, madeNumber, describedOf, describedNumber, describedFigures}
+use Rattle.shape.specs.RefusalsLaws.{refuse-zero, refuse-most, orElse-zero, orElse-most, orElse-then}
+use Rattle.shape.specs.Shapes.{Limits, GoodIn, Good, placeCount, dataCount, sureCount, shapeRefusalIn, wordRefusalIn, bufferRefusalIn}
+use Rattle.shape.specs.Shapes.{shapeRefusal, wordRefusal, bufferRefusal, madeOf, madeAt, madeNumber, describedOf, describedNumber, describedFigures}
 
 or-none : (a b : Bool) → (a || b) ≡ false → (a ≡ false) × (b ≡ false)
 or-none true true e = (e, e)
 or-none true false e = (e, refl)
 or-none false b e = (refl, e)
 
-module _ (m w c : ℕ) where
-  pub good-of-refusal : shapeRefusal m w c ≡ 0 → Good m w c
-  unfolding shapeRefusal
+module _ {L : Limits} (m w c : ℕ) where
+  pub good-of-refusal : shapeRefusalIn L m w c ≡ 0 → GoodIn L m w c
+  unfolding shapeRefusalIn
   good-of-refusal e =
       let e₁ = orElse-zero _ _ e in
       let e₂ = orElse-zero _ _ (e₁ .1) in
       let e₃ = orElse-zero _ _ (e₂ .1) in
+      let e₄ = orElse-zero _ _ (e₃ .1) in
       let t₁ = or-none _ _ (refuse-zero 0 _ (e₁ .0)) in
       let t₂ = or-none _ _ (refuse-zero 1 _ (e₂ .0)) in
       let t₃ = or-none _ _ (refuse-zero 2 _ (e₃ .0)) in
       let a₁ = eqb-false m 0 (t₁ .0) in
-      let b₁ = ltb-false 15 m (t₁ .1) in
+      let b₁ = ltb-false (L .groups) m (t₁ .1) in
       let a₂ = eqb-false c 0 (t₂ .0) in
-      let b₂ = ltb-false 4 c (t₂ .1) in
+      let b₂ = ltb-false (L .checks) c (t₂ .1) in
       let a₃ = ltb-false w (c + 2) (t₃ .0) in
-      let b₃ = ltb-false 16 w (t₃ .1) in
-      let a₄ = eqb-false (dataCount m w c) 0 (refuse-zero 3 _ (e₃ .1)) in
+      let b₃ = ltb-false (L .width) w (t₃ .1) in
+      let a₄ = eqb-false (dataCount m w c) 0 (refuse-zero 3 _ (e₄ .0)) in
+      let a₅ = ltb-false (L .places) (m * w) (refuse-zero 25 _ (e₄ .1)) in
       record {
         some = omega arith;
         few = omega arith;
@@ -45,37 +48,47 @@ module _ (m w c : ℕ) where
         wide = omega arith;
         narrow = omega arith;
         room = omega arith;
+        fits = omega arith;
       }
 
-  pub refusal-of-good : Good m w c → shapeRefusal m w c ≡ 0
-  unfolding shapeRefusal
+  pub refusal-of-good : GoodIn L m w c → shapeRefusalIn L m w c ≡ 0
+  unfolding shapeRefusalIn
   refusal-of-good g =
       simp (
         ne-eqb m 0 (omega arith),
-        le-ltb 15 m (omega arith),
+        le-ltb (L .groups) m (g .few),
         ne-eqb c 0 (omega arith),
-        le-ltb 4 c (omega arith),
+        le-ltb (L .checks) c (g .few-checks),
         le-ltb w (c + 2) (omega arith),
-        le-ltb 16 w (omega arith),
+        le-ltb (L .width) w (g .narrow),
         ne-eqb (dataCount m w c) 0 (omega arith),
+        le-ltb (L .places) (m * w) (g .fits),
       )
 
-  -- the numbers of these refusals
+  pub refusal-iff : (shapeRefusalIn L m w c ≡ 0) ↔ GoodIn L m w c
+  refusal-iff = (good-of-refusal, refusal-of-good)
+
+-- fifteen groups of sixteen places fit
+pub places-fit : {m w : ℕ} → m ≤ 15 → w ≤ 16 → m * w ≤ 240
+places-fit few narrow = mul-le-mul few narrow
+
+-- of bytes: the places are enough for fifteen groups of sixteen, so the numbers of these refusals are 1 to 4
+module _ (m w c : ℕ) where
   pub shape-most : shapeRefusal m w c ≤ 4
-  unfolding shapeRefusal
+  unfolding shapeRefusalIn
   shape-most =
-      orElse-most 4 (refuse 1 (eqb m 0 || ltb 15 m)) _ (refuse-most 4 1 (eqb m 0 || ltb 15 m) (omega arith))
-      (orElse-most 4 (refuse 2 (eqb c 0 || ltb 4 c)) _ (refuse-most 4 2 (eqb c 0 || ltb 4 c) (omega arith))
-      (orElse-most 4 (refuse 3 (ltb w (c + 2) || ltb 16 w)) _ (refuse-most 4 3 (ltb w (c + 2) || ltb 16 w) (omega arith))
-      (refuse-most 4 4 (eqb (dataCount m w c) 0) (omega arith))))
+      orElse-then 4 (refuse 1 (eqb m 0 || ltb 15 m)) _ (refuse-most 4 1 (eqb m 0 || ltb 15 m) (omega arith)) λ z₁.
+      orElse-then 4 (refuse 2 (eqb c 0 || ltb 4 c)) _ (refuse-most 4 2 (eqb c 0 || ltb 4 c) (omega arith)) λ _.
+      orElse-then 4 (refuse 3 (ltb w (c + 2) || ltb 16 w)) _ (refuse-most 4 3 (ltb w (c + 2) || ltb 16 w) (omega arith)) λ z₃.
+      orElse-then 4 (refuse 4 (eqb (dataCount m w c) 0)) _ (refuse-most 4 4 (eqb (dataCount m w c) 0) (omega arith)) λ _.
+      let few : m ≤ 15 = ltb-false 15 m (or-none (eqb m 0) (ltb 15 m) (refuse-zero 0 (eqb m 0 || ltb 15 m) z₁) .1) in
+      let narrow : w ≤ 16 = ltb-false 16 w (or-none (ltb w (c + 2)) (ltb 16 w) (refuse-zero 2 (ltb w (c + 2) || ltb 16 w) z₃) .1) in
+      subst (λ b. refuse 26 b ≤ 4) (sym (le-ltb 240 (m * w) (places-fit few narrow))) (omega arith)
 
   pub word-most : (lent : ℕ) → wordRefusal m w c lent ≤ 5
-  unfolding wordRefusal
+  unfolding wordRefusalIn
   word-most lent = orElse-most 5 (shapeRefusal m w c) _ (let h = shape-most in omega arith)
       (refuse-most 5 5 (not (eqb lent (placeCount m w))) (omega arith))
-
-  pub refusal-iff : (shapeRefusal m w c ≡ 0) ↔ Good m w c
-  refusal-iff = (good-of-refusal, refusal-of-good)
 
 -- s is the good shape of m, w and c
 pub record Shaped (s : Shape) (m w c : ℕ) : Type 0 where
@@ -121,10 +134,10 @@ module _ (m w c : ℕ) where
       go zero e h = let z : _≡_ {A = ℕ} 0 1 = cc in absurd (omega arith)
       go (suc p) e h = record { less = p; number = cc; refusal = e }
 
-module _ {m w c : ℕ} (g : Good m w c) where
+module _ {L : Limits} {m w c : ℕ} (g : GoodIn L m w c) where
   -- "A word has n = m·w bytes, at most 240"
-  pub places-most : placeCount m w ≤ 240
-  places-most = mul-le-mul (g .few) (g .narrow)
+  pub places-most : placeCount m w ≤ L .places
+  places-most = g .fits
 
   pub data-some : 1 ≤ dataCount m w c
   data-some = omega arith
@@ -153,54 +166,56 @@ module _ (w c : ℕ) where
   ]
 
 -- lent lengths
-module _ (m w c : ℕ) where
-  pub good-of-word : (n : ℕ) → wordRefusal m w c n ≡ 0 → Good m w c × (n ≡ placeCount m w)
-  unfolding wordRefusal
+module _ {L : Limits} (m w c : ℕ) where
+  pub good-of-word : (n : ℕ) → wordRefusalIn L m w c n ≡ 0 → GoodIn L m w c × (n ≡ placeCount m w)
+  unfolding wordRefusalIn
   good-of-word n e =
       let z = orElse-zero _ _ e in
       (good-of-refusal m w c (z .0), eqb-true _ _ (not-false _ (refuse-zero 4 _ (z .1))))
 
-  pub word-of-good : (n : ℕ) → Good m w c → n ≡ placeCount m w → wordRefusal m w c n ≡ 0
-  unfolding wordRefusal
+  pub word-of-good : (n : ℕ) → GoodIn L m w c → n ≡ placeCount m w → wordRefusalIn L m w c n ≡ 0
+  unfolding wordRefusalIn
   word-of-good n g e = simp (refusal-of-good m w c g, eq-eqb n (placeCount m w) e)
 
-  pub word-length : (n : ℕ) → Good m w c → (n ≡ placeCount m w → ⊥) → wordRefusal m w c n ≡ 5
-  unfolding wordRefusal
+  pub word-length : (n : ℕ) → GoodIn L m w c → (n ≡ placeCount m w → ⊥) → wordRefusalIn L m w c n ≡ 5
+  unfolding wordRefusalIn
   word-length n g e = simp (refusal-of-good m w c g, ne-eqb n (placeCount m w) e)
 
-  pub word-unshaped : (n r : ℕ) → Unshaped r m w c → wordRefusal m w c n ≡ r
-  unfolding wordRefusal
-  word-unshaped n r u = simp (u .refusal, u .number)
-
-  pub good-of-buffers : (n k : ℕ) → bufferRefusal m w c n k ≡ 0 → Good m w c × (n ≡ placeCount m w) × (k ≡ dataCount m w c)
-  unfolding bufferRefusal
+  pub good-of-buffers : (n k : ℕ) → bufferRefusalIn L m w c n k ≡ 0 → GoodIn L m w c × (n ≡ placeCount m w) × (k ≡ dataCount m w c)
+  unfolding bufferRefusalIn
   good-of-buffers n k e =
       let z = orElse-zero _ _ e in
       let g = good-of-word n (z .0) in
       (g .0, g .1, eqb-true _ _ (not-false _ (refuse-zero 4 _ (z .1))))
 
-  pub buffers-of-good : (n k : ℕ) → Good m w c → n ≡ placeCount m w → k ≡ dataCount m w c → bufferRefusal m w c n k ≡ 0
-  unfolding bufferRefusal
+  pub buffers-of-good : (n k : ℕ) → GoodIn L m w c → n ≡ placeCount m w → k ≡ dataCount m w c → bufferRefusalIn L m w c n k ≡ 0
+  unfolding bufferRefusalIn
   buffers-of-good n k g e f = simp (word-of-good n g e, eq-eqb k (dataCount m w c) f)
 
-  pub buffers-word-length : (n k : ℕ) → Good m w c → (n ≡ placeCount m w → ⊥) → bufferRefusal m w c n k ≡ 5
-  unfolding bufferRefusal
+  pub buffers-word-length : (n k : ℕ) → GoodIn L m w c → (n ≡ placeCount m w → ⊥) → bufferRefusalIn L m w c n k ≡ 5
+  unfolding bufferRefusalIn
   buffers-word-length n k g e = simp (word-length n g e)
 
-  pub buffers-data-length : (n k : ℕ) → Good m w c → n ≡ placeCount m w → (k ≡ dataCount m w c → ⊥) → bufferRefusal m w c n k ≡ 5
-  unfolding bufferRefusal
+  pub buffers-data-length : (n k : ℕ) → GoodIn L m w c → n ≡ placeCount m w → (k ≡ dataCount m w c → ⊥) → bufferRefusalIn L m w c n k ≡ 5
+  unfolding bufferRefusalIn
   buffers-data-length n k g e f = simp (word-of-good n g e, ne-eqb k (dataCount m w c) f)
 
+-- a bad shape of bytes
+module _ (m w c : ℕ) where
+  pub word-unshaped : (n r : ℕ) → Unshaped r m w c → wordRefusal m w c n ≡ r
+  unfolding wordRefusalIn
+  word-unshaped n r u = simp (u .refusal, u .number)
+
   pub buffers-unshaped : (n k r : ℕ) → Unshaped r m w c → bufferRefusal m w c n k ≡ r
-  unfolding bufferRefusal
+  unfolding bufferRefusalIn
   buffers-unshaped n k r u = simp (word-unshaped n r u, u .number)
 
 -- "Shape m 2, w 3, c 1: n 6, k 2." And the sure count 4.
 pub figures-2-3-1 : describedFigures (describedOf 2 3 1) ≡ 6 ∷ 2 ∷ 4 ∷ []
-unfolding describedOf shapeRefusal sureCount
+unfolding describedOf shapeRefusalIn sureCount
 figures-2-3-1 = refl
 
 -- "m 1, w 3, c 1: refused 4."
 pub number-1-3-1 : describedNumber (describedOf 1 3 1) ≡ 4
-unfolding describedOf shapeRefusal
+unfolding describedOf shapeRefusalIn
 number-1-3-1 = refl

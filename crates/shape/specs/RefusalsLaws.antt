@@ -23,6 +23,11 @@ pub orElse-most : (k r s : ℕ) → r ≤ k → s ≤ k → (r orElse s) ≤ k
 orElse-most k zero s l h = h
 orElse-most k (suc r) s l h = l
 
+-- and where the second need only hold after the first has not applied
+pub orElse-then : (k r s : ℕ) → r ≤ k → (r ≡ 0 → s ≤ k) → (r orElse s) ≤ k
+orElse-then k zero s l h = h refl
+orElse-then k (suc r) s l h = l
+
 pub unless-refused : (r : ℕ) (written lent : List ℕ) → (r ≡ 0 → ⊥) → unlessRefused r written lent ≡ lent
 unless-refused zero written lent h = absurd (h refl)
 unless-refused (suc r) written lent h = refl

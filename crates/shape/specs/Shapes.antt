@@ -8,15 +8,16 @@ use Rattle.shape.specs.declared.Made.{Made}
 use Rattle.shape.specs.declared.Described.{Described}
 use Rattle.shape.specs.Refusals.{refuse, _orElse_, unlessRefused}
 
--- "Good: m from 1 to 15, c from 1 to 4, w from c+2 to 16, and k = m(w−c)−2 at least 1."
-pub record Good (m w c : ℕ) : Type 0 where
-  pub some : 1 ≤ m
-  pub few : m ≤ 15
-  pub checked : 1 ≤ c
-  pub few-checks : c ≤ 4
-  pub wide : c + 2 ≤ w
-  pub narrow : w ≤ 16
-  pub room : 3 ≤ m * (w - c)
+-- How large a shape may be in an edition of the code: its groups, its local checks, its width and its places.
+pub record Limits : Type 0 where
+  pub groups : ℕ
+  pub checks : ℕ
+  pub width : ℕ
+  pub places : ℕ
+
+-- "m from 1 to 15, c from 1 to 4, w from c+2 to 16", and "at most 240" bytes
+abbrev pub byteLimits : Limits
+byteLimits = record { groups = 15; checks = 4; width = 16; places = 240 }
 
 -- "A word has n = m·w bytes"
 abbrev pub placeCount : ℕ → ℕ → ℕ
@@ -30,21 +31,50 @@ dataCount m w c = m * (w - c) - 2
 unfoldable pub sureCount : ℕ → ℕ → ℕ
 sureCount w c = cond (eqb w (c + 2)) (2 * c + 2) (c + 2)
 
--- 1: "m is 0 or above 15"; 2: "c is 0 or above 4"; 3: "w is below c+2 or above 16"; 4: "k is 0"
-unfoldable pub shapeRefusal : ℕ → ℕ → ℕ → ℕ
-shapeRefusal m w c =
-    refuse 1 (eqb m 0 || ltb 15 m)
-    orElse refuse 2 (eqb c 0 || ltb 4 c)
-    orElse refuse 3 (ltb w (c + 2) || ltb 16 w)
-    orElse refuse 4 (eqb (dataCount m w c) 0)
+-- a good shape within limits: "k = m(w−c)−2 at least 1" besides
+pub record GoodIn (L : Limits) (m w c : ℕ) : Type 0 where
+  pub some : 1 ≤ m
+  pub few : m ≤ L .groups
+  pub checked : 1 ≤ c
+  pub few-checks : c ≤ L .checks
+  pub wide : c + 2 ≤ w
+  pub narrow : w ≤ L .width
+  pub room : 3 ≤ m * (w - c)
+  pub fits : m * w ≤ L .places
 
--- 5: "a lent length is not k or n as the service needs", after 1 to 4; of a service that is lent a word or marks
-unfoldable pub wordRefusal : ℕ → ℕ → ℕ → ℕ → ℕ
-wordRefusal m w c lent = shapeRefusal m w c orElse refuse 5 (not (eqb lent (placeCount m w)))
+-- of bytes: "Good: m from 1 to 15, c from 1 to 4, w from c+2 to 16, and k = m(w−c)−2 at least 1."
+abbrev pub Good : ℕ → ℕ → ℕ → Type 0
+Good = GoodIn byteLimits
+
+-- 1: "m is 0 or above 15"; 2: "c is 0 or above 4"; 3: "w is below c+2 or above 16"; 4: "k is 0"; 26: n is above the places of the edition,
+-- which no shape of bytes can meet
+unfoldable pub shapeRefusalIn : Limits → ℕ → ℕ → ℕ → ℕ
+shapeRefusalIn L m w c =
+    refuse 1 (eqb m 0 || ltb (L .groups) m)
+    orElse refuse 2 (eqb c 0 || ltb (L .checks) c)
+    orElse refuse 3 (ltb w (c + 2) || ltb (L .width) w)
+    orElse refuse 4 (eqb (dataCount m w c) 0)
+    orElse refuse 26 (ltb (L .places) (m * w))
+
+-- 5: "a lent length is not k or n as the service needs", after those; of a service that is lent a word or marks
+unfoldable pub wordRefusalIn : Limits → ℕ → ℕ → ℕ → ℕ → ℕ
+wordRefusalIn L m w c lent = shapeRefusalIn L m w c orElse refuse 5 (not (eqb lent (placeCount m w)))
 
 -- and of one that is lent a word and data
-unfoldable pub bufferRefusal : ℕ → ℕ → ℕ → ℕ → ℕ → ℕ
-bufferRefusal m w c word bytes = wordRefusal m w c word orElse refuse 5 (not (eqb bytes (dataCount m w c)))
+unfoldable pub bufferRefusalIn : Limits → ℕ → ℕ → ℕ → ℕ → ℕ → ℕ
+bufferRefusalIn L m w c word bytes = wordRefusalIn L m w c word orElse refuse 5 (not (eqb bytes (dataCount m w c)))
+
+-- 1 to 4 of bytes
+abbrev pub shapeRefusal : ℕ → ℕ → ℕ → ℕ
+shapeRefusal = shapeRefusalIn byteLimits
+
+-- 1 to 5 of bytes, of a service that is lent a word or marks
+abbrev pub wordRefusal : ℕ → ℕ → ℕ → ℕ → ℕ
+wordRefusal = wordRefusalIn byteLimits
+
+-- and of one that is lent a word and data
+abbrev pub bufferRefusal : ℕ → ℕ → ℕ → ℕ → ℕ → ℕ
+bufferRefusal = bufferRefusalIn byteLimits
 
 -- the shape, or the number of its refusal
 abbrev pub madeAt : ℕ → Shape → Made

@@ -7,15 +7,15 @@ use native.Mathlib.Omega.{arith}
 use borrow.Author.Tests.{ne-eqb}
 use lib.ListN.{length, getD, take, List·getD-map, List·getD-append}
 use lib.Seq.{getD-take}
-use Rattle.code.specs.Edition.{bytes, bytes-sound}
-use Rattle.code.specs.EditionLaws.{bytes-few}
+use Rattle.byte_edition.specs.Edition.{bytes}
+use Rattle.byte_edition.specs.EditionLaws.{bytes-sound, bytes-few}
 use Rattle.code.specs.Word.{Codeword}
 use Rattle.code.specs.Answer.{Outcome}
 use Rattle.code.specs.Recovery.{recovered}
 use Rattle.code.specs.RecoveryLaws.{done-single}
 use Rattle.shape.specs.Shapes.{Good, placeCount, dataCount, bufferRefusal}
 use Rattle.shape.specs.Laws.{good-of-buffers, places-most}
-use Rattle.recover.specs.Service.{unlessBefore, recoverRefusal, recoverOf}
+use Rattle.recover.specs.Service.{unlessBefore, recoverRefusal, recoverOf, recoverIn}
 use Rattle.recover.specs.AttemptLaws.{accepted}
 use Rattle.encode.specs.Service.{encodedWord}
 use Rattle.encode.specs.Laws.{encoded}
@@ -48,11 +48,11 @@ module _ (line : List ℕ) (m w c : ℕ) where
       → Good m w c × Codeword bytes m w c (encodedWord m w c (lineBytes line))
   encoded-word z =
       let g = good-of-buffers m w c (placeCount m w) (length (lineBytes line)) z in
-      (g .0, encoded (g .0) (lineBytes line) (g .2) (line-bytes line) .codeword)
+      (g .0, encoded bytes-sound (g .0) (lineBytes line) (g .2) (line-bytes line) .codeword)
 
   recovered-word : (recoverOf m w c (lineBytes line) (lineMarks line)) .number ≡ 0
       → Good m w c × Codeword bytes m w c ((recoverOf m w c (lineBytes line) (lineMarks line)) .word)
-  unfolding recoverOf
+  unfolding recoverIn
   recovered-word = go (recoverRefusal m w c (lineBytes line) (lineMarks line)) refl
     where
       out : Outcome

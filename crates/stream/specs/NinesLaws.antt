@@ -5,7 +5,7 @@ use Prim.Native.Nat.{ℕ, zero, suc, _≤_, _<_}
 use native.Mathlib.Omega.{arith}
 use lib.ListN.{length, getD}
 use Rattle.counting.specs.FirstLaws.{first-most}
-use Rattle.code.specs.Edition.{bytes}
+use Rattle.byte_edition.specs.Edition.{bytes}
 use Rattle.code.specs.Contradiction.{isBroken, contradictingGroup}
 use Rattle.recover.specs.Service.{recoverOf}
 use Rattle.text.specs.DecimalLaws.{without}

@@ -9,7 +9,7 @@ use lib.ListN.{length, length-replicate}
 use lib.Seq.{ext-getD}
 use Rattle.counting.specs.Count.{one, countBelow}
 use Rattle.counting.specs.CountLaws.{total-zero}
-use Rattle.code.specs.Edition.{bytes}
+use Rattle.byte_edition.specs.Edition.{bytes}
 use Rattle.code.specs.Word.{isCodeword, Symbols, Codeword}
 use Rattle.code.specs.Marks.{lost, lostIn, excess}
 use Rattle.code.specs.BlankLaws.{blank-at}

@@ -10,7 +10,7 @@ use lib.ListN.{length, getD}
 use Rattle.code.specs.Answer.{Outcome}
 use Rattle.shape.specs.Refusals.{refuse}
 use Rattle.shape.specs.RefusalsLaws.{orElse-most}
-use Rattle.shape.specs.Shapes.{placeCount, dataCount, shapeRefusal, wordRefusal, bufferRefusal}
+use Rattle.shape.specs.Shapes.{placeCount, dataCount, shapeRefusal, wordRefusal, bufferRefusal, bufferRefusalIn}
 use Rattle.shape.specs.Laws.{shape-most, word-most}
 use Rattle.encode.specs.Service.{encodedWord}
 use Rattle.recover.specs.Service.{recoverOf}
@@ -32,7 +32,7 @@ unless-case P zero t m w c l n f p = p refl
 unless-case P (suc r) t m w c l n f p = f (suc r) l n
 
 buffer-most : (m w c n k : ℕ) → bufferRefusal m w c n k ≤ 5
-unfolding bufferRefusal
+unfolding bufferRefusalIn
 buffer-most m w c n k = orElse-most 5 (wordRefusal m w c n) _ (word-most m w c n) (go (not (eqb k (dataCount m w c))))
   where
     go : (b : Bool) → refuse 5 b ≤ 5

@@ -8,7 +8,7 @@ use native.Mathlib.Omega.{arith}
 use borrow.Author.Tests.{eqb-true}
 use lib.Dec.{eqb}
 use lib.ListN.{length, getD, length-append, length-map}
-use Rattle.code.specs.Edition.{bytes}
+use Rattle.byte_edition.specs.Edition.{bytes}
 use Rattle.code.specs.Answer.{Outcome}
 use Rattle.code.specs.AnswerLaws.{answered-length}
 use Rattle.code.specs.Recovery.{recovered}
@@ -16,8 +16,8 @@ use Rattle.shape.specs.Shapes.{Good, placeCount, dataCount, shapeRefusal, buffe
 use Rattle.shape.specs.Laws.{good-of-buffers, data-some, data-and-checks}
 use Rattle.places.specs.Places.{placedOf, checkMarks}
 use Rattle.places.specs.Laws.{placed-length}
-use Rattle.encode.specs.Service.{encodedWord}
-use Rattle.recover.specs.Service.{unlessBefore, recoverRefusal, recoverOf}
+use Rattle.encode.specs.Service.{encodedWord, encodedIn}
+use Rattle.recover.specs.Service.{unlessBefore, recoverRefusal, recoverOf, recoverIn}
 use Rattle.text.specs.Records.{wordName, contents, lineKind, lineBytes, lineMarks}
 use Rattle.text.specs.RecordLaws.{line-values, data-named}
 use Rattle.text.specs.Lines.{lineOf, refusedName, okLine, refusedLine, contradictoryLine, wordLine}
@@ -53,7 +53,7 @@ unless-size (suc r) most t m w c l h = let k = refused-size (suc r) in omega ari
 
 -- ---- the length of a word that is answered
 recovered-size : (m w c : ℕ) (word marks : List ℕ) → length ((recoverOf m w c word marks) .word) ≡ length word
-unfolding recoverOf
+unfolding recoverIn
 recovered-size m w c word marks = go (recoverRefusal m w c word marks)
   where
     go : (r : ℕ) → length ((unlessBefore r (recovered bytes m w c word marks) word marks) .word) ≡ length word
@@ -61,7 +61,7 @@ recovered-size m w c word marks = go (recoverRefusal m w c word marks)
     go (suc r) = refl
 
 encoded-size : (m w c : ℕ) (carried : List ℕ) → length (encodedWord m w c carried) ≡ m * w
-unfolding encodedWord
+unfolding encodedIn
 encoded-size m w c carried = answered-length _ _ _ _ (placedOf m w c carried) (checkMarks m w c) ∙ placed-length m w c carried
 
 -- a 9 is answered to some bytes only: a call with none has the wrong length, or a bad shape

@@ -1,7 +1,7 @@
 -- The two sums across, as one value.
 use mathlib.Core.List.{List}
 use Prim.Native.Nat.{ℕ}
-use Rattle.code.specs.Edition.{bytes}
+use Rattle.byte_edition.specs.Edition.{bytes}
 use Rattle.code.specs.Word.{firstAcross, secondAcross}
 use Rattle.syndrome.specs.declared.Sums.{Sums}
 

@@ -14,7 +14,8 @@ use Rattle.binary_field.specs.XorLaws.{⊕-bits}
 use Rattle.binary_field.specs.ProductLaws.{product-left-comm}
 use Rattle.binary_field.specs.Sum.{innerProduct}
 use Rattle.binary_field.specs.SumLaws.{sum-none, sum-suc, sum-ext, sum-scale}
-use Rattle.code.specs.Edition.{Edition, bytes, times, raised}
+use Rattle.code.specs.Edition.{Edition, times, raised}
+use Rattle.byte_edition.specs.Edition.{bytes}
 use Rattle.code.specs.Word.{groupSum, localSum, wordSum, coefficient, twisted, isLocal}
 use Rattle.code.specs.StretchLaws.{own-place, stretch-sum}
 use Rattle.groups.specs.Lent.{Lent}

@@ -11,7 +11,7 @@ use Rattle.counting.specs.Test.{both, allBelow}
 use Rattle.counting.specs.TestLaws.{all-at, all-intro}
 use Rattle.counting.specs.First.{firstBelow}
 use Rattle.counting.specs.FirstLaws.{first-is, first-before, first-holds, first-most}
-use Rattle.code.specs.Edition.{bytes}
+use Rattle.byte_edition.specs.Edition.{bytes}
 use Rattle.code.specs.Word.{isLocal, firstAcross, secondAcross, isCodeword}
 use Rattle.syndrome.specs.PartsLaws.{is-false}
 use Rattle.syndrome.specs.Tests.{brokenGroup}

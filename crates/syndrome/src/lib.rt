@@ -4,7 +4,7 @@ ghost use mathlib.Core.Bool.{true, false};
 ghost use Prim.Native.Nat.{_*_, _≤_, _<_};
 ghost use lib.ListN.{length};
 ghost use Rattle.shape.specs.Shapes.{Good};
-ghost use Rattle.code.specs.Edition.{bytes};
+ghost use Rattle.byte_edition.specs.Edition.{bytes};
 ghost use Rattle.code.specs.Word.{groupSum, coefficient, twisted, isLocal};
 ghost use Rattle.syndrome.specs.Across.{acrossOf, noSums};
 ghost use Rattle.syndrome.specs.Tests.{brokenGroup, testedOf, notTested};

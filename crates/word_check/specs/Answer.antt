@@ -5,7 +5,7 @@ use Prim.Native.Nat.{ℕ, zero, suc}
 use lib.ListN.{length, replicate}
 use Rattle.shape.specs.Refusals.{unlessRefused}
 use Rattle.shape.specs.Shapes.{wordRefusal}
-use Rattle.code.specs.Edition.{bytes}
+use Rattle.byte_edition.specs.Edition.{bytes}
 use Rattle.code.specs.Word.{isCodeword}
 use Rattle.code.specs.Contradiction.{contradictingGroup}
 use Rattle.word_check.specs.declared.Checked.{Checked}

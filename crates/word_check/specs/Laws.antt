@@ -11,7 +11,7 @@ use lib.ListN.{length}
 use Rattle.shape.specs.Refusals.{unlessRefused}
 use Rattle.shape.specs.Shapes.{Good, wordRefusal}
 use Rattle.shape.specs.Laws.{word-of-good}
-use Rattle.code.specs.Edition.{bytes}
+use Rattle.byte_edition.specs.Edition.{bytes}
 use Rattle.code.specs.Word.{isCodeword, Symbols, Codeword}
 use Rattle.word_check.specs.declared.Checked.{Checked}
 use Rattle.word_check.specs.Answer.{checkedAt, wholeGroup, checkedOf, checkedNumber, checkedFigures, figuresOf}

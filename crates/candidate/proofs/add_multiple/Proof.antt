@@ -6,7 +6,8 @@ use lib.ListN.{length, getD, length-set}
 use borrow.Author.Needs.{needs}
 use Rattle.binary_field.specs.Xor.{_⊕_}
 use Rattle.binary_field.specs.XorLaws.{⊕-bits}
-use Rattle.code.specs.Edition.{bytes, times}
+use Rattle.code.specs.Edition.{times}
+use Rattle.byte_edition.specs.Edition.{bytes}
 use Rattle.fill.proofs.Laws.{each-set}
 use Rattle.candidate.proofs.Laws.{rest-set}
 use Rattle.candidate.proofs.add_multiple.Statement.{statement}

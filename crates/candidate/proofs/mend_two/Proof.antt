@@ -2,7 +2,7 @@ use mathlib.Core.Path.{ap, _∙_}
 use Prim.Native.Nat.{_*_}
 use lib.ListN.{length, take}
 use borrow.Author.Needs.{needs}
-use Rattle.code.specs.Edition.{bytes}
+use Rattle.byte_edition.specs.Edition.{bytes}
 use Rattle.candidate.specs.SolvedLaws.{combined-length}
 use Rattle.candidate.proofs.Laws.{group-lt, solved-sums}
 use Rattle.candidate.proofs.mend_two.Statement.{statement}

@@ -7,7 +7,7 @@ use lib.Dec.{ltb}
 use Rattle.shape.specs.Refusals.{refuse}
 use Rattle.marks.specs.Refusal.{marksRefusal}
 use Rattle.marks.specs.RefusalLaws.{good-of-marks, orElse-first}
-use Rattle.judge.specs.Answer.{judgedNumberOf, judgedAt, judgedOf, judgedNumber}
+use Rattle.judge.specs.Answer.{judgedNumberOf, judgedNumberIn, judgedAt, judgedOf, judgedNumber}
 use Rattle.judge.specs.Laws.{judged-refused, judged-number, number-of}
 use Rattle.judge.specs.declared.Judged.{Judged}
 use Rattle.judge.proofs.judge.Statement.{statement}
@@ -22,7 +22,7 @@ marks-refusal-requires : tie.Need-marks-refusal-requires
 marks-refusal-requires c κs = search needs
 
 returns : tie.Need-returns
-unfolding judgedOf judgedNumberOf
+unfolding judgedOf judgedNumberIn
 returns c =
     let a = c .before .before .before .args in
     let e = c .before .marks-refusal .ensures in

@@ -4,7 +4,7 @@ use borrow.Author.Needs.{needs}
 use lib.ListN.{length}
 use Rattle.shape.specs.Refusals.{refuse}
 use Rattle.shape.specs.Shapes.{wordRefusal}
-use Rattle.marks.specs.Refusal.{marksRefusal}
+use Rattle.marks.specs.Refusal.{marksRefusal, marksRefusalIn}
 use Rattle.marks.specs.RefusalLaws.{orElse-first}
 use Rattle.marks.proofs.marks_refusal.Statement.{statement}
 use Rattle.marks.proofs.marks_refusal.Tie as tie
@@ -13,7 +13,7 @@ word-refusal-requires : tie.Need-word-refusal-requires
 word-refusal-requires c κs = search needs
 
 returns : tie.Need-returns
-unfolding marksRefusal
+unfolding marksRefusalIn
 returns c =
     let e = c .before .word-refusal .ensures in
     e ∙ sym (orElse-first _ _ (λ z. c .if1 .taken (e ∙ z)))
@@ -25,7 +25,7 @@ answered : (c : tie.After-are-marks)
     → refuse 6 (not (c .are-marks .result))
     ≡ marksRefusal (c .before .before .before .before .args .m) (c .before .before .before .before .args .w) (c .before .before .before .before .args .c)
     (c .before .before .before .before .args .marks .now)
-unfolding marksRefusal
+unfolding marksRefusalIn
 answered c =
     let t = c .before in
     let a = t .before .before .before .args in

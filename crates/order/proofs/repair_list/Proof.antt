@@ -3,6 +3,7 @@ use Prim.Native.Nat.{_-_}
 use native.Mathlib.Omega.{arith}
 use borrow.Author.Needs.{needs}
 use lib.ListN.{length, drop}
+use Rattle.byte_edition.specs.Edition.{bytes}
 use Rattle.order.specs.Service.{held, heldAfterList}
 use Rattle.order.specs.ServiceLaws.{list-turn, list-end}
 use Rattle.order.proofs.repair_list.Statement.{statement}
@@ -14,7 +15,7 @@ use Rattle.repair.proofs.repair.Reads as repair-reads
 abbrev Inv-loop : tie.InvT-loop
 Inv-loop m w c word₀ marks₀ list i₀ word marks i =
     (length word ≡ length word₀) × (length marks ≡ length marks₀)
-    × (heldAfterList m w c (drop i list) (held word marks) ≡ heldAfterList m w c list (held word₀ marks₀))
+    × (heldAfterList bytes m w c (drop i list) (held word marks) ≡ heldAfterList bytes m w c list (held word₀ marks₀))
 
 abbrev μ-loop : tie.MeasureT-loop
 μ-loop m w c word₀ marks₀ list i₀ word marks i = length list - i

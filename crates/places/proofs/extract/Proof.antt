@@ -1,7 +1,7 @@
 use mathlib.Core.Path.{_≡_, refl, sym}
 use lib.ListN.{length}
 use Rattle.shape.specs.RefusalsLaws.{unless-refused}
-use Rattle.shape.specs.Shapes.{bufferRefusal}
+use Rattle.shape.specs.Shapes.{byteLimits, bufferRefusal}
 use Rattle.shape.specs.Laws.{good-of-buffers}
 use Rattle.places.specs.Places.{extractedOf, extractedData}
 use Rattle.shape.specs.AnswersLaws.{answer-refused}
@@ -24,7 +24,7 @@ returns c =
 copy-data-requires : tie.Need-copy-data-requires
 copy-data-requires c κs =
     let a = c .before .before .before .before .before .args in
-    let z = good-of-buffers (a .m) (a .w) (a .c) (length (a .word .now)) (length (a .bytes .now)) (cc) in
+    let z = good-of-buffers {L = byteLimits} (a .m) (a .w) (a .c) (length (a .word .now)) (length (a .bytes .now)) (cc) in
     (z .0, (z .1, z .2))
 
 same-length : tie.Need-same-length

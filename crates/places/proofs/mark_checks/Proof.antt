@@ -1,7 +1,7 @@
 use mathlib.Core.Path.{_≡_, sym}
 use lib.ListN.{length}
 use Rattle.shape.specs.RefusalsLaws.{unless-refused}
-use Rattle.shape.specs.Shapes.{wordRefusal}
+use Rattle.shape.specs.Shapes.{byteLimits, wordRefusal}
 use Rattle.shape.specs.Laws.{good-of-word}
 use Rattle.places.specs.Places.{markedChecks}
 use borrow.Author.Needs.{needs}
@@ -21,7 +21,7 @@ returns c =
 write-marks-requires : tie.Need-write-marks-requires
 write-marks-requires c κs =
     let a = c .before .before .before .before .args in
-    let z = good-of-word (a .m) (a .w) (a .c) (length (a .marks .now)) (cc) in
+    let z = good-of-word {L = byteLimits} (a .m) (a .w) (a .c) (length (a .marks .now)) (cc) in
     (z .0, z .1)
 
 same-length : tie.Need-same-length

@@ -5,7 +5,7 @@ use lib.Seq.{length-take-le}
 use Rattle.shape.specs.declared.Mending.{Mending}
 use Rattle.shape.specs.Answers.{mendingAt}
 use Rattle.shape.specs.Laws.{places-most}
-use Rattle.code.specs.Edition.{bytes}
+use Rattle.byte_edition.specs.Edition.{bytes}
 use Rattle.code.specs.ContradictionLaws.{contradicting-most}
 use Rattle.recover.specs.Attempt.{Accepted}
 use Rattle.recover.specs.AttemptLaws.{accepted, service-nine, service-done}

@@ -2,7 +2,7 @@ use mathlib.Core.Path.{_≡_, sym, ap, _∙_}
 use native.Mathlib.Omega.{arith}
 use borrow.Author.Needs.{needs}
 use Rattle.marks.specs.RefusalLaws.{orElse-first}
-use Rattle.recover.specs.Service.{recoverRefusal}
+use Rattle.recover.specs.Service.{recoverRefusalIn}
 use Rattle.recover.proofs.refusal.Statement.{statement}
 use Rattle.recover.proofs.refusal.Tie as tie
 
@@ -10,14 +10,14 @@ word-refusal-requires : tie.Need-word-refusal-requires
 word-refusal-requires c κs = search needs
 
 returns : tie.Need-returns
-unfolding recoverRefusal
+unfolding recoverRefusalIn
 returns c = let r = c .before .word-refusal in sym (rw (← (r .ensures)) (orElse-first (r .result) _ (c .if1 .taken)))
 
 marks-refusal-requires : tie.Need-marks-refusal-requires
 marks-refusal-requires c κs = search needs
 
 returns-2 : tie.Need-returns-2
-unfolding recoverRefusal
+unfolding recoverRefusalIn
 returns-2 c =
     let b = c .before in
     let z : b .before .word-refusal .result ≡ 0 = omega arith in

@@ -4,7 +4,9 @@ use native.Mathlib.Omega.{arith}
 use lib.ListN.{length}
 use Rattle.shape.specs.Answers.{mendingAt}
 use Rattle.shape.specs.AnswersLaws.{mending-refused}
+use Rattle.shape.specs.Shapes.{byteLimits}
 use Rattle.shape.specs.Laws.{places-most}
+use Rattle.byte_edition.specs.Edition.{bytes}
 use Rattle.groups.specs.Lent.{Lent}
 use Rattle.groups.specs.LentLaws.{end-fits, part-length, part-narrow}
 use Rattle.recover.specs.Attempt.{Accepted}
@@ -32,8 +34,8 @@ returns c =
     let r = c .before in
     let a = r .before .before .before .before .before .args in
     let n = r .refusal .result in
-    let e = service-refused (a .m) (a .w) (a .c) (a .g) (a .word .now) (a .marks .now) n
-    (refused-early (a .m) (a .w) (a .c) (a .g) (a .word .now) (a .marks .now) n (r .refusal .ensures) (c .if1 .taken)) (c .if1 .taken) in
+    let e = service-refused bytes (a .m) (a .w) (a .c) (a .g) (a .word .now) (a .marks .now) n
+    (refused-early byteLimits (a .m) (a .w) (a .c) (a .g) (a .word .now) (a .marks .now) n (r .refusal .ensures) (c .if1 .taken)) (c .if1 .taken) in
     let few = recover-most (a .m) (a .w) (a .c) (a .word .now) (a .marks .now) in
     let k : n ≡ 9 → ⊥ = (λ z. let h = r .refusal .ensures in omega arith) in
     (sym (mending-refused n 0 (c .if1 .taken) k) ∙ ap (λ o. mendingAt (o .number) (o .group)) (sym e), (ap (λ o. o .word) (sym e), ap (λ o. o .marks) (sym e)))
@@ -55,8 +57,8 @@ returns-2 : tie.Need-returns-2
 returns-2 c =
     let t = c .before in
     let a = t .before .before .before .before .before .before .args in
-    let e = service-refused (a .m) (a .w) (a .c) (a .g) (a .word .now) (a .marks .now) 7
-    (refused-seven (a .m) (a .w) (a .c) (a .g) (a .word .now) (a .marks .now) (fair t .refusal) (c .if2 .taken)) (λ z. omega arith) in
+    let e = service-refused bytes (a .m) (a .w) (a .c) (a .g) (a .word .now) (a .marks .now) 7
+    (refused-seven byteLimits (a .m) (a .w) (a .c) (a .g) (a .word .now) (a .marks .now) (fair t .refusal) (c .if2 .taken)) (λ z. omega arith) in
     (ap (λ o. mendingAt (o .number) (o .group)) (sym e), (ap (λ o. o .word) (sym e), ap (λ o. o .marks) (sym e)))
 
 -- past the second test the group's part lies within the word, and within the marks

@@ -4,7 +4,8 @@ use borrow.Author.Tests.{not-true, not-false}
 use lib.ListN.{length}
 use lib.Seq.{length-take-le}
 use Rattle.shape.specs.Answers.{mendingAt}
-use Rattle.code.specs.Edition.{bytes, bytes-sound}
+use Rattle.byte_edition.specs.Edition.{bytes}
+use Rattle.byte_edition.specs.EditionLaws.{bytes-sound}
 use Rattle.code.specs.Marks.{lostIn}
 use Rattle.code.specs.RepairLaws.{repaired-eight, repaired-nine, repaired-done}
 use borrow.Author.Needs.{needs}

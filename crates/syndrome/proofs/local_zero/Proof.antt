@@ -5,7 +5,7 @@ use borrow.Author.Count.{below-none, below-more}
 use borrow.Author.Needs.{needs}
 use lib.Ieee.Bits.{is-true}
 use lib.ListN.{length}
-use Rattle.code.specs.Edition.{bytes}
+use Rattle.byte_edition.specs.Edition.{bytes}
 use Rattle.code.specs.Word.{localSum}
 use Rattle.code.specs.WordLaws.{local-zero, zero-local}
 use Rattle.syndrome.specs.PartsLaws.{is-false, power-group}

@@ -8,7 +8,7 @@ use Rattle.counting.specs.Test.{both}
 use Rattle.shape.specs.Laws.{word-of-good}
 use Rattle.groups.specs.Lent.{Lent}
 use Rattle.groups.specs.LentLaws.{lent}
-use Rattle.code.specs.Edition.{bytes}
+use Rattle.byte_edition.specs.Edition.{bytes}
 use Rattle.code.specs.Word.{isCodeword}
 use Rattle.syndrome.specs.declared.Sums.{Sums}
 use Rattle.syndrome.specs.TestsLaws.{broken-other, across-decide}

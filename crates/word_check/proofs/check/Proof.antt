@@ -6,7 +6,7 @@ use borrow.Author.Needs.{needs}
 use lib.ListN.{length, getD}
 use Rattle.shape.specs.Laws.{good-of-word}
 use Rattle.shape.specs.Shapes.{wordRefusal}
-use Rattle.code.specs.Edition.{bytes}
+use Rattle.byte_edition.specs.Edition.{bytes}
 use Rattle.code.specs.ContradictionLaws.{whole-groups}
 use Rattle.syndrome.specs.declared.Tested.{Tested}
 use Rattle.syndrome.specs.Tests.{brokenGroup}

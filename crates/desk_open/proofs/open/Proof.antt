@@ -1,0 +1,105 @@
+use mathlib.Core.Path.{_≡_, refl, sym, ap, _∙_, subst}
+use Prim.Native.Nat.{_<_}
+use native.Mathlib.Omega.{arith}
+use Rattle.shape.specs.Laws.{places-most}
+use Rattle.marks.specs.Refusal.{Marked}
+use Rattle.desk_open.specs.Open.{openOf, openBy, newJob}
+use Rattle.desk_job.specs.JobLaws.{judged-marked}
+use Rattle.desk_open.specs.OpenLaws.{open-refused, opened-refused, Openable, open-parts}
+use Rattle.desk_record.proofs.Laws.{jobs-long}
+use borrow.Author.Needs.{needs}
+use Rattle.desk_open.proofs.open.Statement.{statement}
+use Rattle.desk_open.proofs.open.Tie as tie
+
+parts : (c : tie.After-free-slot)
+    → Openable (c .before .before .before .before .args .m) (c .before .before .before .before .args .w) (c .before .before .before .before .args .c)
+    (c .before .before .before .before .args .marks .now) (c .before .before .before .before .args .desk)
+parts c =
+    let s = c .before .before .before .before in
+    let a = s .args in
+    open-parts (a .m) (a .w) (a .c) (a .marks .now) (a .desk) (jobs-long (a .desk) _ (s .good .0)) (sym (c .before .before .open-refusal .ensures) ∙ c .before .if1 .left)
+
+marked : (c : tie.After-free-slot)
+    → Marked (c .before .before .before .before .args .m) (c .before .before .before .before .args .w) (c .before .before .before .before .args .c)
+    (c .before .before .before .before .args .marks .now)
+marked c =
+    let a = c .before .before .before .before .args in
+    judged-marked (a .m) (a .w) (a .c) (a .marks .now) (parts c .judged)
+
+slot : (c : tie.After-free-slot) → c .free-slot .result < 8
+slot c = subst (λ n. n < 8) (sym (c .free-slot .ensures)) (parts c .room)
+
+open-refusal-requires : tie.Need-open-refusal-requires
+open-refusal-requires c κs = search needs
+
+returns : tie.Need-returns
+unfolding openOf
+returns c =
+    let a = c .before .before .before .args in
+    let r = c .before .open-refusal .result in
+    let e : openOf (a .m) (a .w) (a .c) (a .marks .now) (a .desk) ≡ record { number = r; handle = 0; desk = a .desk }
+    = ap (λ n. openBy n (a .m) (a .w) (a .c) (a .marks .now) (a .desk)) (sym (c .before .open-refusal .ensures))
+    ∙ open-refused r (c .if1 .taken) (a .m) (a .w) (a .c) (a .marks .now) (a .desk) in
+    rw e (record { desk-is = refl; answer-is = sym (opened-refused r (c .if1 .taken) 0); number-is = refl; handle-is = refl })
+
+free-slot-requires : tie.Need-free-slot-requires
+free-slot-requires c κs = search needs
+
+add-t : tie.Need-add-t
+add-t c = let k = parts (c .before) .early in omega arith
+
+mul-handle : tie.Need-mul-handle
+mul-handle c = let k = parts (c .before) .early in omega arith
+
+add-handle : tie.Need-add-handle
+add-handle c =
+    let k = parts (c .before) .early in
+    let l = slot (c .before) in omega arith
+
+kept-requires : tie.Need-kept-requires
+kept-requires c κs =
+    let M = marked (c .before) in
+    let l = places-most (M .good) in
+    let z = M .size in omega arith
+
+cast-t16 : tie.Need-cast-t16
+cast-t16 c = let g = marked (c .before .before) .good in omega arith
+
+cast-t17 : tie.Need-cast-t17
+cast-t17 c = let g = marked (c .before .before) .good in omega arith
+
+cast-t18 : tie.Need-cast-t18
+cast-t18 c = let g = marked (c .before .before) .good in omega arith
+
+mul-t20 : tie.Need-mul-t20
+mul-t20 c = let l = slot (c .before .before) in omega arith
+
+element-set-from-d : tie.Need-element-set-from-d
+element-set-from-d c = slot (c .before .before)
+
+returns-2 : tie.Need-returns-2
+unfolding openOf newJob
+returns-2 c =
+    let f = c .before .before in
+    let a = f .before .before .before .before .args in
+    let e : openOf (a .m) (a .w) (a .c) (a .marks .now) (a .desk) ≡ openBy 0 (a .m) (a .w) (a .c) (a .marks .now) (a .desk)
+    = ap (λ n. openBy n (a .m) (a .w) (a .c) (a .marks .now) (a .desk)) (sym (f .before .before .open-refusal .ensures) ∙ f .before .if1 .left) in
+    rw (e, f .free-slot .ensures, c .kept .ensures) (record { desk-is = refl; answer-is = refl; number-is = refl; handle-is = refl })
+
+pub open-spec : {M : Type 1} → statement M
+open-spec =
+    tie.close
+    (tie.spec
+    open-refusal-requires
+    returns
+    free-slot-requires
+    add-t
+    mul-handle
+    add-handle
+    kept-requires
+    cast-t16
+    cast-t17
+    cast-t18
+    mul-t20
+    element-set-from-d
+    returns-2)

@@ -1,0 +1,4 @@
+pub mod Desks
+pub mod Refusal
+pub mod Laws
+pub mod RefusalLaws

@@ -1,0 +1,135 @@
+use mathlib.Core.Path.{_≡_, refl, sym, ap, _∙_}
+use native.Mathlib.Omega.{arith}
+use Rattle.shape.specs.declared.Mending.{Mending}
+use Rattle.shape.specs.Answers.{mendingAt}
+use Rattle.shape.specs.Refusals.{unlessRefused}
+use Rattle.desk_record.specs.Desks.{slotOf, jobAt}
+use Rattle.desk_record.specs.Desks.{withJob}
+use Rattle.desk_serve.specs.Serve.{recoveryOf, jobNumber, serveBy, serveOf}
+use Rattle.desk_serve.specs.ServeLaws.{mending-is, mending-some, job-room, gives-handle, gives-job, serve-job}
+use Rattle.desk_record.specs.RefusalLaws.{open-good}
+use borrow.Author.Needs.{needs}
+use Rattle.desk_serve.proofs.serve.Statement.{statement}
+use Rattle.desk_serve.proofs.serve.Tie as tie
+
+handle-refusal-requires : tie.Need-handle-refusal-requires
+handle-refusal-requires c κs = search needs
+
+returns : tie.Need-returns
+returns c =
+    let a = c .before .before .before .args in
+    gives-handle (a .handle) (a .word .now) (a .t1) (c .before .handle-refusal .result) (c .if1 .taken) (sym (c .before .handle-refusal .ensures))
+
+mul-job : tie.Need-mul-job
+mul-job c = search needs
+
+element-copy-out-job : tie.Need-element-copy-out-job
+element-copy-out-job c = search needs
+
+serve-job-requires : tie.Need-serve-job-requires
+serve-job-requires c κs =
+    let e₁ = c .before .before in
+    let a = e₁ .before .before .before .args in
+    open-good (a .handle) (a .t1) (sym (e₁ .before .handle-refusal .ensures) ∙ e₁ .if1 .left)
+
+enum-known-r : tie.Need-enum-known-r
+enum-known-r c = search needs
+
+enum-known-group : tie.Need-enum-known-group
+enum-known-group c = search needs
+
+enum-told : tie.Need-enum-told
+enum-told c = search needs
+
+served-once-requires : tie.Need-served-once-requires
+served-once-requires c κs =
+    let k = c .before .before .before .before in
+    let a = k .before .before .before .before .before .before .args in
+    let j = jobAt (a .t1) (slotOf (a .handle)) in
+    let z : jobNumber j (a .word .now) ≡ 0
+    = mending-is (jobNumber j (a .word .now)) ((recoveryOf j (a .word .now)) .group) (sym (c .enum-told .given .1) ∙ k .serve-job .ensures .0) in
+    job-room j (a .word .now) z
+
+mul-raised : tie.Need-mul-raised
+mul-raised c = search needs
+
+element-set-from-raised : tie.Need-element-set-from-raised
+element-set-from-raised c = search needs
+
+same-length : tie.Need-same-length
+same-length c = search needs
+
+returns-2 : tie.Need-returns-2
+returns-2 c =
+    let k = c .before .before .before .before .before in
+    let e₁ = k .before .before .before in
+    let a = e₁ .before .before .before .args in
+    let j = jobAt (a .t1) (slotOf (a .handle)) in
+    let n = jobNumber j (a .word .now) in
+    let g = (recoveryOf j (a .word .now)) .group in
+    let r = c .before .r .given .0 .0 in
+    let q : Mending.Refused r ≡ mendingAt n g = sym (c .before .r .given .1) ∙ k .serve-job .ensures .0 in
+    gives-job (a .handle) (a .word .now) (a .t1) (sym (e₁ .before .handle-refusal .ensures) ∙ e₁ .if1 .left) (mending-some n g r q) _
+    (k .serve-job .ensures .1) (Mending.Refused r) q
+
+same-length-2 : tie.Need-same-length-2
+same-length-2 c = search needs
+
+returns-3 : tie.Need-returns-3
+returns-3 c =
+    let k = c .before .before .before .before .before in
+    let e₁ = k .before .before .before in
+    let a = e₁ .before .before .before .args in
+    let j = jobAt (a .t1) (slotOf (a .handle)) in
+    let n = jobNumber j (a .word .now) in
+    let g = (recoveryOf j (a .word .now)) .group in
+    let r = c .before .group .given .0 .0 in
+    let q : Mending.Contradictory r ≡ mendingAt n g = sym (c .before .group .given .1) ∙ k .serve-job .ensures .0 in
+    let some : n ≡ 0 → ⊥ = λ z. let e : n ≡ 9 = mending-is n g q in omega arith in
+    gives-job (a .handle) (a .word .now) (a .t1) (sym (e₁ .before .handle-refusal .ensures) ∙ e₁ .if1 .left) some _
+    (k .serve-job .ensures .1) (Mending.Contradictory r) q
+
+same-length-3 : tie.Need-same-length-3
+same-length-3 c = search needs
+
+returns-4 : tie.Need-returns-4
+returns-4 c =
+    let k = c .before .before .before .before .before in
+    let e₁ = k .before .before .before in
+    let a = e₁ .before .before .before .args in
+    let j = jobAt (a .t1) (slotOf (a .handle)) in
+    let z : jobNumber j (a .word .now) ≡ 0
+    = mending-is (jobNumber j (a .word .now)) ((recoveryOf j (a .word .now)) .group) (sym (c .before .enum-told .given .1) ∙ k .serve-job .ensures .0) in
+    let e : serveOf (a .handle) (a .word .now) (a .t1) ≡ serveBy 0 (a .handle) (a .word .now) (a .t1)
+    = serve-job (a .handle) (a .word .now) (a .t1) (sym (e₁ .before .handle-refusal .ensures) ∙ e₁ .if1 .left)
+    ∙ ap (λ n. serveBy n (a .handle) (a .word .now) (a .t1)) z in
+    rw e
+    (record {
+      word-is = k .serve-job .ensures .1 ∙ ap (λ n. unlessRefused n ((recoveryOf j (a .word .now)) .word) (a .word .now)) z;
+      desk-is = ap (withJob (a .t1) (slotOf (a .handle))) (c .served-once .ensures);
+      answer-is = refl;
+      number-is = refl;
+      group-is = refl;
+    })
+
+pub serve-spec : {M : Type 1} → statement M
+serve-spec =
+    tie.close
+    (tie.spec
+    handle-refusal-requires
+    returns
+    mul-job
+    element-copy-out-job
+    serve-job-requires
+    enum-known-r
+    enum-known-group
+    enum-told
+    served-once-requires
+    mul-raised
+    element-set-from-raised
+    same-length
+    returns-2
+    same-length-2
+    returns-3
+    same-length-3
+    returns-4)
