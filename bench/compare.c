@@ -175,6 +175,8 @@ static void print_head(const char *title) {
 
 int main(void) {
   static const int shapes[][3] = {{15, 16, 4}, {15, 16, 1}, {15, 12, 4}, {8, 10, 2}, {2, 3, 1}};
+  /* four checks are out of sale: words are encoded with three in their place */
+  static const int sold[][3] = {{15, 16, 3}, {15, 16, 1}, {15, 12, 3}, {8, 10, 2}, {2, 3, 1}};
   enum { SHAPES = sizeof shapes / sizeof shapes[0], LINES = 5 * SHAPES };
   static struct scene s[LINES];
   static double time[LINES][WAYS], ratio[WAYS];
@@ -182,7 +184,8 @@ int main(void) {
   if (!same_field()) stop("a stock library has another field");
   for (int i = 0; i < LINES; i++) {
     int kind = i / SHAPES;
-    s[i] = scene(kind == 0 ? ENCODE : kind == 4 ? REPAIR : RECOVER, shapes[i % SHAPES], kind == 2 || kind == 3 ? kind - 1 : 0);
+    const int *shape = kind == 0 ? sold[i % SHAPES] : shapes[i % SHAPES];
+    s[i] = scene(kind == 0 ? ENCODE : kind == 4 ? REPAIR : RECOVER, shape, kind == 2 || kind == 3 ? kind - 1 : 0);
     measure(&s[i], time[i]);
   }
   print_head("nanoseconds a word");

@@ -12,7 +12,12 @@ static struct axlebloom_desk desk;
 
 int main(void) {
   for (int i = 0; i < 178; i++) data[i] = (uint8_t)(i * 11 + 3);
-  if (axlebloom_encode(M, W, C, data, 178, word, N)) return 1;
+  // four checks are out of sale: a word with them is made by recovering its check places
+  for (int p = 0, i = 0; p < N; p++) {
+    marks[p] = p % W >= W - C || p >= N - C - 2;
+    if (!marks[p]) word[p] = data[i++];
+  }
+  if (axlebloom_recover(M, W, C, word, N, marks, N).number) return 1;
   for (int g = 0; g < M; g++) for (int i = 0; i < C + (g < 2); i++) marks[g * W + (i * 3 + g) % W] = 1;
   double start = now();
   for (int i = 0; i < TURNS; i++) {

@@ -20,7 +20,8 @@
 extern "C" {
 #endif
 
-/* Refusals: the lowest number that applies is given. Only with a desk 31 comes before all others, and with a handle 12, 5, 13, 9 follow. */
+/* Refusals: the lowest number that applies is given. Only with a desk 31 comes before all others, and with a handle 12, 5, 13, 9 follow; and
+ * 29 comes straight after 4. */
 enum {
   AXLEBLOOM_DONE = 0,
   AXLEBLOOM_GROUPS = 1,        /* m is not 1 to 15 */
@@ -39,6 +40,8 @@ enum {
   AXLEBLOOM_NOT_OPEN = 12,     /* no open job of this desk has that handle: it was closed, it is older than the last axlebloom_fresh, or this
                                   desk never gave it */
   AXLEBLOOM_SERVED_OUT = 13,   /* this job has served 4294967295 words; close it and open it again */
+  AXLEBLOOM_RETIRED = 29,      /* four local checks are out of sale: axlebloom_encode refuses c = 4. Old words with it are still described,
+                                  checked, extracted, judged, repaired, recovered and served */
   AXLEBLOOM_UNSOUND = 31       /* the desk is not sound, which is explained where it is declared; axlebloom_fresh starts a new one, without
                                   its jobs */
 };
@@ -57,7 +60,7 @@ struct axlebloom_answer {
   uint8_t group;
 };
 
-/* Whether the shape is good: 0, or 1 to 4. */
+/* Whether the shape is good: 0, or 1 to 4. A good shape with c = 4 can be read and mended, but axlebloom_encode refuses it (29). */
 uint8_t axlebloom_describe(size_t m, size_t w, size_t c);
 
 /* Of a good shape the places n of a word, the bytes k of data in it, and the most lost places that are
@@ -66,7 +69,7 @@ size_t axlebloom_places(size_t m, size_t w, size_t c);
 size_t axlebloom_data(size_t m, size_t w, size_t c);
 size_t axlebloom_sure(size_t m, size_t w, size_t c);
 
-/* Writes the one codeword that carries k bytes of data into word. Refused by 1 to 5. */
+/* Writes the one codeword that carries k bytes of data into word. Refused by 1 to 4, 29 for c = 4, and 5. */
 uint8_t axlebloom_encode(size_t m, size_t w, size_t c, const uint8_t *data, size_t k, uint8_t *word, size_t n);
 
 /* Takes the k bytes of data out of any word. Refused by 1 to 5. */

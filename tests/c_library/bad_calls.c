@@ -252,10 +252,13 @@ int main(void) {
   expect("width 300", 3, number_of(0, axlebloom_repair(15, 300, 4, 0, word, 240, marks, 240)), -1, 0);
   expect("no data", 4, axlebloom_encode(1, 3, 1, data, 0, word, 3), -1, 0);
   expect("null word", 5, number_of(0, axlebloom_recover(15, 16, 4, NULL, 0, NULL, 0)), -1, 0);
-  expect("null data", 5, axlebloom_encode(15, 16, 4, NULL, 0, word, 240), -1, 0);
+  expect("null data", 5, axlebloom_encode(15, 16, 3, NULL, 0, word, 240), -1, 0);
   expect("short word", 5, number_of(0, axlebloom_recover(15, 16, 4, word, 239, marks, 240)), -1, 0);
   expect("short marks", 5, number_of(0, axlebloom_recover(15, 16, 4, word, 240, marks, 239)), -1, 0);
-  expect("short data", 5, axlebloom_encode(15, 16, 4, data, 177, word, 240), -1, 0);
+  expect("short data", 5, axlebloom_encode(15, 16, 3, data, 177, word, 240), -1, 0);
+  expect("four checks", 29, axlebloom_encode(15, 16, 4, data, 178, word, 240), -1, 0);
+  expect("four checks, no data", 4, axlebloom_encode(1, 6, 4, data, 0, word, 6), -1, 0);
+  expect("four checks, short word", 29, axlebloom_encode(15, 16, 4, data, 178, word, 239), -1, 0);
   expect("short word of check", 5, number_of(0, axlebloom_check(15, 16, 4, word, 239)), -1, 0);
   expect("group m", 7, number_of(0, axlebloom_repair(15, 16, 4, 15, word, 240, marks, 240)), -1, 0);
   expect("group at the end", 7, number_of(0, axlebloom_repair(15, 16, 4, most, word, 240, marks, 240)), -1, 0);

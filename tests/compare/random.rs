@@ -116,9 +116,7 @@ pub fn marks(r: &mut Random, s: Shape, more: usize) -> Vec<u8> {
 /// The codeword of these data of a good shape.
 pub fn codeword(s: Shape, data: &[u8]) -> Vec<u8> {
     let (m, w, c) = wide(s);
-    let mut word = vec![0; s.0 * s.1];
-    second::encode(m, w, c, data, &mut word);
-    word
+    second::codeword(m, w, c, data)
 }
 
 /// The word with other bytes in its lost places.

@@ -227,15 +227,30 @@ pub enum Checked {
     No(u64),
 }
 
-/// Encode k data bytes into a word of n bytes: 0, or 1 to 5.
+/// Four local checks are out of sale; old words with them stay readable.
+pub fn is_retired(c: u64) -> bool {
+    c == 4
+}
+
+/// Encode k data bytes into a word of n bytes: 0, or 1 to 4, 29, 5.
 pub fn encode(m: u64, w: u64, c: u64, data: &[u8], word: &mut [u8]) -> u8 {
     let (n, k, _) = match describe(m, w, c) {
         Ok(figures) => figures,
         Err(number) => return number,
     };
+    if is_retired(c) {
+        return 29;
+    }
     if data.len() as u64 != k || word.len() as u64 != n {
         return 5;
     }
+    word.copy_from_slice(&codeword(m, w, c, data));
+    0
+}
+
+/// The codeword that carries these k data bytes, of any good shape, a retired one too.
+pub fn codeword(m: u64, w: u64, c: u64, data: &[u8]) -> Vec<u8> {
+    let n = m * w;
     let unknown: Vec<bool> = (0..n).map(|p| is_check_place(m, w, c, p)).collect();
     let mut known = vec![0; n as usize];
     let mut next = 0;
@@ -249,8 +264,7 @@ pub fn encode(m: u64, w: u64, c: u64, data: &[u8], word: &mut [u8]) -> u8 {
         Solution::Unique(found) => fill(&mut known, &unknown, &found),
         _ => panic!("the check places are always determined"),
     }
-    word.copy_from_slice(&known);
-    0
+    known
 }
 
 /// Extract the k data bytes of any word of n bytes: 0, or 1 to 5.

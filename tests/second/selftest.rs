@@ -47,6 +47,10 @@ impl Random {
 
 fn encoded(m: u64, w: u64, c: u64, data: &[u8]) -> Vec<u8> {
     let mut word = vec![0; (m * w) as usize];
+    if is_retired(c) {
+        assert_eq!(encode(m, w, c, data, &mut word), 29);
+        return codeword(m, w, c, data);
+    }
     assert_eq!(encode(m, w, c, data, &mut word), 0);
     word
 }
@@ -274,6 +278,8 @@ fn refusals(t: &mut Tally) {
     let (mut word, mut data) = ([7u8; 6], [7u8; 2]);
     t.ok(encode(0, 3, 1, &[1, 1], &mut word) == 1, "encode 1");
     t.ok(encode(1, 3, 1, &[], &mut word[..3]) == 4, "encode 4");
+    t.ok(encode(1, 6, 4, &[], &mut word) == 4, "encode 4 before 29");
+    t.ok(encode(1, 7, 4, &[], &mut word) == 29, "encode 29 before 5");
     t.ok(encode(2, 3, 1, &[1], &mut word) == 5, "encode short data");
     t.ok(encode(2, 3, 1, &[1, 1], &mut word[..5]) == 5, "encode short word");
     t.ok(extract(2, 3, 9, &word, &mut data) == 2, "extract 2");

@@ -11,9 +11,8 @@ use Rattle.shape.specs.declared.Mending.{Mending}
 use Rattle.shape.specs.Answers.{mendingAt, mendingNumber, mendingGroup}
 use Rattle.shape.specs.AnswersLaws.{mending-number, mending-refused}
 use Rattle.shape.specs.Refusals.{refuse, _orElse_, unlessRefused}
-use Rattle.shape.specs.RefusalsLaws.{unless-refused, refuse-zero, orElse-zero}
+use Rattle.shape.specs.RefusalsLaws.{unless-refused, refuse-zero, orElse-zero, orElse-first}
 use Rattle.shape.specs.Shapes.{placeCount}
-use Rattle.marks.specs.RefusalLaws.{orElse-first}
 use Rattle.byte_edition.specs.Edition.{bytes}
 use Rattle.code.specs.Word.{isCodeword}
 use Rattle.code.specs.Marks.{excess}

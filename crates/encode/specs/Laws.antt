@@ -11,9 +11,11 @@ use lib.ListN.{length, getD}
 use lib.Pow.{pow-pos}
 use Rattle.counting.specs.Count.{totalBelow, countBelow}
 use Rattle.counting.specs.CountLaws.{total-ext, total-suc, total-zero, count-ext}
+use Rattle.shape.specs.Answers.{answerAt}
 use Rattle.shape.specs.Refusals.{unlessRefused}
-use Rattle.shape.specs.Shapes.{GoodIn, Good, placeCount, dataCount, bufferRefusal}
-use Rattle.shape.specs.Laws.{word-of-good, good-of-buffers}
+use Rattle.shape.specs.RefusalsLaws.{orElse-zero}
+use Rattle.shape.specs.Shapes.{Limits, GoodIn, Good, SoldIn, placeCount, dataCount, saleRefusalIn, bufferRefusalIn}
+use Rattle.shape.specs.Laws.{Unshaped, word-of-good, good-of-buffers, buffers-of-good, refusal-of-sold, retired-of-good, sale-unshaped}
 use Rattle.places.specs.Places.{isCheck, extractOf, placedOf, placedWord, checkMarks, mark}
 use Rattle.places.specs.Laws.{checks-inner, checks-last, marks-length, marks-at, marks-small, placed-length, placed-word, placed-below, extract-placed, extract-agree, agree-extract}
 use Rattle.marks.specs.RefusalLaws.{marks-of-good}
@@ -26,8 +28,8 @@ use Rattle.code.specs.Recovery.{Agrees, recovered}
 use Rattle.code.specs.RecoveryLaws.{recovered-done, only-one}
 use Rattle.code.specs.EncodingLaws.{carried, carried-agrees}
 use Rattle.recover.specs.Service.{unlessBefore, recoverRefusalIn, recoverOf, recoverIn}
-use Rattle.encode.specs.Service.{encodedIn, encodedWord, encodedBuffer}
-use Rattle.encode.specs.DemandTwo.{Encoded}
+use Rattle.encode.specs.Service.{encodedIn, encodeRefusalIn, encodeIn, encodedBufferIn, encodedWord, encodeRefusal, encodedBuffer}
+use Rattle.encode.specs.DemandTwo.{Encoded, DemandTwo, Retired}
 
 module _ {E : Edition} (S : Sound E) {m w c : ℕ} (good : GoodIn (E .limits) m w c) where
   -- the lost places are the check places
@@ -93,7 +95,7 @@ module _ {E : Edition} (S : Sound E) {m w c : ℕ} (good : GoodIn (E .limits) m 
     agrees : Agrees E m w c (checkMarks m w c) (placedOf m w c carries) (encodedIn E m w c carries)
     agrees = subst (Agrees E m w c (checkMarks m w c) (placedOf m w c carries)) encoded-is agreeing-agrees
 
-    -- "it is a codeword; extract gives the data back; it is the only codeword with that data"
+    -- "it is a codeword; extract gives the data back; it is the only codeword with that data": of all four c, so that every data has one codeword
     pub encoded : Encoded E m w c carries (encodedIn E m w c carries)
     encoded = record {
       codeword = agrees .codeword;
@@ -105,7 +107,7 @@ module _ {E : Edition} (S : Sound E) {m w c : ℕ} (good : GoodIn (E .limits) m 
           agrees;
     }
 
-    -- a recovery of the check places is never refused, and gives the encoded word
+    -- a recovery of the check places is done, and gives the encoded word
     not-refused : recoverRefusalIn (E .limits) m w c (placedOf m w c carries) (checkMarks m w c) ≡ 0
     unfolding recoverRefusalIn
     not-refused =
@@ -118,14 +120,58 @@ module _ {E : Edition} (S : Sound E) {m w c : ℕ} (good : GoodIn (E .limits) m 
           }),
         )
 
+    pub checks-recovered : (recoverIn E m w c (placedOf m w c carries) (checkMarks m w c)) .number ≡ 0
+    unfolding recoverIn
+    checks-recovered =
+        ap (λ r. (unlessBefore r (recovered E m w c (placedOf m w c carries) (checkMarks m w c)) (placedOf m w c carries) (checkMarks m w c)) .number) not-refused
+        ∙ ap (λ (o : Outcome). o .number) (recovered-done E S m w c few wide narrow (placedOf m w c carries) (checkMarks m w c) symbols agreeing
+        (let e = two in omega arith) agreeing-agrees)
+
     pub recovered-checks : (recoverIn E m w c (placedOf m w c carries) (checkMarks m w c)) .word ≡ encodedIn E m w c carries
     unfolding recoverIn encodedIn
     recovered-checks = ap (λ r. (unlessBefore r (recovered E m w c (placedOf m w c carries) (checkMarks m w c)) (placedOf m w c carries) (checkMarks m w c)) .word) not-refused
 
+-- the refusals
+module _ {L : Limits} (m w c n k : ℕ) where
+  pub good-of-encode : encodeRefusalIn L m w c n k ≡ 0 → GoodIn L m w c × (n ≡ placeCount m w) × (k ≡ dataCount m w c)
+  unfolding encodeRefusalIn
+  good-of-encode e = good-of-buffers m w c n k (orElse-zero (saleRefusalIn L m w c) (bufferRefusalIn L m w c n k) e .1)
+
+  encode-of-sold : SoldIn L m w c → n ≡ placeCount m w → k ≡ dataCount m w c → encodeRefusalIn L m w c n k ≡ 0
+  unfolding encodeRefusalIn
+  encode-of-sold s e f = simp (refusal-of-sold m w c s, buffers-of-good m w c n k (s .good) e f)
+
+  encode-retired : GoodIn L m w c → c ≡ 4 → encodeRefusalIn L m w c n k ≡ 29
+  unfolding encodeRefusalIn
+  encode-retired g e = simp (retired-of-good m w c g e)
+
+-- of bytes
+pub encode-unshaped : (m w c n k r : ℕ) → Unshaped r m w c → encodeRefusal m w c n k ≡ r
+unfolding encodeRefusalIn
+encode-unshaped m w c n k r u = simp (sale-unshaped m w c (u .less) (u .refusal), u .number)
+
+-- Demand 2, for a shape on sale and k symbols of data, with a word of n.
+pub demand-two : {E : Edition} (S : Sound E) (m w c : ℕ) (carries word : List ℕ) → SoldIn (E .limits) m w c → length carries ≡ dataCount m w c
+    → ((i : ℕ) → getD carries i 0 < 2 ^ E .bits) → length word ≡ placeCount m w → DemandTwo E m w c carries word
+unfolding encodeIn encodedBufferIn
+demand-two {E} S m w c carries word s size small long =
+    let z = encode-of-sold m w c (length word) (length carries) s long size in
+    record {
+      done = ap answerAt z;
+      encoded = subst (λ r. Encoded E m w c carries (unlessRefused r (encodedIn E m w c carries) word)) (sym z) (encoded S (s .good) carries size small);
+    }
+
+-- A good shape with four checks is refused 29, whatever is lent.
+pub retired : (E : Edition) (m w c : ℕ) (carries word : List ℕ) → GoodIn (E .limits) m w c → c ≡ 4 → Retired E m w c carries word
+unfolding encodeIn encodedBufferIn
+retired E m w c carries word g e =
+    let z = encode-retired m w c (length word) (length carries) g e in
+    record { refused = ap answerAt z; stays = ap (λ r. unlessRefused r (encodedIn E m w c carries) word) z }
+
 -- a call whose buffers are not refused: the word after the data are placed, and at the end
-module _ (m w c : ℕ) (carries word after : List ℕ) (accepted : bufferRefusal m w c (length word) (length carries) ≡ 0) (put : after ≡ placedWord m w c carries word) where
+module _ (m w c : ℕ) (carries word after : List ℕ) (accepted : encodeRefusal m w c (length word) (length carries) ≡ 0) (put : after ≡ placedWord m w c carries word) where
   G : Good m w c × (length word ≡ placeCount m w) × (length carries ≡ dataCount m w c)
-  G = good-of-buffers m w c (length word) (length carries) accepted
+  G = good-of-encode m w c (length word) (length carries) accepted
 
   put-is : after ≡ placedOf m w c carries
   put-is = put ∙ placed-word (G .0) carries word (G .1) (G .2)
@@ -134,7 +180,7 @@ module _ (m w c : ℕ) (carries word after : List ℕ) (accepted : bufferRefusal
   after-size = ap length put-is ∙ placed-length m w c carries
 
   pub buffer-end : ((i : ℕ) → getD carries i 0 < 256) → (end : List ℕ) → end ≡ (recoverOf m w c after (checkMarks m w c)) .word → end ≡ encodedBuffer m w c carries word
-  unfolding encodedBuffer
+  unfolding encodedBufferIn
   buffer-end small end e =
       e ∙ ap (λ u. (recoverOf m w c u (checkMarks m w c)) .word) put-is ∙ recovered-checks bytes-sound (G .0) carries (G .2) small
       ∙ sym (ap (λ r. unlessRefused r (encodedWord m w c carries) word) accepted)

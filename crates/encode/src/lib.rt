@@ -2,11 +2,20 @@
 use shape::Answer;
 ghost use mathlib.Core.Path.{_≡_};
 ghost use lib.ListN.{length};
-ghost use Rattle.shape.specs.Shapes.{Good, placeCount, bufferRefusal};
+ghost use Rattle.shape.specs.Shapes.{Good, placeCount};
 ghost use Rattle.shape.specs.Answers.{answerNumber};
 ghost use Rattle.places.specs.Places.{checkMarks};
 ghost use Rattle.recover.specs.Service.{recoverOf};
-ghost use Rattle.encode.specs.Service.{encodeOf, encodedBuffer};
+ghost use Rattle.encode.specs.Service.{encodeRefusal, encodeOf, encodedBuffer};
+
+// The refusal of a call by its shape and its lengths: 1 to 4, 29, then 5; 0 if there is none.
+fn refusal(m: usize, w: usize, c: usize, word: usize, bytes: usize) -> u8
+    ensures { λ r. ⌜ r ≡ encodeRefusal m w c word bytes ⌝ }
+{
+    let unsold = shape::sale_refusal(m, w, c);
+    let lengths = shape::buffer_refusal(m, w, c, word, bytes);
+    shape::or_else(unsold, lengths)
+}
 
 // Recovers the check places of a word that holds its data; marks is room for the marks.
 fn fill_checks(m: usize, w: usize, c: usize, word: &mut [u8], marks: &mut [u8])
@@ -21,10 +30,10 @@ fn fill_checks(m: usize, w: usize, c: usize, word: &mut [u8], marks: &mut [u8])
 // Encodes k bytes into a word of n: the one codeword that carries them.
 pub fn encode(m: usize, w: usize, c: usize, bytes: &[u8], word: &mut [u8]) -> Answer
     ensures answer { λ r. ⌜ r ≡ encodeOf m w c (now (bytes .entry)) (now (word .entry)) ⌝ }
-    ensures number { λ r. ⌜ answerNumber r ≡ bufferRefusal m w c (length (now (word .entry))) (length (now (bytes .entry))) ⌝ }
+    ensures number { λ r. ⌜ answerNumber r ≡ encodeRefusal m w c (length (now (word .entry))) (length (now (bytes .entry))) ⌝ }
     ensures buffer { λ _. ⌜ now (word .exit) ≡ encodedBuffer m w c (now (bytes .entry)) (now (word .entry)) ⌝ }
 {
-    let r = shape::buffer_refusal(m, w, c, word.len(), bytes.len());
+    let r = refusal(m, w, c, word.len(), bytes.len());
     if r != 0 {
         return Answer::Refused(r);
     }

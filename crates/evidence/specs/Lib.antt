@@ -4,6 +4,7 @@ pub mod HandSums
 pub mod HandSumsLaws
 pub mod AcrossServices
 pub mod AcrossServicesLaws
+pub mod BytesLaws
 pub mod PaperSession
 pub mod PaperSessionLaws
 pub mod NineLines

@@ -2,7 +2,8 @@
 use mathlib.Core.Path.{_≡_, refl, ap, _∙_}
 use mathlib.Core.List.{List, [], _∷_}
 use Prim.Native.Nat.{ℕ}
-use Rattle.shape.specs.Shapes.{shapeRefusalIn, wordRefusalIn, bufferRefusalIn}
+use Rattle.shape.specs.Shapes.{shapeRefusalIn, retiredRefusal, saleRefusalIn, wordRefusalIn, bufferRefusalIn}
+use Rattle.encode.specs.Service.{encodeRefusalIn}
 use Rattle.text.specs.Decimal.{decimal, digitsAfter, numberOf}
 use Rattle.text.specs.Fields.{fields, same, meaning}
 use Rattle.text.specs.Records.{nameKind, lineName, contents, allUnder, lineKind, lineBytes, lineMarks}
@@ -31,8 +32,8 @@ unfolding turnOf recordTurn lineKind nameKind lineName contents fields same mean
 first-turn = refl
 
 second-turn : turnOf second 2 3 1 ≡ turn (wordLine (1 ∷ 1 ∷ 0 ∷ 78 ∷ 206 ∷ 128 ∷ [])) 2 3 1
-unfolding turnOf recordTurn lineKind nameKind lineName contents fields same meaning numberOf digitsAfter allUnder lineBytes lineMarks dataTurn bufferRefusalIn wordRefusalIn
-    shapeRefusalIn
+unfolding turnOf recordTurn lineKind nameKind lineName contents fields same meaning numberOf digitsAfter allUnder lineBytes lineMarks dataTurn encodeRefusalIn
+    saleRefusalIn retiredRefusal bufferRefusalIn wordRefusalIn shapeRefusalIn
 second-turn = ap (λ word. turn (wordLine word) 2 3 1) encoded-second
 
 third-turn : turnOf third 2 3 1 ≡ turn (wordLine (1 ∷ 1 ∷ 0 ∷ 78 ∷ 206 ∷ 128 ∷ [])) 2 3 1

@@ -18,7 +18,7 @@ ghost use Rattle.places.specs.Places.{extractedData};
 ghost use Rattle.judge.specs.Answer.{judgedNumber, judgedNumberOf};
 ghost use Rattle.recover.specs.Service.{recoverOf};
 ghost use Rattle.repair.specs.Service.{repairOf};
-ghost use Rattle.encode.specs.Service.{encodedBuffer};
+ghost use Rattle.encode.specs.Service.{encodeRefusal, encodedBuffer};
 ghost use Rattle.desk_record.specs.Desks.{freshDesk};
 ghost use Rattle.desk_open.specs.Open.{openOf, openedNumber};
 ghost use Rattle.desk_close.specs.Read.{readOf, countedNumber};
@@ -176,7 +176,7 @@ pub extern "C" fn axlebloom_encode(
     bytes: &[u8],
     word: &mut [u8],
 ) -> u8
-    ensures number { λ r. ⌜ r ≡ bufferRefusal m w c (length (now (word .entry))) (length (now (bytes .entry))) ⌝ }
+    ensures number { λ r. ⌜ r ≡ encodeRefusal m w c (length (now (word .entry))) (length (now (bytes .entry))) ⌝ }
     ensures buffer { λ _. ⌜ now (word .exit) ≡ encodedBuffer m w c (now (bytes .entry)) (now (word .entry)) ⌝ }
 {
     number(encode::encode(m, w, c, bytes, word))

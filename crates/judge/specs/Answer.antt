@@ -8,7 +8,7 @@ use Rattle.shape.specs.Shapes.{Limits, byteLimits}
 use Rattle.marks.specs.Refusal.{marksRefusalIn}
 use Rattle.judge.specs.declared.Judged.{Judged}
 
--- 8: undetermined, which is an excess above two; after 1 to 6
+-- 8: undetermined, which is an excess above two; after 1 to 6 and 26
 unfoldable pub judgedNumberIn : Limits → ℕ → ℕ → ℕ → List ℕ → ℕ
 judgedNumberIn L m w c marks = marksRefusalIn L m w c marks orElse refuse 8 (ltb 2 (excess m w c marks))
 

@@ -13,7 +13,7 @@ use Rattle.shape.specs.Shapes.{Limits, byteLimits, GoodIn, wordRefusalIn}
 unfoldable pub areMarks : List ℕ → Bool
 areMarks marks = allBelow (length marks) (λ p. ltb (getD marks p 0) 2)
 
--- 6: "a mark is neither 0 nor 1", after 1 to 5
+-- 6: "a mark is neither 0 nor 1", after 1 to 5 and 26
 unfoldable pub marksRefusalIn : Limits → ℕ → ℕ → ℕ → List ℕ → ℕ
 marksRefusalIn L m w c marks = wordRefusalIn L m w c (length marks) orElse refuse 6 (not (areMarks marks))
 

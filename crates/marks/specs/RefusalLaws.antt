@@ -16,11 +16,6 @@ use Rattle.shape.specs.Laws.{word-most, good-of-word, word-of-good}
 use Rattle.shape.specs.Shapes.{Limits, wordRefusal}
 use Rattle.marks.specs.Refusal.{areMarks, marksRefusalIn, marksRefusal, MarkedIn}
 
--- the first number that is not 0
-pub orElse-first : (r s : ℕ) → (r ≡ 0 → ⊥) → r orElse s ≡ r
-orElse-first zero s h = absurd (h refl)
-orElse-first (suc r) s h = refl
-
 pub each-mark : (marks : List ℕ) → T (areMarks marks) → (p : ℕ) → getD marks p 0 < 2
 unfolding areMarks
 each-mark marks t p = elim (decLt p (length marks)) [

@@ -1,7 +1,6 @@
 -- Demand 2 of Recover as it runs: "Recovery is refused as undetermined exactly when two different codewords agree at every present place, else
 -- as contradictory exactly when no codeword agrees with the present bytes, else the single agreeing codeword stands in the word"; and the
--- group that a 9 carries. It is stated for every edition,
--- of recoverIn, with which, in the edition of bytes, the contract of recover::recover is an equation.
+-- group that a 9 carries. It is stated of recoverIn, with which, in the edition of bytes, the contract of recover::recover is an equation.
 use mathlib.Core.Path.{_≡_}
 use mathlib.Core.Logic.{_↔_}
 use mathlib.Core.List.{List}
@@ -33,7 +32,7 @@ module _ (E : Edition) (m w c : ℕ) (word marks : List ℕ) where
   abbrev pub end : Outcome
   end = recoverIn E m w c word marks
 
-  -- what demand 2 says of a call that is not refused 1 to 6
+  -- what demand 2 says of a call that is not refused 1 to 6 or 26
   pub record DemandTwo : Type 0 where
     -- 8 exactly when two different codewords agree at every present place
     pub eight : (end .number ≡ 8) ↔ Undetermined E m w c marks

@@ -15,7 +15,7 @@ abbrev pub unlessBefore : ℕ → Outcome → List ℕ → List ℕ → Outcome
 unlessBefore zero o word marks = o
 unlessBefore (suc r) o word marks = refused (suc r) word marks
 
--- 1 to 6: the shape, the lengths of word and marks, the marks
+-- 1 to 6 and 26: the shape, the lengths of word and marks, the marks
 unfoldable pub recoverRefusalIn : Limits → ℕ → ℕ → ℕ → List ℕ → List ℕ → ℕ
 recoverRefusalIn L m w c word marks = wordRefusalIn L m w c (length word) orElse marksRefusalIn L m w c marks
 

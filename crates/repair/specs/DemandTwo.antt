@@ -1,5 +1,5 @@
 -- Demand 2 of Repair as it runs: "One group's repair obeys the same rule over its own equations", and touches nothing outside its group. It is
--- stated for every edition, of repairIn, with which, in the edition of bytes, the contract of repair::repair is an equation.
+-- stated of repairIn, with which, in the edition of bytes, the contract of repair::repair is an equation.
 use mathlib.Core.Path.{_≡_}
 use mathlib.Core.Logic.{_↔_, _⊎_}
 use mathlib.Core.List.{List}
@@ -29,7 +29,7 @@ module _ (E : Edition) (m w c g : ℕ) (word marks : List ℕ) where
   abbrev pub OwnUndetermined : Type 0
   OwnUndetermined = LocallyUndetermined E w c (stretch w g marks)
 
-  -- what demand 2 says of a call that is not refused 1 to 7
+  -- what demand 2 says of a call that is not refused 1 to 7 or 26
   pub record DemandTwo : Type 0 where
     -- 8 exactly when two different such stretches agree, and that is "exactly if more than c of its places are lost"
     pub eight : (end .number ≡ 8) ↔ OwnUndetermined

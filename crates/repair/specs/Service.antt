@@ -13,7 +13,7 @@ use Rattle.byte_edition.specs.Edition.{bytes}
 use Rattle.code.specs.Answer.{Outcome}
 use Rattle.code.specs.Repair.{repairedGroup, Satisfies}
 
--- 1 to 7: the shape, the lengths of word and marks, the marks, the group number
+-- 1 to 7 and 26: the shape, the lengths of word and marks, the marks, the group number
 unfoldable pub repairRefusalIn : Limits → ℕ → ℕ → ℕ → ℕ → List ℕ → List ℕ → ℕ
 repairRefusalIn L m w c g word marks = recoverRefusalIn L m w c word marks orElse refuse 7 (not (ltb g m))
 

@@ -12,7 +12,7 @@ use lib.ListN.{length, getD, take, drop}
 use lib.Seq.{ext-getD}
 use Rattle.shape.specs.Refusals.{refuse, _orElse_}
 use Rattle.shape.specs.Shapes.{Limits}
-use Rattle.shape.specs.RefusalsLaws.{refuse-most, orElse-most}
+use Rattle.shape.specs.RefusalsLaws.{refuse-most, orElse-most, orElse-first}
 use Rattle.shape.specs.declared.Mending.{Mending}
 use Rattle.shape.specs.Answers.{mendingAt}
 use Rattle.groups.specs.Lent.{Lent}
@@ -33,7 +33,6 @@ use Rattle.code.specs.FillingLaws.{filling-symbols}
 use Rattle.code.specs.Repair.{repaired, repairedGroup, Satisfies}
 use Rattle.code.specs.Stretch.{withStretch}
 use Rattle.code.specs.StretchLaws.{own-place}
-use Rattle.marks.specs.RefusalLaws.{orElse-first}
 use Rattle.fill.specs.Filled.{Filled}
 use Rattle.repair.specs.Service.{repairRefusal, repairRefusalIn, repairOf, repairIn, PartAttempt}
 

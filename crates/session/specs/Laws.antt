@@ -13,10 +13,11 @@ use Rattle.shape.specs.declared.Mending.{Mending}
 use Rattle.shape.specs.Answers.{answerAt, mendingAt, mendingNumber, mendingGroup}
 use Rattle.shape.specs.AnswersLaws.{mending-number}
 use Rattle.shape.specs.RefusalsLaws.{orElse-zero}
-use Rattle.shape.specs.Shapes.{placeCount, dataCount, sureCount, shapeRefusal, bufferRefusal, describedOf, describedAt}
-use Rattle.shape.specs.Laws.{Unshaped, good-of-refusal, good-of-word, good-of-buffers, buffers-unshaped, places-most, data-and-checks}
+use Rattle.shape.specs.Shapes.{placeCount, dataCount, sureCount, shapeRefusal, describedOf, describedAt}
+use Rattle.shape.specs.Laws.{Unshaped, good-of-refusal, good-of-word, places-most, data-and-checks}
 use Rattle.recover.specs.Service.{recoverOf, recoverIn, recoverRefusal, recoverRefusalIn, unlessBefore}
-use Rattle.encode.specs.Service.{encodeOf, encodedWord, encodedBuffer}
+use Rattle.encode.specs.Service.{encodedWord, encodeRefusal, encodeOf, encodeIn, encodedBuffer, encodedBufferIn}
+use Rattle.encode.specs.Laws.{good-of-encode, encode-unshaped}
 use Rattle.text.specs.Lines.{okLine, wordLine}
 use Rattle.session.specs.declared.Reply.{Reply}
 use Rattle.session.specs.Turn.{Turn, turn, turnUnless, refusedTurn, contradictoryTurn, shapeTurn, dataTurn, wordTurn}
@@ -71,9 +72,9 @@ module _ (a b d m w c : ℕ) (reply : Reply) where
 
 -- data
 pub data-most : (bytes word : List ℕ) (m w c : ℕ) → encodeOf m w c bytes word ≡ Answer.Done → length word ≤ 240
-unfolding encodeOf
+unfolding encodeIn
 data-most bytes word m w c e =
-    let g = good-of-buffers m w c (length word) (length bytes) (done _ e) in
+    let g = good-of-encode m w c (length word) (length bytes) (done _ e) in
     let p = places-most (g .0) in
     omega arith
 
@@ -81,21 +82,21 @@ module _ (bytes : List ℕ) (m w c : ℕ) (reply : Reply) where
   pub data-unshaped : (r : ℕ) → describedOf m w c ≡ Described.Refused r → Replies reply (refusedTurn r m w c) → Replies reply (dataTurn bytes m w c)
   unfolding dataTurn
   data-unshaped r e h =
-      let u = unshaped m w c r e in rw (buffers-unshaped m w c (placeCount m w) (length bytes) r u, u .number) (rw (← u .number) h)
+      let u = unshaped m w c r e in rw (encode-unshaped m w c (placeCount m w) (length bytes) r u, u .number) (rw (← u .number) h)
 
   module _ (word : List ℕ) (l : length word ≡ placeCount m w) where
     pub data-refused : (r : ℕ) → encodeOf m w c bytes word ≡ Answer.Refused r → Replies reply (refusedTurn r m w c) → Replies reply (dataTurn bytes m w c)
-    unfolding dataTurn encodeOf
+    unfolding dataTurn encodeIn
     data-refused r e h =
-        let q : answerAt (bufferRefusal m w c (placeCount m w) (length bytes)) ≡ Answer.Refused r = rw l at e in
+        let q : answerAt (encodeRefusal m w c (placeCount m w) (length bytes)) ≡ Answer.Refused r = rw l at e in
         rw (turn-refused _ r _ m w c q) h
 
     pub data-done : (after : List ℕ) → encodeOf m w c bytes word ≡ Answer.Done → after ≡ encodedBuffer m w c bytes word → Replies reply (turn (wordLine after) m w c)
         → Replies reply (dataTurn bytes m w c)
-    unfolding dataTurn encodeOf encodedBuffer
+    unfolding dataTurn encodeIn encodedBufferIn
     data-done after e q h =
-        let z : bufferRefusal m w c (length word) (length bytes) ≡ 0 = done _ e in
-        let z₂ : bufferRefusal m w c (placeCount m w) (length bytes) ≡ 0 = rw l at z in
+        let z : encodeRefusal m w c (length word) (length bytes) ≡ 0 = done _ e in
+        let z₂ : encodeRefusal m w c (placeCount m w) (length bytes) ≡ 0 = rw l at z in
         let q₂ : after ≡ encodedWord m w c bytes = rw z at q in
         rw (z₂, ← q₂) h
 

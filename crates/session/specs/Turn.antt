@@ -5,9 +5,9 @@ use Prim.Native.Nat.{ℕ, zero, suc}
 use lib.Dec.{eqb}
 use lib.ListN.{length, getD}
 use Rattle.code.specs.Answer.{Outcome}
-use Rattle.shape.specs.Shapes.{placeCount, dataCount, shapeRefusal, bufferRefusal}
+use Rattle.shape.specs.Shapes.{placeCount, dataCount, shapeRefusal}
 use Rattle.recover.specs.Service.{recoverOf}
-use Rattle.encode.specs.Service.{encodedWord}
+use Rattle.encode.specs.Service.{encodeRefusal, encodedWord}
 use Rattle.text.specs.Records.{lineKind, lineBytes, lineMarks}
 use Rattle.text.specs.Lines.{okLine, refusedLine, contradictoryLine, wordLine}
 
@@ -39,9 +39,9 @@ turnUnless (suc r) t m w c = refusedTurn (suc r) m w c
 unfoldable pub shapeTurn : ℕ → ℕ → ℕ → ℕ → ℕ → ℕ → Turn
 shapeTurn a b d m w c = turnUnless (shapeRefusal a b d) (turn (okLine (placeCount a b) (dataCount a b d)) a b d) m w c
 
--- "data and word by a word line": data are encoded. "A wrong count of bytes, none included: 5."
+-- "data and word by a word line": data are encoded. "A wrong count of bytes, none included: 5." With a retired shape in force: 29, before 5.
 unfoldable pub dataTurn : List ℕ → ℕ → ℕ → ℕ → Turn
-dataTurn bytes m w c = turnUnless (bufferRefusal m w c (placeCount m w) (length bytes)) (turn (wordLine (encodedWord m w c bytes)) m w c) m w c
+dataTurn bytes m w c = turnUnless (encodeRefusal m w c (placeCount m w) (length bytes)) (turn (wordLine (encodedWord m w c bytes)) m w c) m w c
 
 -- and a word is recovered. "A 9 now carries a group number [..]. The program writes refused, 9 and that number"
 abbrev pub recoveredTurn : Outcome → ℕ → ℕ → ℕ → Turn

@@ -1,6 +1,6 @@
 -- The laws of a shape, by which whoever uses one goes.
 use mathlib.Core.Path.{_≡_, refl, sym, ap, subst}
-use mathlib.Core.Logic.{_↔_}
+use mathlib.Core.Logic.{_↔_, _⊎_, inl, inr}
 use mathlib.Core.Bool.{Bool, true, false, not, _||_}
 use mathlib.Core.List.{[], _∷_}
 use Prim.Native.Nat.{ℕ, zero, suc, _+_, _-_, _*_, _/_, _≤_}
@@ -11,10 +11,11 @@ use borrow.Author.Tests.{eqb-true, eqb-false, ltb-false, not-false, eq-eqb, ne-e
 use lib.Dec.{eqb, ltb}
 use Rattle.shape.specs.declared.Shape.{Shape}
 use Rattle.shape.specs.declared.Made.{Made}
-use Rattle.shape.specs.Refusals.{refuse}
+use Rattle.shape.specs.Refusals.{refuse, _orElse_}
 use Rattle.shape.specs.RefusalsLaws.{refuse-zero, refuse-most, orElse-zero, orElse-most, orElse-then}
-use Rattle.shape.specs.Shapes.{Limits, GoodIn, Good, placeCount, dataCount, sureCount, shapeRefusalIn, wordRefusalIn, bufferRefusalIn}
-use Rattle.shape.specs.Shapes.{shapeRefusal, wordRefusal, bufferRefusal, madeOf, madeAt, madeNumber, describedOf, describedNumber, describedFigures}
+use Rattle.shape.specs.Shapes.{Limits, GoodIn, Good, SoldIn, placeCount, dataCount, sureCount, shapeRefusalIn, retiredRefusal, saleRefusalIn, wordRefusalIn}
+use Rattle.shape.specs.Shapes.{bufferRefusalIn, Sold, shapeRefusal, saleRefusal, wordRefusal, bufferRefusal, madeOf, madeAt, madeNumber, describedOf, describedNumber}
+use Rattle.shape.specs.Shapes.{describedFigures}
 
 or-none : (a b : Bool) → (a || b) ≡ false → (a ≡ false) × (b ≡ false)
 or-none true true e = (e, e)
@@ -72,6 +73,11 @@ module _ {L : Limits} (m w c : ℕ) where
 pub places-fit : {m w : ℕ} → m ≤ 15 → w ≤ 16 → m * w ≤ 240
 places-fit few narrow = mul-le-mul few narrow
 
+-- "Good: m from 1 to 15, c from 1 to 4, w from c+2 to 16, and k = m(w−c)−2 at least 1": that is enough
+pub good-of-bounds : {m w c : ℕ} → 1 ≤ m → m ≤ 15 → 1 ≤ c → c ≤ 4 → c + 2 ≤ w → w ≤ 16 → 3 ≤ m * (w - c) → Good m w c
+good-of-bounds some few checked few-checks wide narrow room =
+    record { some = some; few = few; checked = checked; few-checks = few-checks; wide = wide; narrow = narrow; room = room; fits = places-fit few narrow }
+
 -- of bytes: the places are enough for fifteen groups of sixteen, so the numbers of these refusals are 1 to 4
 module _ (m w c : ℕ) where
   pub shape-most : shapeRefusal m w c ≤ 4
@@ -89,6 +95,53 @@ module _ (m w c : ℕ) where
   unfolding wordRefusalIn
   word-most lent = orElse-most 5 (shapeRefusal m w c) _ (let h = shape-most in omega arith)
       (refuse-most 5 5 (not (eqb lent (placeCount m w))) (omega arith))
+
+module _ {L : Limits} (m w c : ℕ) where
+  pub refusal-of-sold : SoldIn L m w c → saleRefusalIn L m w c ≡ 0
+  unfolding saleRefusalIn retiredRefusal
+  refusal-of-sold s = simp (refusal-of-good m w c (s .good), ne-eqb c 4 (omega (arith, s .few-checks)))
+
+  -- a good shape with four checks is retired
+  pub retired-of-good : GoodIn L m w c → c ≡ 4 → saleRefusalIn L m w c ≡ 29
+  unfolding saleRefusalIn retiredRefusal
+  retired-of-good g e = simp (refusal-of-good m w c g, eq-eqb c 4 e)
+
+-- of bytes: what is sold, and 29 comes after 1 to 4
+module _ (m w c : ℕ) where
+  pub sold-of-refusal : saleRefusal m w c ≡ 0 → Sold m w c
+  unfolding saleRefusalIn retiredRefusal
+  sold-of-refusal e =
+      let z = orElse-zero _ _ e in
+      let g = good-of-refusal m w c (z .0) in
+      let n = eqb-false c 4 (refuse-zero 28 _ (z .1)) in
+      record { good = g; few-checks = omega arith }
+
+  pub sale-iff : (saleRefusal m w c ≡ 0) ↔ Sold m w c
+  sale-iff = (sold-of-refusal, refusal-of-sold m w c)
+
+  pub sale-unshaped : (r : ℕ) → shapeRefusal m w c ≡ suc r → saleRefusal m w c ≡ suc r
+  unfolding saleRefusalIn
+  sale-unshaped r e = simp e
+
+  -- 29 is given to these alone
+  pub retired-exactly : (saleRefusal m w c ≡ 29) ↔ (Good m w c × (c ≡ 4))
+  unfolding saleRefusalIn retiredRefusal
+  retired-exactly = (go (shapeRefusal m w c) refl (eqb c 4) refl, λ p. retired-of-good m w c (p .0) (p .1))
+    where
+      go : (r : ℕ) → shapeRefusal m w c ≡ r → (b : Bool) → eqb c 4 ≡ b → (r orElse refuse 29 b) ≡ 29 → Good m w c × (c ≡ 4)
+      go zero e true f q = (good-of-refusal m w c e, eqb-true c 4 f)
+      go zero e false f q = absurd (omega arith)
+      go (suc r) e b f q = let h = shape-most m w c in let k : suc r ≡ 29 = q in absurd (omega arith)
+
+  -- the numbers of these refusals
+  pub sale-numbers : (saleRefusal m w c ≤ 4) ⊎ (saleRefusal m w c ≡ 29)
+  unfolding saleRefusalIn retiredRefusal
+  sale-numbers = go (shapeRefusal m w c) (eqb c 4) (shape-most m w c)
+    where
+      go : (r : ℕ) (b : Bool) → r ≤ 4 → ((r orElse refuse 29 b) ≤ 4) ⊎ ((r orElse refuse 29 b) ≡ 29)
+      go zero true l = inr refl
+      go zero false l = inl l
+      go (suc r) b l = inl l
 
 -- s is the good shape of m, w and c
 pub record Shaped (s : Shape) (m w c : ℕ) : Type 0 where

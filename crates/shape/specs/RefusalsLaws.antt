@@ -14,6 +14,10 @@ pub orElse-zero : (r s : ℕ) → r orElse s ≡ 0 → (r ≡ 0) × (s ≡ 0)
 orElse-zero zero s e = (refl, e)
 orElse-zero (suc r) s e = let z : suc r ≡ 0 = e in absurd (omega arith)
 
+pub orElse-first : (r s : ℕ) → (r ≡ 0 → ⊥) → r orElse s ≡ r
+orElse-first zero s h = absurd (h refl)
+orElse-first (suc r) s h = refl
+
 -- a refusal's number is at most a bound that holds of each
 pub refuse-most : (k r : ℕ) (b : Bool) → r ≤ k → refuse r b ≤ k
 refuse-most k r true l = l

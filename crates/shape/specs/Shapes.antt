@@ -42,7 +42,8 @@ pub record GoodIn (L : Limits) (m w c : ℕ) : Type 0 where
   pub room : 3 ≤ m * (w - c)
   pub fits : m * w ≤ L .places
 
--- of bytes: "Good: m from 1 to 15, c from 1 to 4, w from c+2 to 16, and k = m(w−c)−2 at least 1."
+-- of bytes: "Good: m from 1 to 15, c from 1 to 4, w from c+2 to 16, and k = m(w−c)−2 at least 1"; that such a shape has at most 240 places
+-- follows (`Laws: good-of-bounds`)
 abbrev pub Good : ℕ → ℕ → ℕ → Type 0
 Good = GoodIn byteLimits
 
@@ -56,7 +57,20 @@ shapeRefusalIn L m w c =
     orElse refuse 4 (eqb (dataCount m w c) 0)
     orElse refuse 26 (ltb (L .places) (m * w))
 
--- 5: "a lent length is not k or n as the service needs", after those; of a service that is lent a word or marks
+-- 29: "retired shape". "Four local checks go out of sale"; a shape with them is still good, and "old words must stay readable".
+unfoldable pub retiredRefusal : ℕ → ℕ
+retiredRefusal c = refuse 29 (eqb c 4)
+
+-- What is still sold: the good shapes of "c up to 3".
+pub record SoldIn (L : Limits) (m w c : ℕ) : Type 0 where
+  pub good : GoodIn L m w c
+  pub few-checks : c ≤ 3
+
+-- "29 retired shape, straight after 4 and 26": of a service that makes something new of a shape
+unfoldable pub saleRefusalIn : Limits → ℕ → ℕ → ℕ → ℕ
+saleRefusalIn L m w c = shapeRefusalIn L m w c orElse retiredRefusal c
+
+-- 5: "a lent length is not k or n as the service needs", after 1 to 4 and 26; of a service that is lent a word or marks
 unfoldable pub wordRefusalIn : Limits → ℕ → ℕ → ℕ → ℕ → ℕ
 wordRefusalIn L m w c lent = shapeRefusalIn L m w c orElse refuse 5 (not (eqb lent (placeCount m w)))
 
@@ -67,6 +81,14 @@ bufferRefusalIn L m w c word bytes = wordRefusalIn L m w c word orElse refuse 5 
 -- 1 to 4 of bytes
 abbrev pub shapeRefusal : ℕ → ℕ → ℕ → ℕ
 shapeRefusal = shapeRefusalIn byteLimits
+
+-- the shapes of bytes that are sold
+abbrev pub Sold : ℕ → ℕ → ℕ → Type 0
+Sold = SoldIn byteLimits
+
+-- 1 to 4 and then 29 of bytes
+abbrev pub saleRefusal : ℕ → ℕ → ℕ → ℕ
+saleRefusal = saleRefusalIn byteLimits
 
 -- 1 to 5 of bytes, of a service that is lent a word or marks
 abbrev pub wordRefusal : ℕ → ℕ → ℕ → ℕ → ℕ

@@ -1,6 +1,7 @@
 // The shape of a word: how many groups, how wide each is, and how many local checks each has.
 ghost use mathlib.Core.Path.{_≡_};
-ghost use Rattle.shape.specs.Shapes.{placeCount, dataCount, sureCount, shapeRefusal, wordRefusal, bufferRefusal, madeOf, describedOf, describedNumber, describedFigures, figuresOf};
+ghost use Rattle.shape.specs.Refusals.{_orElse_};
+ghost use Rattle.shape.specs.Shapes.{placeCount, dataCount, sureCount, shapeRefusal, retiredRefusal, saleRefusal, wordRefusal, bufferRefusal, madeOf, describedOf, describedNumber, describedFigures, figuresOf};
 
 // m groups of w places, with c local checks in each.
 pub struct Shape {
@@ -42,6 +43,9 @@ impl Shape {
     pub const MAX_WIDTH: usize = 16;
 
     pub const MAX_PLACES: usize = 240;
+
+    // Out of sale: nothing new is encoded with so many checks, and old words with them stay readable.
+    pub const RETIRED_CHECKS: usize = 4;
 
     // The shape of these numbers, if it is good. A number of any size is tested before it is narrowed.
     pub fn new(m: usize, w: usize, c: usize) -> Made
@@ -121,6 +125,39 @@ pub fn describe(m: usize, w: usize, c: usize) -> Described
         },
         Made::Refused(r) => Described::Refused(r),
     }
+}
+
+// The first of two refusals, 0 being none.
+pub fn or_else(first: u8, second: u8) -> u8
+    ensures { λ r. ⌜ r ≡ first orElse second ⌝ }
+{
+    if first != 0 { first } else { second }
+}
+
+// The refusal of a shape, 1 to 4; 0 if it is good.
+pub fn shape_refusal(m: usize, w: usize, c: usize) -> u8
+    ensures { λ r. ⌜ r ≡ shapeRefusal m w c ⌝ }
+{
+    match Shape::new(m, w, c) {
+        Made::Refused(r) => r,
+        Made::Good(s) => 0,
+    }
+}
+
+// 29 for a number of checks that is out of sale; else 0.
+pub fn retired_refusal(c: usize) -> u8
+    ensures { λ r. ⌜ r ≡ retiredRefusal c ⌝ }
+{
+    if c == Shape::RETIRED_CHECKS { 29 } else { 0 }
+}
+
+// The refusal, 1 to 4 and then 29, of a service that makes something new of a shape; 0 if there is none.
+pub fn sale_refusal(m: usize, w: usize, c: usize) -> u8
+    ensures { λ r. ⌜ r ≡ saleRefusal m w c ⌝ }
+{
+    let bad = shape_refusal(m, w, c);
+    let retired = retired_refusal(c);
+    or_else(bad, retired)
 }
 
 // The refusal, 1 to 5, of a service that is lent a word or marks of this length; 0 if there is none.

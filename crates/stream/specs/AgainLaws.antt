@@ -13,12 +13,12 @@ use Rattle.code.specs.Word.{Codeword}
 use Rattle.code.specs.Answer.{Outcome}
 use Rattle.code.specs.Recovery.{recovered}
 use Rattle.code.specs.RecoveryLaws.{done-single}
-use Rattle.shape.specs.Shapes.{Good, placeCount, dataCount, bufferRefusal}
-use Rattle.shape.specs.Laws.{good-of-buffers, places-most}
+use Rattle.shape.specs.Shapes.{Good, placeCount, dataCount}
+use Rattle.shape.specs.Laws.{places-most}
 use Rattle.recover.specs.Service.{unlessBefore, recoverRefusal, recoverOf, recoverIn}
 use Rattle.recover.specs.AttemptLaws.{accepted}
-use Rattle.encode.specs.Service.{encodedWord}
-use Rattle.encode.specs.Laws.{encoded}
+use Rattle.encode.specs.Service.{encodedWord, encodeRefusal}
+use Rattle.encode.specs.Laws.{good-of-encode, encoded}
 use Rattle.text.specs.Records.{wordName, contents, lineKind, lineBytes, lineMarks}
 use Rattle.text.specs.RecordLaws.{name-first, line-values, word-named}
 use Rattle.text.specs.FieldLaws.{toTab, take-field}
@@ -44,10 +44,10 @@ unfolding lineBytes
 line-bytes line i = rw (List·getD-map (λ v. v % 256) (contents line) i 0) (mod-lt (getD (contents line) i 0) (omega arith))
 
 module _ (line : List ℕ) (m w c : ℕ) where
-  encoded-word : bufferRefusal m w c (placeCount m w) (length (lineBytes line)) ≡ 0
+  encoded-word : encodeRefusal m w c (placeCount m w) (length (lineBytes line)) ≡ 0
       → Good m w c × Codeword bytes m w c (encodedWord m w c (lineBytes line))
   encoded-word z =
-      let g = good-of-buffers m w c (placeCount m w) (length (lineBytes line)) z in
+      let g = good-of-encode m w c (placeCount m w) (length (lineBytes line)) z in
       (g .0, encoded bytes-sound (g .0) (lineBytes line) (g .2) (line-bytes line) .codeword)
 
   recovered-word : (recoverOf m w c (lineBytes line) (lineMarks line)) .number ≡ 0

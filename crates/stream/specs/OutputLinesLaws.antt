@@ -1,6 +1,7 @@
 -- Laws: "Each input line gives exactly one output line.": what an answer can be, and the lines of a session's output.
 use mathlib.Core.Path.{_≡_, refl, ap, _∙_}
 use mathlib.Core.Bool.{Bool, true, false, cond, not}
+use mathlib.Core.Logic.{_⊎_, inl, inr, ⊎-elim}
 use mathlib.Core.List.{List, [], _∷_, _++_, append-assoc}
 use Prim.Native.Nat.{ℕ, zero, suc, _≤_}
 use native.Mathlib.Omega.{arith}
@@ -8,11 +9,11 @@ use borrow.Author.Tests.{eqb-true, eqb-false}
 use lib.Dec.{T, eqb}
 use lib.ListN.{length, getD}
 use Rattle.code.specs.Answer.{Outcome}
-use Rattle.shape.specs.Refusals.{refuse}
+use Rattle.shape.specs.Refusals.{refuse, _orElse_}
 use Rattle.shape.specs.RefusalsLaws.{orElse-most}
-use Rattle.shape.specs.Shapes.{placeCount, dataCount, shapeRefusal, wordRefusal, bufferRefusal, bufferRefusalIn}
-use Rattle.shape.specs.Laws.{shape-most, word-most}
-use Rattle.encode.specs.Service.{encodedWord}
+use Rattle.shape.specs.Shapes.{placeCount, dataCount, shapeRefusal, saleRefusal, wordRefusal, bufferRefusal, bufferRefusalIn}
+use Rattle.shape.specs.Laws.{shape-most, sale-numbers, word-most}
+use Rattle.encode.specs.Service.{encodedWord, encodeRefusal, encodeRefusalIn}
 use Rattle.recover.specs.Service.{recoverOf}
 use Rattle.text.specs.DecimalLaws.{without}
 use Rattle.text.specs.Records.{wordName, lineKind, lineBytes, lineMarks}
@@ -26,7 +27,7 @@ use Rattle.stream.specs.Session.{answers, joined, sessionOf}
 use Rattle.stream.specs.OutputLines.{IsLine}
 
 -- ---- every turn is a refusal other than 9, a 9 with its group, the figures of a shape, or a word: of encoded data, or a recovered one
-unless-case : (P : Turn → Type 0) (x : ℕ) (t : Turn) (m w c : ℕ) → x ≤ 15 → ¬ (x ≡ 9) → ((r : ℕ) → r ≤ 15 → ¬ (r ≡ 9) → P (refusedTurn r m w c))
+unless-case : (P : Turn → Type 0) (x : ℕ) (t : Turn) (m w c : ℕ) → x ≤ 29 → ¬ (x ≡ 9) → ((r : ℕ) → r ≤ 29 → ¬ (r ≡ 9) → P (refusedTurn r m w c))
     → (x ≡ 0 → P t) → P (turnUnless x t m w c)
 unless-case P zero t m w c l n f p = p refl
 unless-case P (suc r) t m w c l n f p = f (suc r) l n
@@ -39,12 +40,22 @@ buffer-most m w c n k = orElse-most 5 (wordRefusal m w c n) _ (word-most m w c n
     go true = omega arith
     go false = omega arith
 
+-- the numbers that an encoding is refused with
+encode-numbers : (m w c n k : ℕ) → (encodeRefusal m w c n k ≤ 5) ⊎ (encodeRefusal m w c n k ≡ 29)
+unfolding encodeRefusalIn
+encode-numbers m w c n k = go (saleRefusal m w c) (sale-numbers m w c)
+  where
+    go : (r : ℕ) → (r ≤ 4) ⊎ (r ≡ 29) → ((r orElse bufferRefusal m w c n k) ≤ 5) ⊎ ((r orElse bufferRefusal m w c n k) ≡ 29)
+    go zero _ = inl (buffer-most m w c n k)
+    go (suc r) (inl l) = inl (omega arith)
+    go (suc r) (inr e) = inr e
+
 module _ (P : Turn → Type 0) (line : List ℕ) (m w c : ℕ)
-    (no : (r : ℕ) → r ≤ 15 → ¬ (r ≡ 9) → P (refusedTurn r m w c))
+    (no : (r : ℕ) → r ≤ 29 → ¬ (r ≡ 9) → P (refusedTurn r m w c))
     (nine : (recoverOf m w c (lineBytes line) (lineMarks line)) .number ≡ 9
     → P (contradictoryTurn ((recoverOf m w c (lineBytes line) (lineMarks line)) .group) m w c))
     (ok : (a b d : ℕ) → P (turn (okLine (placeCount a b) (dataCount a b d)) a b d))
-    (encodes : bufferRefusal m w c (placeCount m w) (length (lineBytes line)) ≡ 0 → P (turn (wordLine (encodedWord m w c (lineBytes line))) m w c))
+    (encodes : encodeRefusal m w c (placeCount m w) (length (lineBytes line)) ≡ 0 → P (turn (wordLine (encodedWord m w c (lineBytes line))) m w c))
     (recovers : (recoverOf m w c (lineBytes line) (lineMarks line)) .number ≡ 0
     → P (turn (wordLine ((recoverOf m w c (lineBytes line) (lineMarks line)) .word)) m w c)) where
   pub turn-cases : P (turnOf line m w c)
@@ -73,8 +84,10 @@ module _ (P : Turn → Type 0) (line : List ℕ) (m w c : ℕ)
       go false true r s = shapes (getD (lineBytes line) 0 0) (getD (lineBytes line) 1 0) (getD (lineBytes line) 2 0)
       go false false true s = no 15 (omega arith) (λ z. omega arith)
       go false false false true =
-          let l = buffer-most m w c (placeCount m w) (length (lineBytes line)) in
-          unless-case P (bufferRefusal m w c (placeCount m w) (length (lineBytes line))) _ m w c (omega arith) (λ z. omega arith) no encodes
+          ⊎-elim
+          (λ l. unless-case P (encodeRefusal m w c (placeCount m w) (length (lineBytes line))) _ m w c (omega arith) (λ z. omega arith) no encodes)
+          (λ l. unless-case P (encodeRefusal m w c (placeCount m w) (length (lineBytes line))) _ m w c (omega arith) (λ z. omega arith) no encodes)
+          (encode-numbers m w c (placeCount m w) (length (lineBytes line)))
       go false false false false = mends (eqb (out .number) 9) refl
 
 printed : (name numbers : List ℕ) → T (without 10 name) → IsLine (lineOf name numbers)

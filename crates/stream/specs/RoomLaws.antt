@@ -12,11 +12,12 @@ use Rattle.byte_edition.specs.Edition.{bytes}
 use Rattle.code.specs.Answer.{Outcome}
 use Rattle.code.specs.AnswerLaws.{answered-length}
 use Rattle.code.specs.Recovery.{recovered}
-use Rattle.shape.specs.Shapes.{Good, placeCount, dataCount, shapeRefusal, bufferRefusal}
-use Rattle.shape.specs.Laws.{good-of-buffers, data-some, data-and-checks}
+use Rattle.shape.specs.Shapes.{Good, placeCount, dataCount, shapeRefusal}
+use Rattle.shape.specs.Laws.{data-some, data-and-checks}
 use Rattle.places.specs.Places.{placedOf, checkMarks}
 use Rattle.places.specs.Laws.{placed-length}
-use Rattle.encode.specs.Service.{encodedWord, encodedIn}
+use Rattle.encode.specs.Service.{encodedWord, encodedIn, encodeRefusal}
+use Rattle.encode.specs.Laws.{good-of-encode}
 use Rattle.recover.specs.Service.{unlessBefore, recoverRefusal, recoverOf, recoverIn}
 use Rattle.text.specs.Records.{wordName, contents, lineKind, lineBytes, lineMarks}
 use Rattle.text.specs.RecordLaws.{line-values, data-named}
@@ -88,8 +89,8 @@ module _ (most m w c : ℕ) (some : 12 ≤ most) where
 
   data-room : (values : List ℕ) → 12 * (length values + 5) ≤ most → length ((dataTurn values m w c) .output) ≤ most
   unfolding dataTurn
-  data-room values l = unless-size (bufferRefusal m w c (placeCount m w) (length values)) most _ m w c some (λ z.
-      let g = good-of-buffers m w c (placeCount m w) (length values) z in
+  data-room values l = unless-size (encodeRefusal m w c (placeCount m w) (length values)) most _ m w c some (λ z.
+      let g = good-of-encode m w c (placeCount m w) (length values) z in
       let h = word-of-data (g .0) in
       let n = encoded-size m w c values in
       let k = word-size (encodedWord m w c values) in

@@ -2,7 +2,7 @@ use mathlib.Core.Path.{_≡_, sym, ap, _∙_}
 use mathlib.Core.Bool.{true, false}
 use borrow.Author.Tests.{not-true, not-false}
 use lib.Dec.{eqb}
-use Rattle.marks.specs.RefusalLaws.{orElse-first}
+use Rattle.shape.specs.RefusalsLaws.{orElse-first}
 use Rattle.judge.specs.Answer.{judgedNumberOf}
 use Rattle.desk_record.specs.Desks.{isSound}
 use Rattle.desk_open.specs.Open.{openNumber, freeFrom}

@@ -3,12 +3,11 @@ use Prim.Native.Nat.{_≤_}
 use lib.ListN.{length}
 use lib.Seq.{length-take-le}
 use Rattle.shape.specs.RefusalsLaws.{unless-refused}
-use Rattle.shape.specs.Shapes.{bufferRefusal}
-use Rattle.shape.specs.Laws.{good-of-buffers, places-most}
+use Rattle.shape.specs.Laws.{places-most}
 use Rattle.shape.specs.Answers.{answerAt}
 use Rattle.shape.specs.AnswersLaws.{answer-refused}
-use Rattle.encode.specs.Service.{encodeOf, encodedBuffer}
-use Rattle.encode.specs.Laws.{after-size, buffer-end}
+use Rattle.encode.specs.Service.{encodeRefusal, encodeIn, encodedBufferIn}
+use Rattle.encode.specs.Laws.{good-of-encode, after-size, buffer-end}
 use borrow.Author.Needs.{needs}
 use Rattle.encode.proofs.encode.Statement.{statement}
 use Rattle.encode.proofs.encode.Tie as tie
@@ -16,15 +15,15 @@ use Rattle.encode.proofs.encode.Reads as reads
 use Rattle.encode.proofs.encode.Lts as lts
 use Rattle.encode.proofs.fill_checks.Reads as fill-checks-reads
 use Rattle.places.proofs.place.Reads as place-reads
-use Rattle.shape.proofs.buffer_refusal.Reads as buffer-refusal-reads
+use Rattle.encode.proofs.refusal.Reads as refusal-reads
 
-buffer-refusal-requires : tie.Need-buffer-refusal-requires
-buffer-refusal-requires c κs = search needs
+refusal-requires : tie.Need-refusal-requires
+refusal-requires c κs = search needs
 
 returns : tie.Need-returns
-unfolding encodeOf encodedBuffer
+unfolding encodeIn encodedBufferIn
 returns c =
-    let r = c .before .buffer-refusal in
+    let r = c .before .refusal in
     let e = r .ensures in (
       cc (answer-refused (r .result) (c .if1 .taken)),
       (e, sym (rw (← e) (unless-refused (r .result) _ _ (c .if1 .taken)))),
@@ -38,8 +37,8 @@ array-borrow-prefix-marks c =
     let p = c .before .before .before in
     let r = p .before .before .before in
     let a = r .before .before .before .args in
-    let z : bufferRefusal (a .m) (a .w) (a .c) (length (a .word .now)) (length (a .bytes .now)) ≡ 0 = cc in
-    let g = good-of-buffers (a .m) (a .w) (a .c) (length (a .word .now)) (length (a .bytes .now)) z in
+    let z : encodeRefusal (a .m) (a .w) (a .c) (length (a .word .now)) (length (a .bytes .now)) ≡ 0 = cc in
+    let g = good-of-encode (a .m) (a .w) (a .c) (length (a .word .now)) (length (a .bytes .now)) z in
     subst (λ n. n ≤ 240) (sym (after-size (a .m) (a .w) (a .c) (a .bytes .now) (a .word .now) _ z (p .place .ensures))) (places-most (g .0))
 
 slice-aggregate-fill-checks : tie.Need-slice-aggregate-fill-checks
@@ -50,22 +49,22 @@ fill-checks-requires c κs =
     let p = c .before .before .before .before in
     let r = p .before .before .before in
     let a = r .before .before .before .args in
-    let z : bufferRefusal (a .m) (a .w) (a .c) (length (a .word .now)) (length (a .bytes .now)) ≡ 0 = cc in
-    let g = good-of-buffers (a .m) (a .w) (a .c) (length (a .word .now)) (length (a .bytes .now)) z in
+    let z : encodeRefusal (a .m) (a .w) (a .c) (length (a .word .now)) (length (a .bytes .now)) ≡ 0 = cc in
+    let g = good-of-encode (a .m) (a .w) (a .c) (length (a .word .now)) (length (a .bytes .now)) z in
     (g .0, sym (slice-aggregate-fill-checks c) ∙ after-size (a .m) (a .w) (a .c) (a .bytes .now) (a .word .now) _ z (p .place .ensures))
 
 same-length : tie.Need-same-length
 same-length c = search needs
 
 returns-2 : tie.Need-returns-2
-unfolding encodeOf
+unfolding encodeIn
 returns-2 c =
     let f = c .before .before .before in
     let p = f .before .before .before .before .before in
     let r = p .before .before .before in
     let k = r .before .before in
     let a = k .before .args in
-    let z : bufferRefusal (a .m) (a .w) (a .c) (length (a .word .now)) (length (a .bytes .now)) ≡ 0 = cc in (
+    let z : encodeRefusal (a .m) (a .w) (a .c) (length (a .word .now)) (length (a .bytes .now)) ≡ 0 = cc in (
       sym (ap answerAt z),
       (sym z, buffer-end (a .m) (a .w) (a .c) (a .bytes .now) (a .word .now) _ z (p .place .ensures) (λ i. k .shared-slice-known .given i .fits) _ (f .fill-checks .ensures)),
     )
@@ -74,7 +73,7 @@ pub encode-spec : {M : Type 1} → statement M
 encode-spec =
     tie.close
     (tie.spec
-    buffer-refusal-requires
+    refusal-requires
     returns
     place-requires
     array-borrow-prefix-marks

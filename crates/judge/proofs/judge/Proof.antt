@@ -6,7 +6,8 @@ use borrow.Author.Tests.{lt-ltb, le-ltb}
 use lib.Dec.{ltb}
 use Rattle.shape.specs.Refusals.{refuse}
 use Rattle.marks.specs.Refusal.{marksRefusal}
-use Rattle.marks.specs.RefusalLaws.{good-of-marks, orElse-first}
+use Rattle.marks.specs.RefusalLaws.{good-of-marks}
+use Rattle.shape.specs.RefusalsLaws.{orElse-first}
 use Rattle.judge.specs.Answer.{judgedNumberOf, judgedNumberIn, judgedAt, judgedOf, judgedNumber}
 use Rattle.judge.specs.Laws.{judged-refused, judged-number, number-of}
 use Rattle.judge.specs.declared.Judged.{Judged}

@@ -5,7 +5,7 @@ use lib.ListN.{length}
 use Rattle.shape.specs.Refusals.{refuse}
 use Rattle.shape.specs.Shapes.{wordRefusal}
 use Rattle.marks.specs.Refusal.{marksRefusal, marksRefusalIn}
-use Rattle.marks.specs.RefusalLaws.{orElse-first}
+use Rattle.shape.specs.RefusalsLaws.{orElse-first}
 use Rattle.marks.proofs.marks_refusal.Statement.{statement}
 use Rattle.marks.proofs.marks_refusal.Tie as tie
 
