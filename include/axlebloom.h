@@ -40,6 +40,8 @@ enum {
   AXLEBLOOM_NOT_OPEN = 12,     /* no open job of this desk has that handle: it was closed, it is older than the last axlebloom_fresh, or this
                                   desk never gave it */
   AXLEBLOOM_SERVED_OUT = 13,   /* this job has served 4294967295 words; close it and open it again */
+  AXLEBLOOM_NO_PROFILE = 28,   /* from profile: the losses are outside what the manual promises. The word need not be lost: ask judge or recover
+                                  before you fetch a disk */
   AXLEBLOOM_RETIRED = 29,      /* four local checks are out of sale: axlebloom_encode refuses c = 4. Old words with it are still described,
                                   checked, extracted, judged, repaired, recovered and served */
   AXLEBLOOM_UNSOUND = 31       /* the desk is not sound, which is explained where it is declared; axlebloom_fresh starts a new one, without
@@ -81,6 +83,20 @@ struct axlebloom_answer axlebloom_check(size_t m, size_t w, size_t c, const uint
 /* Whether what these marks leave determines the word: 0, or 8. Refused by 1 to 6. */
 uint8_t axlebloom_judge(size_t m, size_t w, size_t c, const uint8_t *marks, size_t n);
 
+/* What profile gives back: the number and, with 0, the set that shows it: count of place numbers, at most c, and these numbers within a group in
+ * ascending order, 0 past the last. Such a place need not be lost in every group. With any other number count and place are 0. */
+struct axlebloom_profile_answer {
+  uint8_t number;
+  uint8_t count;
+  uint8_t place[4];
+};
+
+/* For boxes that put place j of every group on the same disk: whether the losses are up to c whole places j, the same in all groups, plus at
+ * most two lost places elsewhere. 0 if some set of at most c place numbers leaves at most two lost places outside it, with that set: of several
+ * the one with fewest places, and then with the smallest numbers first. After 0 axlebloom_judge gives 0 too. 28 if there is no such set, which
+ * does not mean that the word is lost: axlebloom_judge may still give 0, and axlebloom_recover mends all it could. Refused by 1 to 6 and 28. */
+struct axlebloom_profile_answer axlebloom_profile(size_t m, size_t w, size_t c, const uint8_t *marks, size_t n);
+
 /* Mends group g, counted from 0, by its own checks, and clears its marks. Refused by 1 to 9; 8 if more than c of its places are lost. With c
  * places lost no check is left over: a wrong present byte then goes unnoticed and is worked into what is written. With none lost the group is
  * still tested. */
@@ -116,6 +132,10 @@ struct axlebloom_desk {
 AXLEBLOOM_HOLDS(sizeof(struct axlebloom_answer) == 2);
 AXLEBLOOM_HOLDS(offsetof(struct axlebloom_answer, number) == 0);
 AXLEBLOOM_HOLDS(offsetof(struct axlebloom_answer, group) == 1);
+AXLEBLOOM_HOLDS(sizeof(struct axlebloom_profile_answer) == 6);
+AXLEBLOOM_HOLDS(offsetof(struct axlebloom_profile_answer, number) == 0);
+AXLEBLOOM_HOLDS(offsetof(struct axlebloom_profile_answer, count) == 1);
+AXLEBLOOM_HOLDS(offsetof(struct axlebloom_profile_answer, place) == 2);
 AXLEBLOOM_HOLDS(sizeof(struct axlebloom_job) == 256);
 AXLEBLOOM_HOLDS(offsetof(struct axlebloom_job, taken) == 0);
 AXLEBLOOM_HOLDS(offsetof(struct axlebloom_job, m) == 1);

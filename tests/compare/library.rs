@@ -1,7 +1,7 @@
 //! The library through its exported functions, with the record of a desk laid out as in the header.
 
 mod c {
-    use super::{Answer, Desk};
+    use super::{Answer, Desk, Profile};
     extern "C" {
         pub fn axlebloom_describe(m: usize, w: usize, c: usize) -> u8;
         pub fn axlebloom_places(m: usize, w: usize, c: usize) -> usize;
@@ -11,6 +11,7 @@ mod c {
         pub fn axlebloom_extract(m: usize, w: usize, c: usize, x: *const u8, n: usize, d: *mut u8, k: usize) -> u8;
         pub fn axlebloom_check(m: usize, w: usize, c: usize, x: *const u8, n: usize) -> Answer;
         pub fn axlebloom_judge(m: usize, w: usize, c: usize, l: *const u8, n: usize) -> u8;
+        pub fn axlebloom_profile(m: usize, w: usize, c: usize, l: *const u8, n: usize) -> Profile;
         pub fn axlebloom_repair(m: usize, w: usize, c: usize, g: usize, x: *mut u8, n: usize, l: *mut u8, k: usize) -> Answer;
         pub fn axlebloom_recover(m: usize, w: usize, c: usize, x: *mut u8, n: usize, l: *mut u8, k: usize) -> Answer;
         pub fn axlebloom_fresh(desk: *mut Desk);
@@ -59,6 +60,21 @@ pub fn check(s: Shape, x: &[u8]) -> Mended {
 
 pub fn judge(s: Shape, l: &[u8]) -> u8 {
     unsafe { c::axlebloom_judge(s.0, s.1, s.2, l.as_ptr(), l.len()) }
+}
+
+#[repr(C)]
+pub struct Profile {
+    number: u8,
+    count: u8,
+    place: [u8; 4],
+}
+
+/// The set, or the number of a refusal, with which all else must be 0; so must a set be past its count.
+pub fn profile(s: Shape, l: &[u8]) -> Result<Vec<u8>, u8> {
+    let answer = unsafe { c::axlebloom_profile(s.0, s.1, s.2, l.as_ptr(), l.len()) };
+    let (set, rest) = answer.place.split_at(answer.count as usize);
+    assert!(rest.iter().all(|&place| place == 0) && (answer.number == 0 || answer.count == 0));
+    if answer.number == 0 { Ok(set.to_vec()) } else { Err(answer.number) }
 }
 
 pub fn repair(s: Shape, g: usize, x: &mut [u8], l: &mut [u8]) -> Mended {

@@ -1,6 +1,7 @@
 //! Calls of every service with one shape, word, row of marks and list of groups.
 
 use crate::library::{self, Mended, Shape};
+use crate::profiles;
 use crate::random::{bad_shape, codeword, damaged, figures, good_shape, marks, wide, Random};
 use crate::second;
 use crate::shrink::{row, shorter, zeroed, Case};
@@ -148,6 +149,7 @@ impl Case for Services {
         let mut seen = Vec::new();
         plain_services(self, &mut seen)?;
         repairs(self, &mut seen)?;
+        profiles::compare(self.shape, &self.marks, &self.data, &mut seen)?;
         Ok(seen)
     }
 

@@ -333,6 +333,27 @@ pub fn judge(m: u64, w: u64, c: u64, marks: &[u8]) -> u8 {
     }
 }
 
+/// The judge of the profile, by trying all sets of place numbers, one bit
+/// for each number: of those that leave at most two lost places outside, the
+/// one with fewest numbers, then the smallest list; or 1 to 6, or 28.
+pub fn profile(m: u64, w: u64, c: u64, marks: &[u8]) -> Result<Vec<u8>, u8> {
+    let number = judge(m, w, c, marks);
+    if number != 0 && number != 8 {
+        return Err(number);
+    }
+    let numbers = |set: u32| -> Vec<u8> { (0..w as u8).filter(|&j| set >> j & 1 == 1).collect() };
+    let outside = |set: u32| {
+        let places = marks.iter().enumerate();
+        places.filter(|&(p, &mark)| mark == 1 && set >> (p as u64 % w) & 1 == 0).count()
+    };
+    (0..1u32 << w)
+        .filter(|&set| set.count_ones() as u64 <= c && outside(set) <= 2)
+        .map(|set| (set.count_ones(), numbers(set)))
+        .min()
+        .map(|(_, set)| set)
+        .ok_or(28)
+}
+
 /// The refusals 1 to 6 shared by repair and recover; 0 if none.
 fn lent_fault(m: u64, w: u64, c: u64, word: &[u8], marks: &[u8]) -> u8 {
     let (n, _, _) = match describe(m, w, c) {

@@ -715,6 +715,23 @@ fn sessions(t: &mut Tally) {
 
 // --------------------------------------------------------------------- main
 
+/// The judge of the profile: patterns done by hand, and a yes means judge 0.
+fn profiles(t: &mut Tally, random: &mut Random) {
+    t.ok(profile(2, 4, 1, &[0; 8]) == Ok(vec![]), "profile: nothing lost");
+    t.ok(profile(2, 4, 1, &[1, 0, 0, 0, 0, 0, 0, 1]) == Ok(vec![]), "profile: two sectors");
+    t.ok(profile(2, 4, 1, &[1, 0, 0, 0, 1, 1, 0, 0]) == Ok(vec![0]), "profile: the first that is enough");
+    t.ok(profile(2, 4, 1, &[1, 1, 0, 0, 0, 1, 0, 0]) == Ok(vec![0]), "profile: not the largest count");
+    t.ok(profile(2, 4, 1, &[1, 1, 0, 0, 0, 1, 0, 1]) == Ok(vec![1]), "profile: a disk and two sectors");
+    t.ok(profile(2, 4, 1, &[1, 1, 0, 0, 0, 0, 1, 1]) == Err(28), "profile: crosswise");
+    t.ok(judge(2, 4, 1, &[1, 1, 0, 0, 0, 0, 1, 1]) == 0, "profile: crosswise is judged 0");
+    t.ok(profile(2, 3, 1, &[2, 0, 0, 0, 0]) == Err(5), "profile: 5 before 6");
+    t.ok(profile(2, 3, 1, &[1, 1, 1, 1, 1, 2]) == Err(6), "profile: 6 before 28");
+    for _ in 0..200 {
+        let marks: Vec<u8> = (0..24).map(|_| (random.below(3) == 0) as u8).collect();
+        t.ok(profile(4, 6, 2, &marks).is_err() || judge(4, 6, 2, &marks) == 0, "profile: yes is judged 0");
+    }
+}
+
 fn main() -> ExitCode {
     let t = &mut Tally { passed: 0, failed: 0 };
     let random = &mut Random(0x9E3779B97F4A7C15);
@@ -738,6 +755,7 @@ fn main() -> ExitCode {
     every_shape(t, random);
     named_groups(t, random);
     repairs_then_recovery(t, random);
+    profiles(t, random);
     desk_handles(t);
     desk_serves(t);
     desk_sound(t);

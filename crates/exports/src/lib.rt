@@ -4,6 +4,7 @@ use desk_close::Counted;
 use desk_open::Opened;
 use desk_record::Desk;
 use judge::Judged;
+use profile::Profiled;
 use shape::Answer;
 use shape::Described;
 use shape::Mending;
@@ -16,6 +17,8 @@ ghost use Rattle.word_check.specs.Answer.{checkedOf};
 ghost use Rattle.exports.specs.Numbers.{mendingMended, checkedMended, outcomeMended};
 ghost use Rattle.places.specs.Places.{extractedData};
 ghost use Rattle.judge.specs.Answer.{judgedNumber, judgedNumberOf};
+ghost use Rattle.profile.specs.Answer.{profiledOf};
+ghost use Rattle.exports.specs.Profiles.{profileAnswer};
 ghost use Rattle.recover.specs.Service.{recoverOf};
 ghost use Rattle.repair.specs.Service.{repairOf};
 ghost use Rattle.encode.specs.Service.{encodeRefusal, encodedBuffer};
@@ -300,4 +303,46 @@ pub extern "C" fn axlebloom_close(desk: &mut Desk, handle: u64) -> u8
     ensures { λ r. ⌜ ClosesNumber (closeOf handle (now (desk .entry))) (now (desk .exit)) r ⌝ }
 {
     number(desk_lent::close_at(desk, handle))
+}
+
+// What the judge of the profile gives to C: the number, 0 for yes, and the set of place numbers that shows it; on a refusal all else is 0.
+#[repr(C)]
+pub struct ProfileAnswer {
+    pub number: u8,
+    pub count: u8,
+    pub first: u8,
+    pub second: u8,
+    pub third: u8,
+    pub fourth: u8,
+}
+
+// The number and the set of what the judge of the profile answers.
+fn profile_answer(profiled: Profiled) -> ProfileAnswer
+    ensures { λ r. ⌜ r ≡ profileAnswer profiled ⌝ }
+{
+    match profiled {
+        Profiled::Places(p) => ProfileAnswer {
+            number: 0,
+            count: p.count,
+            first: p.first,
+            second: p.second,
+            third: p.third,
+            fourth: p.fourth,
+        },
+        Profiled::Refused(r) => ProfileAnswer {
+            number: r,
+            count: 0,
+            first: 0,
+            second: 0,
+            third: 0,
+            fourth: 0,
+        },
+    }
+}
+
+#[no_mangle]
+pub extern "C" fn axlebloom_profile(m: usize, w: usize, c: usize, marks: &[u8]) -> ProfileAnswer
+    ensures { λ r. ⌜ r ≡ profileAnswer (profiledOf m w c (now (marks .entry))) ⌝ }
+{
+    profile_answer(profile::judge_profile(m, w, c, marks))
 }
