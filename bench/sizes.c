@@ -26,6 +26,7 @@ static void encode(void) { answer = axlebloom_encode(M, W, c, data, k, held, N);
 static void extract(void) { answer = axlebloom_extract(M, W, c, held, N, data, k); }
 static void check(void) { answer = axlebloom_check(M, W, c, held, N).number; }
 static void judge(void) { answer = axlebloom_judge(M, W, c, held_marks, N); }
+static void edit(void) { answer = axlebloom_edit(M, W, c, held, N, 7, 99).number; }
 static void profile(void) { answer = axlebloom_profile(M, W, c, held_marks, N).number; }
 static void repair(void) { answer = axlebloom_repair(M, W, c, M - 1, held, N, held_marks, N).number; }
 static void recover(void) { answer = axlebloom_recover(M, W, c, held, N, held_marks, N).number; }
@@ -83,7 +84,7 @@ static size_t most(void call(void)) {
 int main(void) {
   static const struct { const char *name; void (*call)(void); } calls[] = {
       {"describe", describe}, {"places", places}, {"data", data_bytes}, {"sure", sure}, {"encode", encode}, {"extract", extract},
-      {"check", check}, {"judge", judge}, {"profile", profile}, {"repair", repair}, {"recover", recover}, {"fresh", fresh}, {"open", open_job},
+      {"check", check}, {"judge", judge}, {"profile", profile}, {"edit", edit}, {"repair", repair}, {"recover", recover}, {"fresh", fresh}, {"open", open_job},
       {"serve", serve}, {"read", read_served}, {"close", close_job}};
   for (int i = 0; i < N; i++) data[i] = (uint8_t)(i * 11 + 3);
   printf("\n| function | stack |\n|----------|-------|\n");

@@ -21,7 +21,7 @@ extern "C" {
 #endif
 
 /* Refusals: the lowest number that applies is given. Only with a desk 31 comes before all others, and with a handle 12, 5, 13, 9 follow; and
- * 29 comes straight after 4. */
+ * 29 comes straight after 4, and 30 after 5 and before 9. */
 enum {
   AXLEBLOOM_DONE = 0,
   AXLEBLOOM_GROUPS = 1,        /* m is not 1 to 15 */
@@ -42,13 +42,14 @@ enum {
   AXLEBLOOM_SERVED_OUT = 13,   /* this job has served 4294967295 words; close it and open it again */
   AXLEBLOOM_NO_PROFILE = 28,   /* from profile: the losses are outside what the manual promises. The word need not be lost: ask judge or recover
                                   before you fetch a disk */
-  AXLEBLOOM_RETIRED = 29,      /* four local checks are out of sale: axlebloom_encode refuses c = 4. Old words with it are still described,
-                                  checked, extracted, judged, repaired, recovered and served */
+  AXLEBLOOM_RETIRED = 29,      /* four local checks are out of sale: axlebloom_encode and axlebloom_edit refuse c = 4. Old words with it are
+                                  still described, checked, extracted, judged, repaired, recovered and served */
+  AXLEBLOOM_DATA_NUMBER = 30,  /* from edit: no such byte of data, numbers go from 0 to k-1 */
   AXLEBLOOM_UNSOUND = 31       /* the desk is not sound, which is explained where it is declared; axlebloom_fresh starts a new one, without
                                   its jobs */
 };
 
-/* What check, repair, recover and serve give back: the number and, with a 9, a group counted from 0. With any other number group is 0.
+/* What check, edit, repair, recover and serve give back: the number and, with a 9, a group counted from 0. With any other number group is 0.
  *
  * From repair it is the group that was to be repaired: at least one of its present bytes is wrong. From the others:
  * - a group below m: whatever stood in its lost places, the group breaks its own checks, so it holds at least one present byte that is wrong.
@@ -62,7 +63,8 @@ struct axlebloom_answer {
   uint8_t group;
 };
 
-/* Whether the shape is good: 0, or 1 to 4. A good shape with c = 4 can be read and mended, but axlebloom_encode refuses it (29). */
+/* Whether the shape is good: 0, or 1 to 4. A good shape with c = 4 can be read and mended, but axlebloom_encode and
+ * axlebloom_edit refuse it (29). */
 uint8_t axlebloom_describe(size_t m, size_t w, size_t c);
 
 /* Of a good shape the places n of a word, the bytes k of data in it, and the most lost places that are
@@ -76,6 +78,12 @@ uint8_t axlebloom_encode(size_t m, size_t w, size_t c, const uint8_t *data, size
 
 /* Takes the k bytes of data out of any word. Refused by 1 to 5. */
 uint8_t axlebloom_extract(size_t m, size_t w, size_t c, const uint8_t *word, size_t n, uint8_t *data, size_t k);
+
+/* Changes byte number of the data, counted from 0, to byte, in a word that is a codeword, and leaves the word as axlebloom_encode would leave it with
+ * the changed data. Only that byte, the c checks of its group and the c+2 checks at the end of the word may differ after. A word that is not a
+ * codeword is not edited: 9, with a group as from axlebloom_check. The whole word is tested first, which is most of the time; the rest works on
+ * two groups alone. Refused by 1 to 4, 29 for c = 4, 5, 30 and 9. */
+struct axlebloom_answer axlebloom_edit(size_t m, size_t w, size_t c, uint8_t *word, size_t n, size_t number, uint8_t byte);
 
 /* 0 if the word is a codeword; 9, with a group, is the answer no. Refused by 1 to 5. */
 struct axlebloom_answer axlebloom_check(size_t m, size_t w, size_t c, const uint8_t *word, size_t n);

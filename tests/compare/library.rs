@@ -14,6 +14,7 @@ mod c {
         pub fn axlebloom_profile(m: usize, w: usize, c: usize, l: *const u8, n: usize) -> Profile;
         pub fn axlebloom_repair(m: usize, w: usize, c: usize, g: usize, x: *mut u8, n: usize, l: *mut u8, k: usize) -> Answer;
         pub fn axlebloom_recover(m: usize, w: usize, c: usize, x: *mut u8, n: usize, l: *mut u8, k: usize) -> Answer;
+        pub fn axlebloom_edit(m: usize, w: usize, c: usize, x: *mut u8, n: usize, number: usize, byte: u8) -> Answer;
         pub fn axlebloom_fresh(desk: *mut Desk);
         pub fn axlebloom_open(desk: *mut Desk, m: usize, w: usize, c: usize, l: *const u8, n: usize, handle: *mut u64) -> u8;
         pub fn axlebloom_serve(desk: *mut Desk, handle: u64, x: *mut u8, n: usize) -> Answer;
@@ -83,6 +84,10 @@ pub fn repair(s: Shape, g: usize, x: &mut [u8], l: &mut [u8]) -> Mended {
 
 pub fn recover(s: Shape, x: &mut [u8], l: &mut [u8]) -> Mended {
     mended(unsafe { c::axlebloom_recover(s.0, s.1, s.2, x.as_mut_ptr(), x.len(), l.as_mut_ptr(), l.len()) })
+}
+
+pub fn edit(s: Shape, x: &mut [u8], number: usize, byte: u8) -> Mended {
+    mended(unsafe { c::axlebloom_edit(s.0, s.1, s.2, x.as_mut_ptr(), x.len(), number, byte) })
 }
 
 #[repr(C)]

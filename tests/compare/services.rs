@@ -1,5 +1,6 @@
 //! Calls of every service with one shape, word, row of marks and list of groups.
 
+use crate::edits;
 use crate::library::{self, Mended, Shape};
 use crate::profiles;
 use crate::random::{bad_shape, codeword, damaged, figures, good_shape, marks, wide, Random};
@@ -150,6 +151,7 @@ impl Case for Services {
         plain_services(self, &mut seen)?;
         repairs(self, &mut seen)?;
         profiles::compare(self.shape, &self.marks, &self.data, &mut seen)?;
+        edits::compare(self.shape, &self.word, &self.data, &mut seen)?;
         Ok(seen)
     }
 

@@ -304,6 +304,31 @@ pub fn check(m: u64, w: u64, c: u64, word: &[u8]) -> Result<Checked, u8> {
     Ok(Checked::Yes)
 }
 
+/// Edit: the data taken out, one byte changed, and all encoded afresh: 0, or 1 to 4, 29, 5, 30, 9 with its group.
+pub fn edit(m: u64, w: u64, c: u64, word: &mut [u8], number: u64, byte: u8) -> Mended {
+    let (n, k, _) = match describe(m, w, c) {
+        Ok(figures) => figures,
+        Err(number) => return (number, 0),
+    };
+    if is_retired(c) {
+        return (29, 0);
+    }
+    if word.len() as u64 != n {
+        return (5, 0);
+    }
+    if number >= k {
+        return (30, 0);
+    }
+    if let Ok(Checked::No(group)) = check(m, w, c, word) {
+        return (9, group);
+    }
+    let mut data = vec![0; k as usize];
+    extract(m, w, c, word, &mut data);
+    data[number as usize] = byte;
+    word.copy_from_slice(&codeword(m, w, c, &data));
+    (0, 0)
+}
+
 /// The lost places as flags.
 fn flags(marks: &[u8]) -> Vec<bool> {
     marks.iter().map(|&mark| mark == 1).collect()

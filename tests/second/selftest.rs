@@ -732,6 +732,41 @@ fn profiles(t: &mut Tally, random: &mut Random) {
     }
 }
 
+// -------------------------------------------------------------------- edits
+
+/// Every shape: one edit leaves all but the places that may differ, two go in either order, and refusals come in their order.
+fn edits(t: &mut Tally, random: &mut Random) {
+    for (m, w, c) in good_shapes() {
+        let k = describe(m, w, c).unwrap().1;
+        let word = random_codeword(random, m, w, c);
+        let (i, a, b) = (random.below(k), random.next() as u8, random.next() as u8);
+        let mut once = word.clone();
+        if is_retired(c) {
+            t.ok(edit(m, w, c, &mut once, k, a) == (29, 0) && once == word, "four checks are refused before the number");
+            continue;
+        }
+        t.ok(edit(m, w, c, &mut once, i, a) == (0, 0), "an edit is done");
+        let place = (0..m * w).filter(|&p| !is_check_place(m, w, c, p)).nth(i as usize).unwrap();
+        let may_differ = |p: u64| p == place || (p / w == place / w && p % w >= w - c) || p >= m * w - c - 2;
+        t.ok((0..m * w).all(|p| may_differ(p) || once[p as usize] == word[p as usize]), "nothing differs elsewhere");
+        t.ok(once[place as usize] == a, "the byte stands in its place");
+        let j = (i + 1) % k;
+        let (mut there, mut back) = (once.clone(), word.clone());
+        edit(m, w, c, &mut there, j, b);
+        edit(m, w, c, &mut back, j, b);
+        edit(m, w, c, &mut back, i, a);
+        t.ok(there == back || i == j, "either order");
+        let mut other = word.clone();
+        other[0] ^= 1;
+        let broken = other.clone();
+        t.ok(edit(m, w, c, &mut other, k, a) == (30, 0) && other == broken, "30 comes before 9");
+        t.ok(edit(m, w, c, &mut other, i, a) == (9, 0) && other == broken, "a word that is no codeword is not edited");
+        t.ok(edit(m, w, c, &mut other[1..], k, a) == (5, 0) && other == broken, "5 comes before 30");
+    }
+    let mut word = [1, 1, 0, 78, 206, 128];
+    t.ok(edit(2, 3, 1, &mut word, 1, 1) == (0, 0) && word == [1, 1, 0, 78, 206, 128], "the byte that stands there");
+}
+
 fn main() -> ExitCode {
     let t = &mut Tally { passed: 0, failed: 0 };
     let random = &mut Random(0x9E3779B97F4A7C15);
@@ -756,6 +791,7 @@ fn main() -> ExitCode {
     named_groups(t, random);
     repairs_then_recovery(t, random);
     profiles(t, random);
+    edits(t, random);
     desk_handles(t);
     desk_serves(t);
     desk_sound(t);

@@ -50,7 +50,7 @@ module _ {L : Limits} {m w c : ℕ} (good : GoodIn L m w c) where
       count-ext w (λ j. isCheck m w c (g * w + j)) (λ j. leb w (j + (c + 2))) (λ j h. check-last m w c g j e h)
       ∙ count-from w (c + 2) w ∙ omega arith
 
-  checks-before : (g : ℕ) → g < m → countBelow (g * w) (isCheck m w c) ≡ g * c
+  pub checks-before : (g : ℕ) → g < m → countBelow (g * w) (isCheck m w c) ≡ g * c
   unfolding totalBelow
   checks-before zero l = rw (zero-mul w, zero-mul c)
   checks-before (suc g) l =

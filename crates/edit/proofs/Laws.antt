@@ -1,0 +1,300 @@
+-- Laws of the steps: refusals, a group refilled, and the last group corrected.
+use mathlib.Core.Path.{_≡_, refl, sym, ap, ap₂, _∙_, subst}
+use mathlib.Core.Bool.{Bool, true, false, not}
+use mathlib.Core.Logic.{_⊎_, inl, inr}
+use mathlib.Core.List.{List, [], _∷_, _++_, append-nil}
+use Prim.Native.Nat.{ℕ, zero, suc, _+_, _-_, _*_, _<_, _≤_}
+use native.Mathlib.Nat.{suc-mul, mul-le-mul-right, mul-le-mul}
+use native.Mathlib.Omega.{arith}
+use native.Mathlib.Decide.{decLt}
+use borrow.Author.Tests.{lt-leb, le-leb}
+use lib.Bits.{bitXor}
+use lib.Dec.{leb}
+use lib.ListN.{length, getD, set, take, drop, length-set, length-append, length-take, length-drop, drop-of-length-le, replicate, List·getD-append}
+use lib.Seq.{ext-getD, getD-append-add, getD-take, getD-drop, length-take-le, take-all}
+use Rattle.binary_field.specs.Xor.{_⊕_}
+use Rattle.binary_field.specs.XorLaws.{⊕-bits, ⊕-zero-r, ⊕-zero-l, ⊕-self}
+use Rattle.binary_field.specs.ProductLaws.{product-zero}
+use Rattle.binary_field.specs.SumLaws.{sum-none, sum-suc}
+use Rattle.shape.specs.declared.Mending.{Mending}
+use Rattle.shape.specs.Answers.{mendingAt}
+use Rattle.shape.specs.AnswersLaws.{mending-refused}
+use Rattle.shape.specs.Refusals.{_orElse_, refuse, unlessRefused}
+use Rattle.shape.specs.RefusalsLaws.{orElse-first, orElse-zero, unless-refused}
+use Rattle.shape.specs.Shapes.{Good, Sold, dataCount, saleRefusal, wordRefusal}
+use Rattle.shape.specs.Laws.{sold-of-refusal, sale-numbers, word-most}
+use Rattle.code.specs.Edition.{times, raised}
+use Rattle.code.specs.Contradiction.{contradictingGroup}
+use Rattle.code.specs.Word.{groupSum, localSum, coefficient, twisted, isCodeword}
+use Rattle.code.specs.Combined.{combined}
+use Rattle.code.specs.CombinedLaws.{combined-at}
+use Rattle.code.specs.Lone.{lone}
+use Rattle.code.specs.LoneLaws.{lone-inside, lone-before}
+use Rattle.code.specs.Marks.{lostIn}
+use Rattle.byte_edition.specs.Edition.{bytes}
+use Rattle.fill.specs.Filled.{Filled}
+use Rattle.syndrome.specs.declared.Sums.{Sums}
+use Rattle.candidate.specs.Solved.{pairAt}
+use Rattle.candidate.specs.SolvedLaws.{combined-length}
+use Rattle.edit.specs.Service.{numberRefusal, numberRefusalIn, editRefusal, editRefusalIn, editOf, editIn, editedWord, editedBuffer, editedBufferIn}
+use Rattle.edit.specs.Rows.{tailMarks, localMarks, firstFixes, secondFixes, rowStart, fixOf, fixesAt}
+use Rattle.edit.specs.RowsLaws.{fix-length, fix-before, fix-after, marks-long, marks-count, marks-present}
+use Rattle.edit.specs.Steps.{Refilled, AddedRows, correctedOf}
+
+-- ---- refusals, in their order
+module _ (m w c lent number : ℕ) where
+  pub refused-sale : (saleRefusal m w c ≡ 0 → ⊥) → numberRefusal m w c lent number ≡ saleRefusal m w c
+  unfolding numberRefusalIn
+  refused-sale n = orElse-first (saleRefusal m w c) _ n
+
+  pub refused-length : saleRefusal m w c ≡ 0 → (wordRefusal m w c lent ≡ 0 → ⊥) → numberRefusal m w c lent number ≡ wordRefusal m w c lent
+  unfolding numberRefusalIn
+  refused-length e n =
+      ap (λ r. r orElse (wordRefusal m w c lent orElse refuse 30 (leb (dataCount m w c) number))) e ∙ orElse-first (wordRefusal m w c lent) _ n
+
+  pub refused-number : saleRefusal m w c ≡ 0 → wordRefusal m w c lent ≡ 0 → numberRefusal m w c lent number ≡ refuse 30 (leb (dataCount m w c) number)
+  unfolding numberRefusalIn
+  refused-number e f =
+      ap (λ r. r orElse (wordRefusal m w c lent orElse refuse 30 (leb (dataCount m w c) number))) e
+      ∙ ap (λ r. r orElse refuse 30 (leb (dataCount m w c) number)) f
+
+-- ---- a group refilled
+-- the marks as they are lent
+pub filled : (c j b : ℕ) (before after : List ℕ) → length before ≤ 15 + c
+    → Filled (take (15 + c - (15 + c - length (set before j b))) (drop (15 + c - length (set before j b)) tailMarks)) (set before j b) after
+    → Filled (localMarks (length before) c) (set before j b) after
+filled c j b before after fits F =
+    let e = length-set before j b in
+    let d : 15 + c - (15 + c - length before) ≡ length before = omega arith in
+    subst (λ n. Filled (take n (drop (15 + c - length before) tailMarks)) (set before j b) after) d
+    (subst (λ n. Filled (take (15 + c - (15 + c - n)) (drop (15 + c - n) tailMarks)) (set before j b) after) e F)
+
+pub refilled : (w c g j b : ℕ) (before after : List ℕ) (sums : Sums) → 1 ≤ c → c ≤ 3 → c + 2 ≤ w → w ≤ 16 → length before ≡ w
+    → Filled (localMarks w c) (set before j b) after
+    → sums .first ≡ groupSum bytes w before 0 (coefficient bytes c) ⊕ groupSum bytes (length after) after 0 (coefficient bytes c)
+    → sums .second ≡ groupSum bytes w before 0 (twisted bytes c g) ⊕ groupSum bytes (length after) after 0 (twisted bytes c g)
+    → Refilled w c g j b before after sums
+refilled w zero g j b before after sums some few wide narrow long F first second = absurd (omega arith)
+refilled w (suc i) g j b before after sums some few wide narrow long F first second =
+    let size : length (set before j b) ≡ w = length-set before j b ∙ long in
+    let k = marks-count w i (omega arith) (omega arith) narrow in
+    record {
+      size = F .size ∙ size;
+      carries = λ p l. F .present p (marks-present w i (omega arith) (omega arith) narrow p l);
+      zero = λ e l.
+          subst (λ n. n ≤ 16 → length (localMarks w (suc i)) ≡ n → lostIn n (localMarks w (suc i)) 0 ≤ 4 → (e : ℕ) → e < lostIn n (localMarks w (suc i)) 0
+          → localSum bytes n after 0 e ≡ 0)
+          size (F .zero) narrow (marks-long w i (omega arith) (omega arith) narrow) (omega arith) e (omega arith);
+      first = first ∙ ap (λ n. groupSum bytes w before 0 (coefficient bytes (suc i)) ⊕ groupSum bytes n after 0 (coefficient bytes (suc i))) (F .size ∙ size);
+      second = second ∙ ap (λ n. groupSum bytes w before 0 (twisted bytes (suc i) g) ⊕ groupSum bytes n after 0 (twisted bytes (suc i) g)) (F .size ∙ size);
+    }
+
+-- ---- the last group corrected
+pub checks-fit : (m w c : ℕ) → Good m w c → c + 2 ≤ m * w
+checks-fit m w c good = let k : 1 * w ≤ m * w = mul-le-mul-right w (good .some) in omega (arith, good .wide)
+
+-- the rows stand at the end of the last group, which is the end of the word
+pub corrected : (m w c first second : ℕ) (word part : List ℕ) → Good m w c → c ≤ 3 → length word ≡ m * w
+    → AddedRows first (take (c + 2) (drop (rowStart w c) firstFixes)) (times bytes second (raised bytes 2 (15 - m)))
+    (take (c + 2) (drop (rowStart w c) secondFixes))
+    (drop (m * w - (c + 2)) word) part
+    → take (m * w - (c + 2)) word ++ part ≡ correctedOf m w c first second word
+unfolding correctedOf firstFixes secondFixes
+corrected m w zero first second word part good few size A = absurd (omega (arith, good .checked))
+corrected m w (suc i) first second word part good few size A =
+    ext-getD 0 _ _ (long ∙ sym (combined-length bytes (m * w) 2 word _ _)) λ p l.
+    let k : p < m * w = subst (λ n. p < n) long l in
+    elim (decLt p a) [
+      | yes h ↦
+          List·getD-append (take a word) part 0 p (subst (λ n. p < n) (sym front) h) ∙ getD-take a word p 0 h
+          ∙ sym (at p k ∙ ap₂ (λ x y. getD word p 0 ⊕ (times bytes first x ⊕ times bytes v y)) (off 0 firstFixes (first-long) p k h)
+          (off 1 secondFixes second-long p k h)
+          ∙ ap₂ (λ x y. getD word p 0 ⊕ (x ⊕ y)) (product-zero 8 285 first) (product-zero 8 285 v) ∙ ap (λ x. getD word p 0 ⊕ x) (⊕-self 0) ∙ ⊕-zero-r
+          (getD word p 0))
+      | no h ↦
+          (let d : a + (p - a) ≡ p = omega arith in
+          let b : p - a < suc i + 2 = omega arith in
+          subst (λ q. getD (take a word ++ part) q 0 ≡ getD C q 0) d (inside (p - a) b))
+    ]
+  where
+    a : ℕ
+    a = m * w - (suc i + 2)
+
+    v : ℕ
+    v = times bytes second (raised bytes 2 (15 - m))
+
+    C : List ℕ
+    C = combined bytes (m * w) word 2 (pairAt first v) (λ k. lone m w (m - 1) (fixOf (fixesAt k) w (suc i)))
+
+    last-end : (m - 1) * w + w ≡ m * w
+    last-end = let s = good .some in let e : suc (m - 1) ≡ m = omega arith in sym (suc-mul (m - 1) w) ∙ ap (λ n. n * w) e
+
+    start : a ≡ (m - 1) * w + (w - (suc i + 2))
+    start = let e = last-end in let k = good .wide in omega arith
+
+    front : length (take a word) ≡ a
+    front = length-take-le a word (omega arith)
+
+    tail : length (drop a word) ≡ suc i + 2
+    tail = let e = last-end in let k = good .wide in omega (arith, length-drop a word)
+
+    long : length (take a word ++ part) ≡ m * w
+    long = let t = tail in let e = last-end in let k = good .wide in omega (arith, length-append (take a word) part, front, A .size)
+
+    first-long : length (fixOf firstFixes w (suc i)) ≡ w
+    first-long = fix-length w i (omega arith) (let k = good .wide in omega arith) (good .narrow) firstFixes refl
+
+    second-long : length (fixOf secondFixes w (suc i)) ≡ w
+    second-long = fix-length w i (omega arith) (let k = good .wide in omega arith) (good .narrow) secondFixes refl
+
+    last-less : m - 1 < m
+    last-less = let s = good .some in omega arith
+
+    at : (p : ℕ) → p < m * w → getD C p 0
+        ≡ getD word p 0 ⊕ (times bytes first (getD (lone m w (m - 1) (fixOf firstFixes w (suc i))) p 0) ⊕ times bytes v
+        (getD (lone m w (m - 1) (fixOf secondFixes w (suc i))) p 0))
+    at p l =
+        combined-at bytes m w 2 word _ _ p l
+        ∙ ap (λ x. getD word p 0 ⊕ x) (sum-suc 1 _ ∙ ap₂ _⊕_ (sum-suc 0 _ ∙ ap₂ _⊕_ (sum-none _) refl ∙ ⊕-zero-l _) refl)
+
+    off : (k : ℕ) (fixes : List ℕ) → length (fixOf fixes w (suc i)) ≡ w → (p : ℕ) → p < m * w → p < a → getD (lone m w (m - 1) (fixOf fixes w (suc i))) p 0 ≡ 0
+    off k fixes size p l h = elim (decLt p ((m - 1) * w)) [
+      | yes b ↦ lone-before m w (m - 1) (fixOf fixes w (suc i)) last-less size p b
+      | no b ↦
+          (let d : (m - 1) * w + (p - (m - 1) * w) ≡ p = omega arith in
+          let s = start in
+          subst (λ q. getD (lone m w (m - 1) (fixOf fixes w (suc i))) q 0 ≡ 0) d
+          (lone-inside m w (m - 1) (fixOf fixes w (suc i)) last-less size (p - (m - 1) * w) (omega arith) ∙ fix-before fixes w (suc i) (p - (m - 1) * w)
+          (omega arith)))
+    ]
+
+    on : (fixes : List ℕ) → length (fixOf fixes w (suc i)) ≡ w → (j : ℕ) → j < suc i + 2 → getD (lone m w (m - 1) (fixOf fixes w (suc i))) (a + j) 0
+        ≡ getD (take (suc i + 2) (drop (rowStart w (suc i)) fixes)) j 0
+    on fixes size j l =
+        let k = good .wide in
+        let s = start in
+        let d : a + j ≡ (m - 1) * w + (w - (suc i + 2) + j) = omega arith in
+        ap (λ q. getD (lone m w (m - 1) (fixOf fixes w (suc i))) q 0) d
+        ∙ lone-inside m w (m - 1) (fixOf fixes w (suc i)) last-less size (w - (suc i + 2) + j) (omega arith) ∙ fix-after fixes w (suc i) j l
+        ∙ sym (getD-take (suc i + 2) (drop (rowStart w (suc i)) fixes) j 0 l ∙ getD-drop (rowStart w (suc i)) fixes j 0)
+
+    inside : (j : ℕ) → j < suc i + 2 → getD (take a word ++ part) (a + j) 0 ≡ getD C (a + j) 0
+    inside j l =
+        let t = tail in
+        let e = last-end in
+        let k = good .wide in
+        ap (λ n. getD (take a word ++ part) (n + j) 0) (sym front) ∙ getD-append-add (take a word) part j 0
+        ∙ A .each j (omega arith)
+        ∙ ap₂ (λ x y. x ⊕ y) (getD-drop a word j 0)
+        (ap₂ (λ x y. times bytes first x ⊕ times bytes v y) (sym (on firstFixes first-long j l)) (sym (on secondFixes second-long j l)))
+        ∙ sym (at (a + j) (omega arith))
+
+-- the same of the parts as they are lent
+pub corrected-lent : (m w c first second v : ℕ) (word part : List ℕ) → Good m w c → c ≤ 3 → length word ≡ m * w
+    → v ≡ times bytes second (raised bytes 2 (15 - m))
+    → AddedRows first (take (rowStart w c + (c + 2) - rowStart w c) (drop (rowStart w c) firstFixes)) v
+    (take (rowStart w c + (c + 2) - rowStart w c) (drop (rowStart w c) secondFixes))
+    (take (length word - (length word - (c + 2))) (drop (length word - (c + 2)) word)) part
+    → take (length word - (c + 2)) word ++ (part ++ drop (length word - (length word - (c + 2))) (drop (length word - (c + 2)) word))
+    ≡ correctedOf m w c first second word
+corrected-lent m w c first second v word part good few size e A =
+    let a = length word - (c + 2) in
+    let r : rowStart w c + (c + 2) - rowStart w c ≡ c + 2 = omega arith in
+    let d : length (drop a word) ≤ length word - a = omega (arith, length-drop a word) in
+    ap (λ x. take a word ++ (part ++ x)) (drop-of-length-le (drop a word) d) ∙ ap (λ x. take a word ++ x) (append-nil part)
+    ∙ ap (λ n. take (n - (c + 2)) word ++ part) size
+    ∙ corrected m w c first second word part good few size
+    (subst (λ n. AddedRows first (take (c + 2) (drop (rowStart w c) firstFixes)) (times bytes second (raised bytes 2 (15 - m)))
+    (take (c + 2) (drop (rowStart w c) secondFixes)) (drop (n - (c + 2)) word) part) size
+    (subst (λ x. AddedRows first (take (c + 2) (drop (rowStart w c) firstFixes)) (times bytes second (raised bytes 2 (15 - m)))
+    (take (c + 2) (drop (rowStart w c) secondFixes)) x part) (take-all (length word - a) (drop a word) d)
+    (subst (λ z. AddedRows first (take (c + 2) (drop (rowStart w c) firstFixes)) z (take (c + 2) (drop (rowStart w c) secondFixes))
+    (take (length word - a) (drop a word)) part) e
+    (subst (λ n. AddedRows first (take n (drop (rowStart w c) firstFixes)) v (take n (drop (rowStart w c) secondFixes))
+    (take (length word - a) (drop a word)) part) r A))))
+
+add-sub-cancel : (a b : ℕ) → a + b - a ≡ b
+add-sub-cancel a b = omega arith
+
+within : (a b n d : ℕ) → a + b ≤ n → d ≡ n - a → b ≤ d
+within a b n d l e = omega arith
+
+-- as many numbers of a row as there are places
+pub lent-rows : (m w c : ℕ) (word fixes : List ℕ) → Good m w c → c ≤ 3 → length word ≡ m * w → length fixes ≡ 200
+    → length (take (rowStart w c + (c + 2) - rowStart w c) (drop (rowStart w c) fixes)) ≡ length
+    (take (length word - (length word - (c + 2))) (drop (length word - (c + 2)) word))
+lent-rows m w c word fixes good few size long = left ∙ sym right
+  where
+    row-fits : rowStart w c + (c + 2) ≤ 200
+    row-fits = let k = good .wide in let h = good .narrow in let o = good .checked in omega arith
+
+    left : length (take (rowStart w c + (c + 2) - rowStart w c) (drop (rowStart w c) fixes)) ≡ c + 2
+    left =
+        let r : rowStart w c + (c + 2) - rowStart w c ≡ c + 2 = add-sub-cancel (rowStart w c) (c + 2) in
+        ap (λ n. length (take n (drop (rowStart w c) fixes))) r
+        ∙ length-take-le (c + 2) (drop (rowStart w c) fixes) (within (rowStart w c) (c + 2) (length fixes) (length (drop (rowStart w c) fixes))
+        (subst (λ n. rowStart w c + (c + 2) ≤ n) (sym long) row-fits) (length-drop (rowStart w c) fixes))
+
+    right : length (take (length word - (length word - (c + 2))) (drop (length word - (c + 2)) word)) ≡ c + 2
+    right =
+        let k = checks-fit m w c good in
+        let d : length word - (length word - (c + 2)) ≡ c + 2 = omega arith in
+        ap (λ n. length (take n (drop (length word - (c + 2)) word))) d
+        ∙ length-take-le (c + 2) (drop (length word - (c + 2)) word) (omega (arith, length-drop (length word - (c + 2)) word))
+
+-- ---- the answer
+module _ (m w c lent number : ℕ) (accepted : numberRefusal m w c lent number ≡ 0) where
+  pub sold-of-number : Sold m w c
+  unfolding numberRefusalIn
+  sold-of-number = sold-of-refusal m w c (orElse-zero (saleRefusal m w c) _ accepted .0)
+
+-- none of these refusals is 9
+pub not-nine : (m w c lent number : ℕ) → numberRefusal m w c lent number ≡ 9 → ⊥
+unfolding numberRefusalIn
+not-nine m w c lent number = go (saleRefusal m w c) (wordRefusal m w c lent) (leb (dataCount m w c) number) (sale-numbers m w c) (word-most m w c lent)
+  where
+    go : (r t : ℕ) (b : Bool) → (r ≤ 4) ⊎ (r ≡ 29) → t ≤ 5 → (r orElse (t orElse refuse 30 b)) ≡ 9 → ⊥
+    go zero zero true n l e = let k : _≡_ {A = ℕ} 30 9 = e in omega arith
+    go zero zero false n l e = let k : _≡_ {A = ℕ} 0 9 = e in omega arith
+    go zero (suc t) b n l e = let k : suc t ≡ 9 = e in omega arith
+    go (suc r) t b (inl n) l e = let k : suc r ≡ 9 = e in omega arith
+    go (suc r) t b (inr n) l e = let k : suc r ≡ 9 = e in omega arith
+
+-- number, answer and buffer of a call, by how it goes
+module _ (m w c : ℕ) (word : List ℕ) (number b : ℕ) where
+  group : ℕ
+  group = contradictingGroup bytes m w c word (replicate (length word) 0)
+
+  by-number : (r : ℕ) → r ≡ editRefusal m w c word number
+      → (mendingAt r group ≡ editOf m w c word number) × (unlessRefused r (editedWord m w c word number b) word ≡ editedBuffer m w c word number b)
+  unfolding editIn editedBufferIn group
+  by-number r e =
+      (ap (λ n. mendingAt n group) e, ap (λ n. unlessRefused n (editedWord m w c word number b) word) e)
+
+  pub edit-refused : (r : ℕ) → r ≡ numberRefusal m w c (length word) number → (r ≡ 0 → ⊥)
+      → (Mending.Refused r ≡ editOf m w c word number) × ((r ≡ editRefusal m w c word number) × (word ≡ editedBuffer m w c word number b))
+  unfolding editRefusalIn
+  edit-refused r e n =
+      let f : r ≡ editRefusal m w c word number = e ∙ sym (orElse-first (numberRefusal m w c (length word) number) _ (λ z. n (e ∙ z))) in
+      let B = by-number r f in (
+        sym (mending-refused r group n (λ z. not-nine m w c (length word) number (sym e ∙ z))) ∙ B .0,
+        (f, sym (unless-refused r (editedWord m w c word number b) word n) ∙ B .1),
+      )
+
+  module _ (accepted : numberRefusal m w c (length word) number ≡ 0) where
+    decided : (v : Bool) → isCodeword bytes m w c word ≡ v → refuse 9 (not v) ≡ editRefusal m w c word number
+    unfolding editRefusalIn
+    decided v e = sym (ap (λ r. r orElse refuse 9 (not (isCodeword bytes m w c word))) accepted ∙ ap (λ v. refuse 9 (not v)) e)
+
+    pub edit-contradictory : (g : ℕ) → isCodeword bytes m w c word ≡ false → g ≡ contradictingGroup bytes m w c word (replicate (length word) 0)
+        → (Mending.Contradictory g ≡ editOf m w c word number) × ((9 ≡ editRefusal m w c word number) × (word ≡ editedBuffer m w c word number b))
+    unfolding group
+    edit-contradictory g e h =
+        let B = by-number 9 (decided false e) in
+        (ap Mending.Contradictory h ∙ B .0, (decided false e, B .1))
+
+    pub edit-done : (end : List ℕ) → isCodeword bytes m w c word ≡ true → end ≡ editedWord m w c word number b
+        → (Mending.Done ≡ editOf m w c word number) × ((0 ≡ editRefusal m w c word number) × (end ≡ editedBuffer m w c word number b))
+    edit-done end e h =
+        let B = by-number 0 (decided true e) in
+        (B .0, (decided true e, h ∙ B .1))

@@ -1,0 +1,92 @@
+use mathlib.Core.Path.{_≡_, refl, ap₂, _∙_}
+use mathlib.Core.List.{List}
+use Prim.Native.Nat.{ℕ, _-_, _≤_, _<_}
+use native.Mathlib.Omega.{arith}
+use lib.ListN.{length, getD, length-set}
+use borrow.Author.Needs.{needs}
+use Rattle.binary_field.specs.Xor.{_⊕_}
+use Rattle.binary_field.specs.XorLaws.{⊕-bits}
+use Rattle.code.specs.Edition.{times}
+use Rattle.byte_edition.specs.Edition.{bytes}
+use Rattle.fill.proofs.Laws.{each-set}
+use Rattle.candidate.proofs.Laws.{rest-set}
+use Rattle.edit.proofs.add_rows.Statement.{statement}
+use Rattle.edit.proofs.add_rows.Tie as tie
+
+abbrev Inv-loop : tie.InvT-loop
+Inv-loop u h v k part₀ i₀ part i =
+    (i ≤ length part₀) × (length part ≡ length part₀)
+    × ((l : ℕ) → l < i → getD part l 0 ≡ getD part₀ l 0 ⊕ (times bytes u (getD h l 0) ⊕ times bytes v (getD k l 0)))
+    × ((l : ℕ) → i ≤ l → getD part l 0 ≡ getD part₀ l 0)
+
+abbrev μ-loop : tie.MeasureT-loop
+μ-loop u h v k part₀ i₀ part i = length part₀ - i
+
+loop-holds : tie.Need-loop-holds Inv-loop μ-loop
+loop-holds c = (omega arith, refl, λ l h. absurd (omega arith), λ l h. refl)
+
+shared-slice-read-shifted-product : tie.Need-shared-slice-read-shifted-product Inv-loop μ-loop
+shared-slice-read-shifted-product c = omega arith
+
+shifted-product-requires : tie.Need-shifted-product-requires Inv-loop μ-loop
+shifted-product-requires c κs = search needs
+
+shared-slice-read-shifted-product-2 : tie.Need-shared-slice-read-shifted-product-2 Inv-loop μ-loop
+shared-slice-read-shifted-product-2 c = omega arith
+
+shifted-product-requires-2 : tie.Need-shifted-product-requires-2 Inv-loop μ-loop
+shifted-product-requires-2 c κs = search needs
+
+slice-read-part : tie.Need-slice-read-part Inv-loop μ-loop
+slice-read-part c = omega arith
+
+slice-write-part : tie.Need-slice-write-part Inv-loop μ-loop
+slice-write-part c = omega arith
+
+add-i : tie.Need-add-i Inv-loop μ-loop
+add-i c = omega arith
+
+loop-less : tie.Need-loop-less Inv-loop μ-loop
+loop-less c = omega arith
+
+loop-again : tie.Need-loop-again Inv-loop μ-loop
+loop-again c =
+    let s = c .before .before .before .before .before .before in
+    let a = s .before .before .before .before .args in
+    let i : ℕ = s .loop .i in
+    let x : List ℕ = s .loop .part in
+    let x₀ : List ℕ = a .part .now in (
+      omega arith,
+      simp length-set (omega arith),
+      each-set (λ l z. z ≡ getD x₀ l 0 ⊕ (times bytes (a .u) (getD (a .h .now) l 0) ⊕ times bytes (a .v) (getD (a .k .now) l 0))) x i _ 0 (omega arith)
+          (s .loop .inv .2)
+          (⊕-bits _ _
+          ∙ ap₂ _⊕_ (s .loop .inv .3 i (omega arith))
+          (⊕-bits _ _ ∙ ap₂ _⊕_ (c .before .before .before .shifted-product .ensures) (c .before .shifted-product2 .ensures))),
+      rest-set (λ l. getD x₀ l 0) x i _ 0 (s .loop .inv .3),
+    )
+
+same-length : tie.Need-same-length Inv-loop μ-loop
+same-length c = omega arith
+
+returns : tie.Need-returns Inv-loop μ-loop
+returns c = let s = c .before in record { size = s .loop .inv .1; each = λ l h. s .loop .inv .2 l (omega arith) }
+
+pub add-rows-spec : {M : Type 1} → statement M
+add-rows-spec =
+    tie.close
+    (tie.spec
+    Inv-loop
+    μ-loop
+    loop-holds
+    shared-slice-read-shifted-product
+    shifted-product-requires
+    shared-slice-read-shifted-product-2
+    shifted-product-requires-2
+    slice-read-part
+    slice-write-part
+    add-i
+    loop-less
+    loop-again
+    same-length
+    returns)

@@ -1,0 +1,84 @@
+use mathlib.Core.Path.{_≡_, refl, sym, ap, ap₂, _∙_, subst}
+use native.Mathlib.Omega.{arith}
+use lib.ListN.{length, set, length-set}
+use Rattle.binary_field.specs.Xor.{_⊕_}
+use Rattle.binary_field.specs.XorLaws.{⊕-bits}
+use Prim.Native.Nat.{_≤_}
+use Rattle.edit.specs.Rows.{tailMarks}
+use Rattle.edit.proofs.Laws.{filled, refilled}
+use borrow.Author.Needs.{needs}
+use Rattle.edit.proofs.refill.Statement.{statement}
+use Rattle.edit.proofs.refill.Tie as tie
+
+group-first-requires : tie.Need-group-first-requires
+group-first-requires c κs = search needs
+
+group-second-requires : tie.Need-group-second-requires
+group-second-requires c κs = search needs
+
+slice-write-part : tie.Need-slice-write-part
+slice-write-part c = search needs
+
+add-e : tie.Need-add-e
+add-e c = search needs
+
+sub-a : tie.Need-sub-a
+sub-a c = simp length-set (omega arith)
+
+sub-fill : tie.Need-sub-fill
+sub-fill c = search needs
+
+part-fill-start : tie.Need-part-fill-start
+part-fill-start c = search needs
+
+part-fill-end : tie.Need-part-fill-end
+part-fill-end c = search needs
+
+fill-requires : tie.Need-fill-requires
+fill-requires c κs = search needs
+
+group-first-requires-2 : tie.Need-group-first-requires-2
+group-first-requires-2 c κs = search needs
+
+group-second-requires-2 : tie.Need-group-second-requires-2
+group-second-requires-2 c κs = search needs
+
+same-length : tie.Need-same-length
+same-length c =
+    let f = c .before .before .before .before .before .before in
+    let a = f .before .before .before .before .before .before .before .before .before .args in
+    f .fill .ensures .size ∙ length-set (a .part .now) (a .j) (a .byte)
+
+returns : tie.Need-returns
+unfolding tailMarks
+returns c =
+    let f = c .before .before .before .before .before .before in
+    let t = f .before .before .before .before in
+    let s = t .before .before .before .before .before in
+    let a = s .args in
+    let n : length (f .fill .last .0) ≤ 16 = omega (arith, f .fill .ensures .size, length-set (a .part .now) (a .j) (a .byte)) in
+    refilled _ (a .c) (a .g) (a .j) (a .byte) (a .part .now) (f .fill .last .0) _ (s .pre .0 .0) (s .pre .0 .1) (s .pre .1 .0 .0) (s .pre .1 .0 .1) refl
+    (filled (a .c) (a .j) (a .byte) (a .part .now) (f .fill .last .0) (omega arith) (f .fill .ensures))
+    (⊕-bits _ _ ∙ ap₂ _⊕_ (t .before .before .group-first .ensures .0 (omega arith) (omega arith) (omega arith))
+    (c .before .before .group-first2 .ensures .0 n (omega arith) (omega arith)))
+    (⊕-bits _ _
+    ∙ ap₂ _⊕_ (t .group-second .ensures .0 (omega arith) (omega arith) (omega arith) (omega arith))
+    (c .group-second2 .ensures .0 n (omega arith) (omega arith) (omega arith)))
+
+pub refill-spec : {M : Type 1} → statement M
+refill-spec =
+    tie.close
+    (tie.spec
+    group-first-requires
+    group-second-requires
+    slice-write-part
+    add-e
+    sub-a
+    sub-fill
+    part-fill-start
+    part-fill-end
+    fill-requires
+    group-first-requires-2
+    group-second-requires-2
+    same-length
+    returns)

@@ -1,0 +1,84 @@
+use mathlib.Core.Path.{_≡_, sym, ap, _∙_}
+use Prim.Native.Nat.{_*_, _-_, _≤_}
+use native.Mathlib.Nat.{mul-le-mul}
+use native.Mathlib.Omega.{arith}
+use borrow.Author.Tests.{le-leb, lt-leb}
+use Rattle.shape.specs.Refusals.{refuse}
+use lib.Dec.{leb}
+use Rattle.shape.specs.Shapes.{Good, dataCount}
+use Rattle.edit.specs.Service.{numberRefusal}
+use Rattle.shape.specs.Laws.{good-of-word}
+use Rattle.edit.proofs.Laws.{refused-sale, refused-length, refused-number}
+use borrow.Author.Needs.{needs}
+use Rattle.edit.proofs.refusal.Statement.{statement}
+use Rattle.edit.proofs.refusal.Tie as tie
+
+sale-refusal-requires : tie.Need-sale-refusal-requires
+sale-refusal-requires c κs = search needs
+
+returns : tie.Need-returns
+returns c =
+    let a = c .before .before .args in
+    let e = c .before .sale-refusal .ensures in
+    e ∙ sym (refused-sale (a .m) (a .w) (a .c) (a .lent) (a .number) (λ z. c .if1 .taken (e ∙ z)))
+
+word-refusal-requires : tie.Need-word-refusal-requires
+word-refusal-requires c κs = search needs
+
+returns-2 : tie.Need-returns-2
+returns-2 c =
+    let r = c .before .before in
+    let a = r .before .before .args in
+    let e = c .before .word-refusal .ensures in
+    e ∙ sym (refused-length (a .m) (a .w) (a .c) (a .lent) (a .number) (sym (r .before .sale-refusal .ensures) ∙ r .if1 .left) (λ z. c .if2 .taken (e ∙ z)))
+
+-- past both tests the shape is good
+fair : (t : tie.Else2) → let a = t .before .before .before .before .args in Good (a .m) (a .w) (a .c)
+fair t =
+    let a = t .before .before .before .before .args in
+    good-of-word (a .m) (a .w) (a .c) (a .lent) (sym (t .before .word-refusal .ensures) ∙ t .if2 .left) .0
+
+numbered : (t : tie.Else2) → let a = t .before .before .before .before .args in
+    numberRefusal (a .m) (a .w) (a .c) (a .lent) (a .number) ≡ refuse 30 (leb (dataCount (a .m) (a .w) (a .c)) (a .number))
+numbered t =
+    let a = t .before .before .before .before .args in
+    refused-number (a .m) (a .w) (a .c) (a .lent) (a .number) (sym (t .before .before .before .sale-refusal .ensures) ∙ t .before .before .if1 .left)
+    (sym (t .before .word-refusal .ensures) ∙ t .if2 .left)
+
+sub-if3 : tie.Need-sub-if3
+sub-if3 c = let g = fair c in omega (arith, g .wide)
+
+mul-if3 : tie.Need-mul-if3
+mul-if3 c =
+    let g = fair c in
+    let a = c .before .before .before .before .args in
+    let h : a .w - a .c ≤ 16 = omega (arith, g .narrow) in
+    let k : a .m * (a .w - a .c) ≤ 15 * 16 = mul-le-mul (g .few) h in
+    omega arith
+
+sub-if3-2 : tie.Need-sub-if3-2
+sub-if3-2 c = let g = fair c in omega (arith, g .room)
+
+returns-3 : tie.Need-returns-3
+returns-3 c =
+    let a = c .before .before .before .before .before .args in
+    sym (numbered (c .before) ∙ ap (refuse 30) (le-leb (dataCount (a .m) (a .w) (a .c)) (a .number) (c .if3 .taken)))
+
+returns-4 : tie.Need-returns-4
+returns-4 c =
+    let a = c .before .before .before .before .before .args in
+    sym (numbered (c .before) ∙ ap (refuse 30) (lt-leb (dataCount (a .m) (a .w) (a .c)) (a .number) (c .if3 .left)))
+
+pub refusal-spec : {M : Type 1} → statement M
+refusal-spec =
+    tie.close
+    (tie.spec
+    sale-refusal-requires
+    returns
+    word-refusal-requires
+    returns-2
+    sub-if3
+    mul-if3
+    sub-if3-2
+    returns-3
+    returns-4)

@@ -1,0 +1,9 @@
+pub mod Service
+pub mod Demand
+pub mod PlacesLaws
+pub mod Laws
+pub mod BytesLaws
+pub mod Rows
+pub mod RowsLaws
+pub mod Steps
+pub mod ChangeLaws

@@ -1,0 +1,32 @@
+-- What the steps of an edit owe: a group refilled, rows added, and the last group corrected.
+use mathlib.Core.Path.{_≡_}
+use mathlib.Core.List.{List}
+use Prim.Native.Nat.{ℕ, _+_, _-_, _*_, _<_}
+use lib.ListN.{length, getD, set}
+use Rattle.binary_field.specs.Xor.{_⊕_}
+use Rattle.code.specs.Edition.{times, raised}
+use Rattle.code.specs.Word.{groupSum, localSum, coefficient, twisted}
+use Rattle.code.specs.Combined.{combined}
+use Rattle.code.specs.Lone.{lone}
+use Rattle.byte_edition.specs.Edition.{bytes}
+use Rattle.syndrome.specs.declared.Sums.{Sums}
+use Rattle.candidate.specs.Solved.{pairAt}
+use Rattle.edit.specs.Rows.{fixOf, fixesAt}
+
+-- group g's stretch with b at place j and its last c places filled by its own equations, and what that changes in the two sums across
+pub record Refilled (w c g j b : ℕ) (before after : List ℕ) (sums : Sums) : Type 0 where
+  pub size : length after ≡ w
+  pub carries : (i : ℕ) → i + c < w → getD after i 0 ≡ getD (set before j b) i 0
+  pub zero : (e : ℕ) → e < c → localSum bytes w after 0 e ≡ 0
+  pub first : sums .first ≡ groupSum bytes w before 0 (coefficient bytes c) ⊕ groupSum bytes w after 0 (coefficient bytes c)
+  pub second : sums .second ≡ groupSum bytes w before 0 (twisted bytes c g) ⊕ groupSum bytes w after 0 (twisted bytes c g)
+
+-- u times h and v times k added
+pub record AddedRows (u : ℕ) (h : List ℕ) (v : ℕ) (k before after : List ℕ) : Type 0 where
+  pub size : length after ≡ length before
+  pub each : (i : ℕ) → i < length before → getD after i 0 ≡ getD before i 0 ⊕ (times bytes u (getD h i 0) ⊕ times bytes v (getD k i 0))
+
+-- the word with multiples of the two rows added to its last group
+unfoldable pub correctedOf : ℕ → ℕ → ℕ → ℕ → ℕ → List ℕ → List ℕ
+correctedOf m w c first second word =
+    combined bytes (m * w) word 2 (pairAt first (times bytes second (raised bytes 2 (15 - m)))) (λ i. lone m w (m - 1) (fixOf (fixesAt i) w c))
