@@ -13,6 +13,7 @@ static uint8_t stack[STACK] __attribute__((aligned(64)));
 static uint8_t data[N], word[N], held[N], marks[N], held_marks[N];
 static size_t c, k;
 static struct axlebloom_desk desk, held_desk;
+static struct axlebloom_gather gather;
 static uint64_t handle, given;
 static uint32_t served;
 static volatile size_t answer;
@@ -35,6 +36,9 @@ static void open_job(void) { answer = axlebloom_open(&held_desk, M, W, c, held_m
 static void serve(void) { answer = axlebloom_serve(&held_desk, handle, held, N).number; }
 static void read_served(void) { answer = axlebloom_read(&held_desk, handle, &served); }
 static void close_job(void) { answer = axlebloom_close(&held_desk, handle); }
+static void gather_begin(void) { answer = axlebloom_gather_begin(&gather, M, W, c); }
+static void gather_take(void) { answer = axlebloom_gather_take(&gather, 0, held, 0); }
+static void gather_finish(void) { answer = axlebloom_gather_finish(&gather, word, N).number; }
 
 /* bytes of the painted stack down to the lowest that a call has written */
 static size_t touched(void call(void)) {
@@ -75,6 +79,8 @@ static size_t most(void call(void)) {
     set_scene(turn % 4 + 1, turn / 4 % 3);
     memcpy(held, word, sizeof held), memcpy(held_marks, marks, sizeof marks), held_desk = desk;
     held[N - W] = (uint8_t)(held[N - W] + turn / 12);
+    if (axlebloom_gather_begin(&gather, M, W, c)) exit(2);
+    memcpy(gather.bytes, held, sizeof held), memcpy(gather.marks, marks, sizeof marks);
     size_t t = touched(call);
     if (t > none + result) result = t - none;
   }
@@ -85,9 +91,10 @@ int main(void) {
   static const struct { const char *name; void (*call)(void); } calls[] = {
       {"describe", describe}, {"places", places}, {"data", data_bytes}, {"sure", sure}, {"encode", encode}, {"extract", extract},
       {"check", check}, {"judge", judge}, {"profile", profile}, {"edit", edit}, {"repair", repair}, {"recover", recover}, {"fresh", fresh}, {"open", open_job},
-      {"serve", serve}, {"read", read_served}, {"close", close_job}};
+      {"serve", serve}, {"read", read_served}, {"close", close_job},
+      {"gather_begin", gather_begin}, {"gather_take", gather_take}, {"gather_finish", gather_finish}};
   for (int i = 0; i < N; i++) data[i] = (uint8_t)(i * 11 + 3);
-  printf("\n| function | stack |\n|----------|-------|\n");
-  for (size_t i = 0; i < sizeof calls / sizeof calls[0]; i++) printf("| %-8s | %5zu |\n", calls[i].name, most(calls[i].call));
+  printf("\n| function      | stack |\n|---------------|-------|\n");
+  for (size_t i = 0; i < sizeof calls / sizeof calls[0]; i++) printf("| %-13s | %5zu |\n", calls[i].name, most(calls[i].call));
   return 0;
 }

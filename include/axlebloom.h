@@ -4,11 +4,12 @@
  * all groups. Marks are n bytes, 1 for a lost byte and 0 for one that is present.
  *
  * Every function answers whatever values it is given, provided that the pointers are as follows. A row of bytes comes with its length, which
- * is tested; it must really be that long, and it may be null if the length is 0. A pointer to a desk, a handle or a count has no length and
+ * is tested; it must really be that long, and it may be null if the length is 0. A pointer to a desk, a gather, a handle or a count has no length and
  * must point to one; what it points to may hold anything. What is lent to one call must not overlap.
  *
- * A number given back is 0 for done, or that of a refusal; on a refusal nothing that was lent is changed. No function keeps anything between
- * calls or allocates memory; two threads may call any of them at once on buffers and desks of their own.
+ * A number given back is 0 for done, or that of a refusal; on a refusal nothing that was lent is changed, with one exception: an 8 or a 9 of
+ * axlebloom_gather_finish sets the finished byte of the lent gather, and nothing else. No function keeps anything between
+ * calls or allocates memory; two threads may call any of them at once on buffers, desks and gathers of their own.
  */
 #ifndef AXLEBLOOM_H
 #define AXLEBLOOM_H
@@ -21,7 +22,7 @@ extern "C" {
 #endif
 
 /* Refusals: the lowest number that applies is given. Only with a desk 31 comes before all others, and with a handle 12, 5, 13, 9 follow; and
- * 29 comes straight after 4, and 30 after 5 and before 9. */
+ * 29 comes straight after 4, 30 after 5 and before 9, and at a gather's finish 5 comes after 22. */
 enum {
   AXLEBLOOM_DONE = 0,
   AXLEBLOOM_GROUPS = 1,        /* m is not 1 to 15 */
@@ -40,6 +41,9 @@ enum {
   AXLEBLOOM_NOT_OPEN = 12,     /* no open job of this desk has that handle: it was closed, it is older than the last axlebloom_fresh, or this
                                   desk never gave it */
   AXLEBLOOM_SERVED_OUT = 13,   /* this job has served 4294967295 words; close it and open it again */
+  AXLEBLOOM_FINISHED = 22,     /* this gather is finished, also by an 8 or a 9; begin another, or lend a copy from before the finish */
+  AXLEBLOOM_BEYOND = 23,       /* the stretch ends beyond the n places of the word */
+  AXLEBLOOM_CAME_BEFORE = 24,  /* a place of the stretch came before; bring only what is new */
   AXLEBLOOM_NO_PROFILE = 28,   /* from profile: the losses are outside what the manual promises. The word need not be lost: ask judge or recover
                                   before you fetch a disk */
   AXLEBLOOM_RETIRED = 29,      /* four local checks are out of sale: axlebloom_encode and axlebloom_edit refuse c = 4. Old words with it are
@@ -49,7 +53,8 @@ enum {
                                   its jobs */
 };
 
-/* What check, edit, repair, recover and serve give back: the number and, with a 9, a group counted from 0. With any other number group is 0.
+/* What check, edit, repair, recover, serve and a gather's finish give back: the number and, with a 9, a group counted from 0. With any other
+ * number group is 0.
  *
  * From repair it is the group that was to be repaired: at least one of its present bytes is wrong. From the others:
  * - a group below m: whatever stood in its lost places, the group breaks its own checks, so it holds at least one present byte that is wrong.
@@ -175,6 +180,45 @@ uint8_t axlebloom_read(const struct axlebloom_desk *desk, uint64_t handle, uint3
 
 /* Closes the job: its slot is free at once, and all its bytes are 0. Refused by 12 and 31; the desk is then unchanged. */
 uint8_t axlebloom_close(struct axlebloom_desk *desk, uint64_t handle);
+
+/* A gather: a word that arrives in stretches, in whatever order. The caller holds the record and lends it to every call; it may be copied, and
+ * saved as bytes. All but axlebloom_gather_begin first test it: 1 to 4 for its shape, 6 for a mark among the n, or a finished byte, that is
+ * neither 0 nor 1, 22 if it is finished. What stands past the n marks and bytes, and in the bytes of places that have not come, has no effect. */
+struct axlebloom_gather {
+  uint8_t m, w, c;    /* the shape */
+  uint8_t finished;   /* 1, or 0 while it takes stretches */
+  uint8_t bytes[240]; /* what came, at its place */
+  uint8_t marks[240]; /* 0 for a place that came, 1 for one that has not: marks as judge and recover read them */
+};
+
+#ifdef __cplusplus
+#define AXLEBLOOM_HOLDS(fact) static_assert(fact, #fact)
+#else
+#define AXLEBLOOM_HOLDS(fact) _Static_assert(fact, #fact)
+#endif
+AXLEBLOOM_HOLDS(sizeof(struct axlebloom_gather) == 484);
+AXLEBLOOM_HOLDS(offsetof(struct axlebloom_gather, m) == 0);
+AXLEBLOOM_HOLDS(offsetof(struct axlebloom_gather, w) == 1);
+AXLEBLOOM_HOLDS(offsetof(struct axlebloom_gather, c) == 2);
+AXLEBLOOM_HOLDS(offsetof(struct axlebloom_gather, finished) == 3);
+AXLEBLOOM_HOLDS(offsetof(struct axlebloom_gather, bytes) == 4);
+AXLEBLOOM_HOLDS(offsetof(struct axlebloom_gather, marks) == 244);
+#undef AXLEBLOOM_HOLDS
+
+/* Begins a gather of that shape, whatever the record held: every byte of it is set, and nothing has come. Refused by 1 to 4; the record is
+ * then unchanged. */
+uint8_t axlebloom_gather_begin(struct axlebloom_gather *gather, size_t m, size_t w, size_t c);
+
+/* Takes count bytes for the places from first on; count may be 0. Where no stretch is refused, how the bytes were cut and in what order they
+ * came makes no difference. Refused by 1 to 4, 6, 22, 23 and 24; the record is then unchanged. */
+uint8_t axlebloom_gather_take(struct axlebloom_gather *gather, size_t first, const uint8_t *bytes, size_t count);
+
+/* Finishes the gather: places that never came are lost, and the answer is what axlebloom_recover gives then, with its group; done, the mended
+ * word is written. Refused by 1 to 4, 6, 22 and 5; record and word are then unchanged. An 8 or a 9 writes no word but does finish the gather,
+ * for good. To wait for more where an 8 would come, ask first, and finish after a 0:
+ *     axlebloom_judge(gather.m, gather.w, gather.c, gather.marks, n)
+ * or finish a copy of the record. */
+struct axlebloom_answer axlebloom_gather_finish(struct axlebloom_gather *gather, uint8_t *word, size_t n);
 
 #ifdef __cplusplus
 }

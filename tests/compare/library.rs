@@ -1,7 +1,7 @@
 //! The library through its exported functions, with the record of a desk laid out as in the header.
 
 mod c {
-    use super::{Answer, Desk, Profile};
+    use super::{Answer, Desk, Gather, Profile};
     extern "C" {
         pub fn axlebloom_describe(m: usize, w: usize, c: usize) -> u8;
         pub fn axlebloom_places(m: usize, w: usize, c: usize) -> usize;
@@ -20,6 +20,9 @@ mod c {
         pub fn axlebloom_serve(desk: *mut Desk, handle: u64, x: *mut u8, n: usize) -> Answer;
         pub fn axlebloom_read(desk: *const Desk, handle: u64, served: *mut u32) -> u8;
         pub fn axlebloom_close(desk: *mut Desk, handle: u64) -> u8;
+        pub fn axlebloom_gather_begin(gather: *mut Gather, m: usize, w: usize, c: usize) -> u8;
+        pub fn axlebloom_gather_take(gather: *mut Gather, first: usize, x: *const u8, n: usize) -> u8;
+        pub fn axlebloom_gather_finish(gather: *mut Gather, x: *mut u8, n: usize) -> Answer;
     }
 }
 
@@ -142,4 +145,27 @@ pub fn read(desk: &Desk, handle: u64, served: &mut u32) -> u8 {
 
 pub fn close(desk: &mut Desk, handle: u64) -> u8 {
     unsafe { c::axlebloom_close(desk, handle) }
+}
+
+#[repr(C)]
+#[derive(Clone, Copy, Debug, PartialEq)]
+pub struct Gather {
+    pub m: u8,
+    pub w: u8,
+    pub c: u8,
+    pub finished: u8,
+    pub bytes: [u8; 240],
+    pub marks: [u8; 240],
+}
+
+pub fn begin(gather: &mut Gather, s: Shape) -> u8 {
+    unsafe { c::axlebloom_gather_begin(gather, s.0, s.1, s.2) }
+}
+
+pub fn take(gather: &mut Gather, first: usize, x: &[u8]) -> u8 {
+    unsafe { c::axlebloom_gather_take(gather, first, x.as_ptr(), x.len()) }
+}
+
+pub fn finish(gather: &mut Gather, x: &mut [u8]) -> Mended {
+    mended(unsafe { c::axlebloom_gather_finish(gather, x.as_mut_ptr(), x.len()) })
 }

@@ -3,6 +3,7 @@
 //!   services  every service, with shapes, words, marks and lists of groups good and bad
 //!   desks     long lists of calls on a desk, with every byte of it compared after every call
 //!   sessions  lines of text, through the program as a process
+//!   gathers   words cut and brought in any order, with odd calls and changed records between, every byte compared; and beside Recover
 //!
 //! Arguments: SEED COUNT [KIND [INDEX]]: all patterns and so many cases of each other kind, or so many of one kind, from that index on.
 //! A case depends on nothing but the seed, its kind and its index. For millions: tests/compare/many SEED COUNT, which builds all that is
@@ -12,6 +13,7 @@
 mod calls;
 mod desks;
 mod edits;
+mod gathers;
 mod library;
 mod lines;
 mod profiles;
@@ -24,6 +26,7 @@ mod sessions;
 mod shrink;
 
 use desks::History;
+use gathers::Gathering;
 use random::Random;
 use services::Services;
 use sessions::Session;
@@ -55,7 +58,7 @@ fn wanted() -> Option<Wanted> {
     Some(Wanted { seed: number(0)??, count: number(1)??, kind, from: number(3).unwrap_or(Some(0))? })
 }
 
-const KINDS: [&str; 4] = ["patterns", "services", "desks", "sessions"];
+const KINDS: [&str; 5] = ["patterns", "services", "desks", "sessions", "gathers"];
 
 /// Shows the smallest case and ends.
 fn mismatch<C: Case>(kind: &str, wanted: &Wanted, index: u64, case: C) -> ! {
@@ -96,19 +99,21 @@ fn patterns(wanted: &Wanted) -> Tally {
 }
 
 /// One line for each number: how often each kind of case met it.
-fn print_table(tallies: &[Tally; 4]) {
+fn print_table(tallies: &[Tally; 5]) {
     println!("number {}", KINDS.map(|kind| format!("{kind:>10}")).concat());
-    for number in (0..=15).chain([28, 29, 30, 31]) {
+    for number in (0..=15).chain([22, 23, 24, 28, 29, 30, 31]) {
         println!("{number:>6} {}", tallies.each_ref().map(|tally| format!("{:>10}", tally.numbers[number])).concat());
     }
 }
 
 /// Numbers that calls and lines can give and that never came.
-fn never_met(tallies: &[Tally; 4]) -> Vec<String> {
+fn never_met(tallies: &[Tally; 5]) -> Vec<String> {
     let calls = |number: usize| tallies[..3].iter().map(|tally| tally.numbers[number]).sum::<u64>();
     let by_calls = (0..=13).chain([28, 29, 30, 31]).filter(|&number| calls(number) == 0).map(|number| format!("{number} by a call"));
     let by_lines = [0, 1, 2, 3, 4, 5, 8, 9, 14, 15, 29].into_iter().filter(|&number| tallies[3].numbers[number] == 0);
-    by_calls.chain(by_lines.map(|number| format!("{number} by a line"))).collect()
+    let gathered = [0, 1, 2, 3, 4, 5, 6, 8, 9, 22, 23, 24].into_iter().filter(|&number| tallies[4].numbers[number] == 0);
+    let by_gathers = gathered.map(|number| format!("{number} by a gather"));
+    by_calls.chain(by_gathers).chain(by_lines.map(|number| format!("{number} by a line"))).collect()
 }
 
 /// Fewer cases need not meet every number.
@@ -125,6 +130,7 @@ fn main() {
         random_cases::<Services>("services", &wanted),
         random_cases::<History>("desks", &wanted),
         random_cases::<Session>("sessions", &wanted),
+        random_cases::<Gathering>("gathers", &wanted),
     ];
     let cases: Vec<String> = KINDS.iter().zip(&tallies).map(|(kind, tally)| format!("{kind} {}", tally.cases)).collect();
     println!("compared from seed {}, all alike: {}; how often each number was answered:", wanted.seed, cases.join(", "));

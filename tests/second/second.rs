@@ -457,6 +457,82 @@ pub fn excess(m: u64, w: u64, c: u64, marks: &[u8]) -> u64 {
     sum
 }
 
+// --------------------------------------------------------------- the gather
+
+/// A gather: shape, finished (0 or 1), and for each of 240 places the byte
+/// that came and 0, or any byte and 1 if none came.
+#[derive(Clone, Copy, Debug, PartialEq, Eq)]
+pub struct Gather {
+    pub m: u64,
+    pub w: u64,
+    pub c: u64,
+    pub finished: u64,
+    pub bytes: [u8; 240],
+    pub marks: [u8; 240],
+}
+
+/// Begin: 0, or 1 to 4; nothing came yet.
+pub fn begin(gather: &mut Gather, m: u64, w: u64, c: u64) -> u8 {
+    if let Err(number) = describe(m, w, c) {
+        return number;
+    }
+    *gather = Gather { m, w, c, finished: 0, bytes: [0; 240], marks: [1; 240] };
+    0
+}
+
+/// n, or 1 to 4, 6 for a bad record, 22 for a finished one.
+fn gathering(gather: &Gather) -> Result<u64, u8> {
+    let (n, _, _) = describe(gather.m, gather.w, gather.c)?;
+    let bad_mark = gather.marks[..n as usize].iter().any(|mark| ![0, 1].contains(mark));
+    match gather.finished {
+        _ if bad_mark => Err(6),
+        0 => Ok(n),
+        1 => Err(22),
+        _ => Err(6),
+    }
+}
+
+/// Take a stretch: 0, or 1 to 4, 6, 22, 23, 24. Each place is a number of
+/// any size.
+pub fn take(gather: &mut Gather, first: u64, bytes: &[u8]) -> u8 {
+    let n = match gathering(gather) {
+        Ok(n) => n,
+        Err(number) => return number,
+    };
+    let end = first as u128 + bytes.len() as u128;
+    if end > n as u128 {
+        return 23;
+    }
+    let pairs: Vec<(usize, u8)> = (first as usize..).zip(bytes.iter().copied()).collect();
+    if pairs.iter().any(|&(p, _)| gather.marks[p] == 0) {
+        return 24;
+    }
+    for (p, byte) in pairs {
+        gather.bytes[p] = byte;
+        gather.marks[p] = 0;
+    }
+    0
+}
+
+/// Finish: recover what came, with the rest lost; 0, or 1 to 4, 6, 22, 5,
+/// 8, 9. The last two finish the gather as 0 does, and write no word.
+pub fn finish(gather: &mut Gather, word: &mut [u8]) -> Mended {
+    let n = match gathering(gather) {
+        Ok(n) => n as usize,
+        Err(number) => return (number, 0),
+    };
+    if word.len() != n {
+        return (5, 0);
+    }
+    gather.finished = 1;
+    let (mut mended, mut marks) = (gather.bytes[..n].to_vec(), gather.marks[..n].to_vec());
+    let answer = recover(gather.m, gather.w, gather.c, &mut mended, &mut marks);
+    if answer.0 == 0 {
+        word.copy_from_slice(&mended);
+    }
+    answer
+}
+
 // ----------------------------------------------------------------- the desk
 
 pub const LAST_T: u64 = 65_535;

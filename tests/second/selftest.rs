@@ -732,6 +732,28 @@ fn profiles(t: &mut Tally, random: &mut Random) {
     }
 }
 
+/// A gather of the word of the paper: in stretches, with an 8 and with a 9.
+fn gathers(t: &mut Tally) {
+    let mut gather = Gather { m: 9, w: 9, c: 9, finished: 9, bytes: [9; 240], marks: [9; 240] };
+    let (old, mut word) = (gather, [7; 6]);
+    t.ok(begin(&mut gather, 1, 3, 1) == 4 && gather == old, "gather: begin refused");
+    t.ok(take(&mut gather, 0, &[]) == 2, "gather: a bad record");
+    t.ok(begin(&mut gather, 2, 3, 1) == 0 && gather.finished == 0, "gather: begin");
+    t.ok(take(&mut gather, 5, &[128]) == 0 && take(&mut gather, 6, &[]) == 0, "gather: the end, and none at n");
+    t.ok(take(&mut gather, 7, &[]) == 23 && take(&mut gather, u64::MAX, &[1]) == 23, "gather: beyond");
+    let copy = gather;
+    t.ok(finish(&mut gather, &mut word) == (8, 0) && gather.finished == 1 && word == [7; 6], "gather: an 8 finishes");
+    t.ok(finish(&mut gather, &mut word[..5]) == (22, 0) && take(&mut gather, 0, &[1]) == 22, "gather: finished");
+    gather = copy;
+    t.ok(take(&mut gather, 2, &[0, 78]) == 0 && take(&mut gather, 1, &[1, 0]) == 24, "gather: a place twice");
+    t.ok(finish(&mut gather, &mut word[..5]) == (5, 0) && gather.finished == 0, "gather: a 5 does not finish");
+    t.ok(take(&mut gather, 1, &[1]) == 0, "gather: one more");
+    t.ok(finish(&mut gather, &mut word) == (0, 0) && word == [1, 1, 0, 78, 206, 128], "gather: done");
+    begin(&mut gather, 2, 3, 1);
+    t.ok(take(&mut gather, 0, &[1, 1, 0, 78, 206, 129]) == 0, "gather: a wrong byte");
+    t.ok(finish(&mut gather, &mut word) == (9, 1) && gather.finished == 1, "gather: a 9 finishes");
+}
+
 // -------------------------------------------------------------------- edits
 
 /// Every shape: one edit leaves all but the places that may differ, two go in either order, and refusals come in their order.
@@ -791,6 +813,7 @@ fn main() -> ExitCode {
     named_groups(t, random);
     repairs_then_recovery(t, random);
     profiles(t, random);
+    gathers(t);
     edits(t, random);
     desk_handles(t);
     desk_serves(t);

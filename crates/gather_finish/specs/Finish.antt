@@ -1,0 +1,56 @@
+-- What Finish answers, and what the word and the record hold then.
+use mathlib.Core.Path.{_≡_}
+use mathlib.Core.Bool.{not}
+use mathlib.Core.List.{List}
+use Prim.Native.Nat.{ℕ, zero, suc}
+use lib.Dec.{eqb}
+use lib.ListN.{length}
+use Rattle.shape.specs.declared.Mending.{Mending}
+use Rattle.shape.specs.Answers.{mendingAt, mendingNumber, mendingGroup}
+use Rattle.shape.specs.Refusals.{refuse, _orElse_, unlessRefused}
+use Rattle.code.specs.Answer.{Outcome}
+use Rattle.recover.specs.Service.{recoverOf}
+use Rattle.gather_record.specs.declared.Gather.{Gather}
+use Rattle.gather_record.specs.Record.{placesOf, bytesOf, marksOf, gatherRefusal}
+
+-- 1 to 4, 6, 22; "at the finish 5 after 22"
+unfoldable pub finishRefusal : ℕ → Gather → ℕ
+finishRefusal size g = gatherRefusal g orElse refuse 5 (not (eqb size (placesOf g)))
+
+-- "places that never came are lost, and the answer is as recover gives"
+abbrev pub recoveryOf : Gather → Outcome
+recoveryOf g = recoverOf (g .m) (g .w) (g .c) (bytesOf g) (marksOf g)
+
+-- the finished mark is set, and nothing else changes
+abbrev pub closed : Gather → Gather
+closed g = record { m = g .m; w = g .w; c = g .c; finished = 1; bytes = g .bytes; marks = g .marks }
+
+-- A number given back, 0 for done, the group that a 9 carries, and the word and the record then.
+pub record Finishing : Type 0 where
+  pub number : ℕ
+  pub group : ℕ
+  pub word : List ℕ
+  pub gather : Gather
+
+-- by the refusals before 8 and 9, after which all is as it was. "A finish that meets 8 or 9 still finishes the gather, the one exception to
+-- 01's rule on refusals and to demand 1's (the gather's own record alone changes), and writes no word."
+abbrev pub finishBy : ℕ → List ℕ → Gather → Finishing
+finishBy zero word g = record {
+  number = (recoveryOf g) .number;
+  group = (recoveryOf g) .group;
+  word = unlessRefused ((recoveryOf g) .number) ((recoveryOf g) .word) word;
+  gather = closed g;
+}
+finishBy (suc r) word g = record { number = suc r; group = 0; word = word; gather = g }
+
+-- the whole call
+unfoldable pub finishOf : List ℕ → Gather → Finishing
+finishOf word g = finishBy (finishRefusal (length word) g) word g
+
+-- what Finish leaves and answers
+pub record FinishGives (o : Finishing) (word : List ℕ) (gather : Gather) (answer : Mending) : Type 0 where
+  pub word-is : word ≡ o .word
+  pub gather-is : gather ≡ o .gather
+  pub answer-is : answer ≡ mendingAt (o .number) (o .group)
+  pub number-is : mendingNumber answer ≡ o .number
+  pub group-is : mendingGroup answer ≡ o .group

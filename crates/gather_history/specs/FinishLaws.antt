@@ -1,0 +1,171 @@
+-- Laws: a finish after stretches none of which is refused answers as Recover does, and bytes in places that never came play no part.
+use mathlib.Core.Path.{_≡_, refl, sym, ap, ap₂, _∙_, subst}
+use mathlib.Core.Bool.{false}
+use mathlib.Core.Logic.{inl, inr}
+use mathlib.Core.List.{List}
+use Prim.Native.Nat.{ℕ, zero, suc, _*_, _<_, _≤_}
+use native.Mathlib.Omega.{arith}
+use lib.Dec.{T, eqb}
+use lib.ListN.{length, take, getD, getD-replicate}
+use lib.Seq.{ext-getD, getD-take, length-take-le}
+use Rattle.shape.specs.Refusals.{unlessRefused}
+use Rattle.shape.specs.RefusalsLaws.{unless-refused}
+use Rattle.shape.specs.Shapes.{Good}
+use Rattle.shape.specs.Laws.{places-most}
+use Rattle.byte_edition.specs.Edition.{bytes}
+use Rattle.code.specs.Marks.{lost, Agree}
+use Rattle.code.specs.Answer.{Outcome, SameEnd}
+use Rattle.recover.specs.Service.{recoverOf}
+use Rattle.recover.specs.DemandTwoLaws.{lost-bytes}
+use Rattle.gather_record.specs.declared.Gather.{Gather}
+use Rattle.gather_record.specs.Record.{Whole, placesOf, bytesOf, marksOf, gatherRefusal, begun}
+use Rattle.gather_record.specs.RecordLaws.{Open, open-unrefused, marks-open, begun-whole, bytes-size, marks-size}
+use Rattle.gather_finish.specs.Finish.{finishRefusal, recoveryOf, closed, finishBy, finishOf}
+use Rattle.gather_finish.specs.FinishLaws.{finish-fit, finish-parts}
+use Rattle.gather_history.specs.History.{Stretch, after, Unrefused, Brings}
+use Rattle.gather_history.specs.Order.{Gathered, Holds, FinishesAs, FinishHolds, Alike, IdleHolds}
+use Rattle.gather_history.specs.OrderLaws.{brought-or, brought-inside, gathered}
+
+-- two recoveries that end alike give the same word to a lent one
+same-word : (a b : Outcome) (lent : List ℕ) → SameEnd a b → unlessRefused (a .number) (a .word) lent ≡ unlessRefused (b .number) (b .word) lent
+same-word a b lent S = go (a .number) refl
+  where
+    go : (r : ℕ) → a .number ≡ r → unlessRefused (a .number) (a .word) lent ≡ unlessRefused (b .number) (b .word) lent
+    go zero e = ap₂ (λ n x. unlessRefused n x lent) (S .number) (S .word e)
+    go (suc r) e =
+        let some : a .number ≡ 0 → ⊥ = λ z. omega arith in
+        unless-refused _ _ _ some ∙ sym (unless-refused _ _ _ (λ z. some (S .number ∙ z)))
+
+recovery-of : (g : Gather) (m w c : ℕ) → g .m ≡ m → g .w ≡ w → g .c ≡ c → recoveryOf g ≡ recoverOf m w c (take (m * w) (g .bytes)) (take (m * w) (g .marks))
+recovery-of g m w c em ew ec = cc
+
+module _ (m w c : ℕ) (good : Good m w c) (ss : List Stretch) (u : Unrefused ss (begun m w c)) where
+  G : Gathered ss (begun m w c) (after ss (begun m w c))
+  G = gathered ss (begun m w c) (begun-whole m w c) u
+
+  -- a place that never came is still marked as lost
+  never-marked : (p : ℕ) → p < 240 → ((x : ℕ) → Brings p x ss → ⊥) → getD (after ss (begun m w c) .marks) p 0 ≡ 1
+  unfolding begun
+  never-marked p l n = G .other p n .1 ∙ getD-replicate 240 p 1 0 l
+
+  m-is : after ss (begun m w c) .m ≡ m
+  unfolding begun
+  m-is = G .m-same
+
+  w-is : after ss (begun m w c) .w ≡ w
+  unfolding begun
+  w-is = G .w-same
+
+  c-is : after ss (begun m w c) .c ≡ c
+  unfolding begun
+  c-is = G .c-same
+
+  now-open : Open (after ss (begun m w c))
+  unfolding begun
+  now-open =
+      let g : Good (after ss (begun m w c) .m) (after ss (begun m w c) .w) (after ss (begun m w c) .c) = rw (m-is, w-is, c-is) good in
+      record {
+        good = g;
+        marked = marks-open (after ss (begun m w c)) (G .whole) g (λ p l. let k = places-most g in few p (omega arith));
+        unfinished = G .finished-same;
+      }
+    where
+      few : (p : ℕ) → p < 240 → getD (after ss (begun m w c) .marks) p 0 < 2
+      few p l = elim (brought-or p ss) [
+        | inl b ↦ omega (arith, G .came p (b .0) (b .1) .1)
+        | inr n ↦ omega (arith, never-marked p l n)
+      ]
+
+  long : m * w ≤ 240
+  long = places-most good
+
+  -- the record's own word and marks hold what came
+  pub holds-itself : Holds (m * w) ss (take (m * w) (after ss (begun m w c) .bytes)) (take (m * w) (after ss (begun m w c) .marks))
+  unfolding begun
+  holds-itself = record {
+    word-size = length-take-le (m * w) _ (omega (arith, long, G .whole .bytes-long));
+    marks-size = length-take-le (m * w) _ (omega (arith, long, G .whole .marks-long));
+    came = λ p x b.
+        let l : p < m * w = brought-inside ss (begun m w c) (begun-whole m w c) u p x b in
+        let q = G .came p x b in
+        (getD-take (m * w) _ p 0 l ∙ q .0, getD-take (m * w) _ p 0 l ∙ q .1);
+    never = λ p l n. getD-take (m * w) _ p 0 l ∙ never-marked p (omega (arith, long)) n;
+  }
+
+  module _ (word marks : List ℕ) (H : Holds (m * w) ss word marks) where
+    marks-are : take (m * w) (after ss (begun m w c) .marks) ≡ marks
+    marks-are =
+        let I = holds-itself in
+        ext-getD 0 _ marks (I .marks-size ∙ sym (H .marks-size)) (λ p l. elim (brought-or p ss) [
+          | inl b ↦ I .came p (b .0) (b .1) .1 ∙ sym (H .came p (b .0) (b .1) .1)
+          | inr n ↦ (let k : p < m * w = omega (arith, I .marks-size) in I .never p k n ∙ sym (H .never p k n))
+        ])
+
+    words-agree : Agree (length (take (m * w) (after ss (begun m w c) .bytes))) marks (take (m * w) (after ss (begun m w c) .bytes)) word
+    words-agree p l e = elim (brought-or p ss) [
+      | inl b ↦ holds-itself .came p (b .0) (b .1) .0 ∙ sym (H .came p (b .0) (b .1) .0)
+      | inr n ↦ (
+          let k : getD marks p 0 ≡ 1 = H .never p (omega (arith, holds-itself .word-size)) n in
+          let z : eqb 1 1 ≡ false = ap (λ b. eqb b 1) (sym k) ∙ e in
+          absurd (subst T z tt)
+          )
+    ]
+
+    same-end : SameEnd (recoveryOf (after ss (begun m w c))) (recoverOf m w c word marks)
+    same-end =
+        subst (λ o. SameEnd o (recoverOf m w c word marks))
+        (sym (recovery-of (after ss (begun m w c)) m w c m-is w-is c-is ∙ ap (recoverOf m w c (take (m * w) (after ss (begun m w c) .bytes))) marks-are))
+        (lost-bytes bytes m w c (take (m * w) (after ss (begun m w c) .bytes)) word marks (holds-itself .word-size ∙ sym (H .word-size)) words-agree)
+
+-- the finish of an open record
+by-recovery : (g : Gather) (lent : List ℕ) (r : Outcome) → finishRefusal (length lent) g ≡ 0 → SameEnd (recoveryOf g) r → FinishesAs (finishOf lent g) lent r
+unfolding finishOf
+by-recovery g lent r e S = subst (λ n. FinishesAs (finishBy n lent g) lent r) (sym e) (record {
+  number = S .number;
+  group = S .group;
+  word = λ z. ap (λ n. unlessRefused n ((recoveryOf g) .word) lent) z ∙ S .word z;
+  kept = λ n. unless-refused _ _ _ n;
+  closed = refl;
+})
+
+-- the finish answers as Recover does
+pub finish-recovers : FinishHolds
+finish-recovers m w c good ss u word marks H lent size =
+    by-recovery (after ss (begun m w c)) lent (recoverOf m w c word marks)
+    (finish-fit (length lent) (after ss (begun m w c)) (open-unrefused (after ss (begun m w c)) (now-open m w c good ss u))
+    (size ∙ sym (ap₂ (λ a b. a * b) (m-is m w c good ss u) (w-is m w c good ss u))))
+    (same-end m w c good ss u word marks H)
+
+-- ---- bytes in places that never came
+
+module _ (g : Gather) (others : List ℕ) (W : Whole g) (size : length others ≡ 240)
+    (agree : (p : ℕ) → p < placesOf g → lost (g .marks) p ≡ false → getD (g .bytes) p 0 ≡ getD others p 0) where
+  abbrev other : Gather
+  other = record { m = g .m; w = g .w; c = g .c; finished = g .finished; bytes = others; marks = g .marks }
+
+  recoveries : Good (g .m) (g .w) (g .c) → SameEnd (recoveryOf g) (recoveryOf other)
+  recoveries good =
+      let k = places-most good in
+      lost-bytes bytes (g .m) (g .w) (g .c) (bytesOf g) (take (placesOf g) others) (marksOf g)
+      (bytes-size g good W ∙ sym (length-take-le (placesOf g) others (omega (arith, size)))) same
+    where
+      same : Agree (length (bytesOf g)) (marksOf g) (bytesOf g) (take (placesOf g) others)
+      same p l e =
+          let h : p < placesOf g = omega (arith, bytes-size g good W) in
+          getD-take (placesOf g) (g .bytes) p 0 h
+          ∙ agree p h (ap (λ b. eqb b 1) (sym (getD-take (placesOf g) (g .marks) p 0 h)) ∙ e)
+          ∙ sym (getD-take (placesOf g) others p 0 h)
+
+  alike-by : (word : List ℕ) (r : ℕ) → finishRefusal (length word) g ≡ r → Alike (finishBy r word g) (finishBy r word other)
+  alike-by word zero e =
+      let S = recoveries (finish-parts (length word) g e .opened .good) in
+      record { number = S .number; group = S .group; word = same-word (recoveryOf g) (recoveryOf other) word S; closed = refl }
+  alike-by word (suc r) e = record { number = refl; group = refl; word = refl; closed = refl }
+
+  alike : (word : List ℕ) → Alike (finishOf word g) (finishOf word other)
+  unfolding finishOf finishRefusal gatherRefusal
+  alike word = alike-by word (finishRefusal (length word) g) refl
+
+-- bytes in places that never came have no effect
+pub idle-bytes : IdleHolds
+idle-bytes = alike
