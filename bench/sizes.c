@@ -35,6 +35,8 @@ static void fresh(void) { axlebloom_fresh(&held_desk); }
 static void open_job(void) { answer = axlebloom_open(&held_desk, M, W, c, held_marks, N, &given); }
 static void serve(void) { answer = axlebloom_serve(&held_desk, handle, held, N).number; }
 static void read_served(void) { answer = axlebloom_read(&held_desk, handle, &served); }
+static void lose(void) { answer = axlebloom_lose(&held_desk, handle, N - 1); }
+static void find(void) { answer = axlebloom_find(&held_desk, handle, 0); }
 static void close_job(void) { answer = axlebloom_close(&held_desk, handle); }
 static void gather_begin(void) { answer = axlebloom_gather_begin(&gather, M, W, c); }
 static void gather_take(void) { answer = axlebloom_gather_take(&gather, 0, held, 0); }
@@ -91,7 +93,7 @@ int main(void) {
   static const struct { const char *name; void (*call)(void); } calls[] = {
       {"describe", describe}, {"places", places}, {"data", data_bytes}, {"sure", sure}, {"encode", encode}, {"extract", extract},
       {"check", check}, {"judge", judge}, {"profile", profile}, {"edit", edit}, {"repair", repair}, {"recover", recover}, {"fresh", fresh}, {"open", open_job},
-      {"serve", serve}, {"read", read_served}, {"close", close_job},
+      {"serve", serve}, {"read", read_served}, {"close", close_job}, {"lose", lose}, {"find", find},
       {"gather_begin", gather_begin}, {"gather_take", gather_take}, {"gather_finish", gather_finish}};
   for (int i = 0; i < N; i++) data[i] = (uint8_t)(i * 11 + 3);
   printf("\n| function      | stack |\n|---------------|-------|\n");

@@ -21,8 +21,8 @@
 extern "C" {
 #endif
 
-/* Refusals: the lowest number that applies is given. Only with a desk 31 comes before all others, and with a handle 12, 5, 13, 9 follow; and
- * 29 comes straight after 4, 30 after 5 and before 9, and at a gather's finish 5 comes after 22. */
+/* Refusals: the lowest number that applies is given. Only with a desk 31 comes before all others, and with a handle 12, 5, 13, 9 follow, or
+ * 12, 25, 8; 29 comes straight after 4, 30 after 5 and before 9, and at a gather's finish 5 comes after 22. */
 enum {
   AXLEBLOOM_DONE = 0,
   AXLEBLOOM_GROUPS = 1,        /* m is not 1 to 15 */
@@ -33,7 +33,8 @@ enum {
   AXLEBLOOM_MARK = 6,          /* a mark is neither 0 nor 1 */
   AXLEBLOOM_GROUP_NUMBER = 7,  /* no such group */
   AXLEBLOOM_UNDETERMINED = 8,  /* too much is lost. From repair: this group alone can't mend it; try recover before you fetch a disk.
-                                  From judge, recover and open: what is present doesn't settle the word; find another disk */
+                                  From judge, recover and open: what is present doesn't settle the word; find another disk.
+                                  From lose: the job still counts that place as present; read what stands at axlebloom_lose */
   AXLEBLOOM_CONTRADICTORY = 9, /* the present bytes fit no codeword: at least one of them is wrong, or the marks or the shape are; nothing
                                   was written. struct axlebloom_answer says which group */
   AXLEBLOOM_ALL_ISSUED = 10,   /* this desk has issued all its 65535 handles. Its open jobs can still be served; axlebloom_fresh drops them */
@@ -44,6 +45,7 @@ enum {
   AXLEBLOOM_FINISHED = 22,     /* this gather is finished, also by an 8 or a 9; begin another, or lend a copy from before the finish */
   AXLEBLOOM_BEYOND = 23,       /* the stretch ends beyond the n places of the word */
   AXLEBLOOM_CAME_BEFORE = 24,  /* a place of the stretch came before; bring only what is new */
+  AXLEBLOOM_PLACE = 25,        /* from lose and find: the place is n or more; places are counted from 0 over the whole word */
   AXLEBLOOM_NO_PROFILE = 28,   /* from profile: the losses are outside what the manual promises. The word need not be lost: ask judge or recover
                                   before you fetch a disk */
   AXLEBLOOM_RETIRED = 29,      /* four local checks are out of sale: axlebloom_encode and axlebloom_edit refuse c = 4. Old words with it are
@@ -118,17 +120,22 @@ struct axlebloom_answer axlebloom_repair(size_t m, size_t w, size_t c, size_t g,
 /* Mends the whole word, and clears all marks. Refused by 1 to 6, 8 and 9. */
 struct axlebloom_answer axlebloom_recover(size_t m, size_t w, size_t c, uint8_t *word, size_t n, uint8_t *marks, size_t marks_n);
 
-/* The desk: up to eight open recovery jobs, each for words that lose the same places. The caller holds the record and lends it to every
- * call. It may be copied, and saved as bytes for machines of the same byte order; a copy that is lent again counts as the desk it was then. Only the functions below should
- * write to it. All but axlebloom_fresh first test it, and refuse it by 31 if it is not sound. Sound means: t is at most 65535, each slot's
- * byte taken is 0 or 1, and each taken slot s holds a good shape, n marks of 0 or 1 for which axlebloom_judge answers 0, and a handle 8u+s
- * with u from 1 to t, no u twice. The functions leave every sound desk sound. */
+/* The desk: up to eight open recovery jobs, each for words that have lost the same places when they are served. The caller holds the record
+ * and lends it to every call. It may be copied, and saved as bytes for machines of the same byte order; a copy that is lent again counts as
+ * the desk it was then. Only the functions below should write to it. All but axlebloom_fresh first test it, and refuse it by 31 if it is not
+ * sound. Sound means: t is at most 65535, each slot's byte taken is 0 or 1, and each taken slot s holds a good shape, n marks of 0 or 1 for
+ * which axlebloom_judge answers 0, lost counts and an excess that are those of its marks, counts past group m-1 being 0, and a handle 8u+s
+ * with u from 1 to t, no u twice. The functions leave every sound desk sound. A saved record of another length, as of a library from before
+ * jobs kept lost counts, must not be lent or padded: it would not always be refused. Compare its length with sizeof(struct axlebloom_desk)
+ * first. */
 struct axlebloom_job {
   uint8_t taken;      /* 1, or 0 for a free slot */
   uint8_t m, w, c;    /* the shape */
   uint32_t served;    /* words served since the job was opened */
   uint64_t handle;    /* 8u+s in slot s, if this was the u-th job opened since the last fresh */
   uint8_t marks[240]; /* the n marks; axlebloom_open writes 0 past them */
+  uint8_t lost[15];   /* how many places of each group are lost; 0 past the last group */
+  uint8_t excess;     /* the lost places above c in each group, summed over the groups; at most 2 */
 };
 
 struct axlebloom_desk {
@@ -149,7 +156,7 @@ AXLEBLOOM_HOLDS(sizeof(struct axlebloom_profile_answer) == 6);
 AXLEBLOOM_HOLDS(offsetof(struct axlebloom_profile_answer, number) == 0);
 AXLEBLOOM_HOLDS(offsetof(struct axlebloom_profile_answer, count) == 1);
 AXLEBLOOM_HOLDS(offsetof(struct axlebloom_profile_answer, place) == 2);
-AXLEBLOOM_HOLDS(sizeof(struct axlebloom_job) == 256);
+AXLEBLOOM_HOLDS(sizeof(struct axlebloom_job) == 272);
 AXLEBLOOM_HOLDS(offsetof(struct axlebloom_job, taken) == 0);
 AXLEBLOOM_HOLDS(offsetof(struct axlebloom_job, m) == 1);
 AXLEBLOOM_HOLDS(offsetof(struct axlebloom_job, w) == 2);
@@ -157,7 +164,9 @@ AXLEBLOOM_HOLDS(offsetof(struct axlebloom_job, c) == 3);
 AXLEBLOOM_HOLDS(offsetof(struct axlebloom_job, served) == 4);
 AXLEBLOOM_HOLDS(offsetof(struct axlebloom_job, handle) == 8);
 AXLEBLOOM_HOLDS(offsetof(struct axlebloom_job, marks) == 16);
-AXLEBLOOM_HOLDS(sizeof(struct axlebloom_desk) == 2056);
+AXLEBLOOM_HOLDS(offsetof(struct axlebloom_job, lost) == 256);
+AXLEBLOOM_HOLDS(offsetof(struct axlebloom_job, excess) == 271);
+AXLEBLOOM_HOLDS(sizeof(struct axlebloom_desk) == 2184);
 AXLEBLOOM_HOLDS(offsetof(struct axlebloom_desk, t) == 0);
 AXLEBLOOM_HOLDS(offsetof(struct axlebloom_desk, jobs) == 8);
 #undef AXLEBLOOM_HOLDS
@@ -171,12 +180,26 @@ void axlebloom_fresh(struct axlebloom_desk *desk);
  * 8, 10, 11 and 31; desk and handle are then unchanged. */
 uint8_t axlebloom_open(struct axlebloom_desk *desk, size_t m, size_t w, size_t c, const uint8_t *marks, size_t n, uint64_t *handle);
 
-/* Mends a word by the job's marks, which stay, and adds one to its served count. Refused by 5, 9, 12, 13 and 31; desk and word are then
- * unchanged. */
+/* Mends a word by the job's marks as they are then, which stay, and adds one to its served count. The same word may get another number after
+ * a lose or find. Refused by 5, 9, 12, 13 and 31; desk and word are then unchanged. */
 struct axlebloom_answer axlebloom_serve(struct axlebloom_desk *desk, uint64_t handle, uint8_t *word, size_t n);
 
 /* Writes the job's served count. Refused by 12 and 31; served is then unchanged. */
 uint8_t axlebloom_read(const struct axlebloom_desk *desk, uint64_t handle, uint32_t *served);
+
+/* A disk dies, or comes back, while a job is open. Lose marks the place as lost, find as present; the job's lost counts and excess follow, and
+ * nothing else on the desk changes. A place that is lost already, or present already, is done and changes nothing.
+ *
+ * A lose is refused by 8 if the losses would then not settle a word. THE JOB STILL COUNTS THAT PLACE AS PRESENT: a serve takes whatever byte
+ * stands there for a good one, and where no check is left over it answers 0 with a word that looks right and is wrong. After an 8 serve nothing
+ * with this job before another place was found and the lose was answered 0; or close the job.
+ *
+ * Find a place only if its bytes are of the same state as those of the other present places: a disk that missed writes while it was away is not
+ * found, it is lost. A find can't be refused by 8.
+ *
+ * Refused by 12, 25 and 31, lose by 8 too; the desk is then unchanged. */
+uint8_t axlebloom_lose(struct axlebloom_desk *desk, uint64_t handle, size_t place);
+uint8_t axlebloom_find(struct axlebloom_desk *desk, uint64_t handle, size_t place);
 
 /* Closes the job: its slot is free at once, and all its bytes are 0. Refused by 12 and 31; the desk is then unchanged. */
 uint8_t axlebloom_close(struct axlebloom_desk *desk, uint64_t handle);

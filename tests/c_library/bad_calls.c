@@ -41,7 +41,7 @@ static void expect_group(const char *what, int group, int place, int other, int 
 
 /* ---- desks */
 
-enum { OPEN, SERVE, READ, CLOSE, CALLS };
+enum { OPEN, SERVE, READ, CLOSE, LOSE, FIND, CALLS };
 
 /* all that is lent to a call on a desk, and the same with a sound one */
 static struct lent {
@@ -68,6 +68,7 @@ static void wrong(const char *what, int call, int number) {
 /* the group that the last call gave, 0 if it gives none */
 static uint8_t group;
 
+/* n is the place of a lose or find */
 static uint8_t make(int call, size_t m, size_t w, size_t c, uint64_t handle, size_t n) {
   struct axlebloom_answer served;
   group = 0;
@@ -78,13 +79,15 @@ static uint8_t make(int call, size_t m, size_t w, size_t c, uint64_t handle, siz
     group = served.group;
     return served.number;
   case READ: return axlebloom_read(&lent.desk, handle, &lent.served);
-  default: return axlebloom_close(&lent.desk, handle);
+  case CLOSE: return axlebloom_close(&lent.desk, handle);
+  case LOSE: return axlebloom_lose(&lent.desk, handle, n);
+  default: return axlebloom_find(&lent.desk, handle, n);
   }
 }
 
 /* The answer of a call: a number that the header lists for it, and if that is not 0, no byte that was lent has changed. */
 static uint8_t answer(const char *what, int call, size_t m, size_t w, size_t c, uint64_t handle, size_t n) {
-  static const uint8_t listed[CALLS][11] = {{0, 1, 2, 3, 4, 5, 6, 8, 10, 11, 31}, {0, 5, 9, 12, 13, 31}, {0, 12, 31}, {0, 12, 31}};
+  static const uint8_t listed[CALLS][11] = {{0, 1, 2, 3, 4, 5, 6, 8, 10, 11, 31}, {0, 5, 9, 12, 13, 31}, {0, 12, 31}, {0, 12, 31}, {0, 8, 12, 25, 31}, {0, 12, 25, 31}};
   struct lent before;
   memcpy(&before, &lent, sizeof lent);
   uint8_t number = make(call, m, w, c, handle, n);
@@ -102,6 +105,18 @@ static void expect_of_desk(const char *what, int expected, int call, uint64_t ha
   if (number != expected) wrong(what, call, number);
 }
 
+/* the figures of a job worked from its marks, group after group; 0 if it has other ones */
+static int has_figures(const struct axlebloom_job *job) {
+  unsigned excess = 0;
+  for (unsigned g = 0; g < 15; g++) {
+    unsigned count = 0;
+    for (unsigned j = 0; g < job->m && j < job->w; j++) count += job->marks[g * job->w + j];
+    if (job->lost[g] != count) return 0;
+    excess += count > job->c ? count - job->c : 0;
+  }
+  return job->excess == excess;
+}
+
 /* what the requirements call a sound desk, by the library's own judgement of marks */
 static int is_sound(const struct axlebloom_desk *desk) {
   uint64_t issued[8] = {0};
@@ -110,7 +125,7 @@ static int is_sound(const struct axlebloom_desk *desk) {
     if (job->taken == 0) continue;
     size_t n = (size_t)job->m * job->w;
     issued[s] = job->handle / 8;
-    if (job->taken != 1 || n > 240 || axlebloom_judge(job->m, job->w, job->c, job->marks, n)) return 0;
+    if (job->taken != 1 || n > 240 || axlebloom_judge(job->m, job->w, job->c, job->marks, n) || !has_figures(job)) return 0;
     if (job->handle % 8 != s || issued[s] < 1 || issued[s] > desk->t) return 0;
     for (unsigned r = 0; r < s; r++) if (issued[r] == issued[s]) return 0;
   }
@@ -142,6 +157,12 @@ static void lend_likely(void) {
     job->c = 1 + next() % 4;
     job->handle = 8 * (1 + next() % (rarely() ? 70000 : 65530)) + (rarely() ? next() % 8 : s);
     for (int i = 0; i < 240; i++) job->marks[i] = rarely();
+    memset(job->lost, 0, sizeof job->lost), job->excess = 0;
+    for (int i = 0; i < job->m * job->w && i < 240; i++) {
+      if (job->marks[i] && i / job->w < 15 && ++job->lost[i / job->w] > job->c) job->excess++;
+    }
+    if (rarely()) job->lost[next() % 15] ^= 1;
+    if (rarely()) job->excess ^= 1;
   }
   memset(lent.marks, 0, sizeof lent.marks);
 }
@@ -155,7 +176,7 @@ static void all_calls(const char *what) {
     const struct axlebloom_job *job = &lent.desk.jobs[next() % 8];
     int good = next() % 2;
     size_t m = good ? 15 : next() % 17, w = good ? 16 : next() % 18, c = good ? 4 : next() % 6;
-    size_t n = call == SERVE && good ? (size_t)job->m * job->w % 241 : good ? 240 : next() % 241;
+    size_t n = call == SERVE && good ? (size_t)job->m * job->w % 241 : good && call < LOSE ? 240 : next() % 241;
     uint8_t number = answer(what, call, m, w, c, good ? job->handle : next() % 64, n);
     if ((number == 31) != expected) wrong(expected ? "a desk that is not sound" : "a sound desk", call, number);
     memcpy(&lent, &before, sizeof lent);
@@ -196,6 +217,11 @@ static void broken_desks(void) {
   BROKEN(desk->jobs[5].marks[0] = 2);
   BROKEN(desk->jobs[5].marks[239] = 255);
   BROKEN(memset(desk->jobs[0].marks, 1, 7));
+  BROKEN(desk->jobs[0].marks[1] = 1);
+  BROKEN(desk->jobs[5].lost[0] = 5);
+  BROKEN(desk->jobs[0].lost[14] = 1);
+  BROKEN(desk->jobs[5].excess = 1);
+  BROKEN(desk->jobs[0].excess = 255);
   BROKEN(desk->jobs[0].handle = desk->jobs[1].handle);
   BROKEN(desk->jobs[0].handle = 8 + 1);
   BROKEN(desk->jobs[0].handle = 0);
@@ -205,6 +231,36 @@ static void broken_desks(void) {
   BROKEN(desk->t = 5);
   BROKEN(desk->t = 65536);
   BROKEN(desk->t = (uint64_t)-1);
+}
+
+static void expect_of_place(const char *what, int expected, int call, size_t place) {
+  uint8_t number = answer(what, call, 0, 0, 0, 8, place);
+  if (number != expected) wrong(what, call, number);
+}
+
+/* places of job 8, of which one is lost, in a group with four checks */
+static void places(void) {
+  struct axlebloom_desk before;
+  lend_sound();
+  expect_of_place("place n", 25, LOSE, 240);
+  expect_of_place("place n", 25, FIND, 240);
+  expect_of_place("the largest place", 25, LOSE, SIZE_MAX);
+  expect_of_place("a place that is lost already", 0, LOSE, 0);
+  expect_of_place("a place that is present already", 0, FIND, 239);
+  if (memcmp(&lent, &sound, sizeof lent)) wrong("something has changed", LOSE, 0);
+  for (size_t p = 1; p < 6; p++) expect_of_place("losses up to excess 2", 0, LOSE, p);
+  if (lent.desk.jobs[0].lost[0] != 6 || lent.desk.jobs[0].excess != 2) wrong("figures", LOSE, lent.desk.jobs[0].excess);
+  memcpy(&before, &lent.desk, sizeof before);
+  expect_of_place("a seventh place of the group", 8, LOSE, 15);
+  expect_of_place("a lost place at excess 2", 0, LOSE, 5);
+  expect_of_place("a present place at excess 2", 0, FIND, 15);
+  if (memcmp(&lent.desk, &before, sizeof before)) wrong("something has changed", LOSE, 0);
+  expect_of_place("the last place", 0, LOSE, 239);
+  expect_of_place("a place found", 0, FIND, 3);
+  expect_of_place("then another lost", 0, LOSE, 15);
+  if (memcmp(&lent.desk.jobs[1], &before.jobs[1], 7 * sizeof before.jobs[1])) wrong("another job has changed", LOSE, 0);
+  before.jobs[0].marks[239] = before.jobs[0].marks[15] = 1, before.jobs[0].marks[3] = 0, before.jobs[0].lost[14] = 1;
+  if (memcmp(&lent.desk, &before, sizeof before)) wrong("another byte has changed", LOSE, 0);
 }
 
 static void sound_desks(void) {
@@ -281,6 +337,7 @@ int main(void) {
   random_desks();
   broken_desks();
   sound_desks();
+  places();
   printf("bad calls: %d made, %d failures\n", calls, failures);
   return failures != 0;
 }

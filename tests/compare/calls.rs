@@ -1,7 +1,7 @@
 //! Random histories: which calls, with what, in what order.
 
-use crate::desks::{Call, Change, Handle, History, Word};
-use crate::library::Shape;
+use crate::desks::{Call, Change, Handle, History, Place, Word};
+use crate::library::{Shape, DESK_SIZE};
 use crate::random::{bad_shape, good_shape, marks, Random};
 
 /// A slot, the low ones more often.
@@ -19,6 +19,15 @@ fn handle(r: &mut Random) -> Handle {
         3 => Handle::InSlot(slot(r), r.pick(&[1, 8, 16, 256, 1 << 32, u64::MAX, u64::MAX - 7])),
         4 | 5 => Handle::Given(r.below(12)),
         _ => Handle::InSlot(slot(r), 0),
+    }
+}
+
+/// A place: mostly one below n.
+fn place(r: &mut Random) -> Place {
+    match r.below(32) {
+        0 => Place::Number(r.pick(&[240, 255, 256, 1 << 32, usize::MAX, usize::MAX - 7])),
+        1 => Place::Number(r.below(241)),
+        _ => Place::About(r.below(1 << 20)),
     }
 }
 
@@ -56,7 +65,7 @@ fn open(r: &mut Random, shapes: &[Shape]) -> Call {
 /// A change that mostly leaves no sound desk.
 fn change(r: &mut Random) -> Change {
     let s = slot(r);
-    match r.below(14) {
+    match r.below(17) {
         0 => Change::T(r.pick(&[0, 1, 65_534, 65_535, 65_536, 1 << 32, u64::MAX])),
         1 => Change::Taken(s, r.pick(&[0, 1, 2, 3, 128, 255])),
         2 => {
@@ -72,17 +81,21 @@ fn change(r: &mut Random) -> Change {
         10 => Change::Lost(s, r.below(12)),
         11 => Change::Junk(s, r.number()),
         12 => Change::Junk(7, r.number()),
-        _ => Change::Byte(r.below(2056), r.byte()),
+        13 | 14 => Change::Count(s, r.below(15), r.pick(&[0, 1, 2, 3, 4, 255])),
+        15 => Change::Excess(s, r.pick(&[0, 1, 2, 3, 255])),
+        _ => Change::Byte(r.below(DESK_SIZE), r.byte()),
     }
 }
 
 /// One call of the library.
 fn call(r: &mut Random, shapes: &[Shape]) -> Call {
-    match r.below(9) {
+    match r.below(13) {
         0..=2 => open(r, shapes),
         3..=5 => Call::Serve(handle(r), word(r)),
         6 | 7 => Call::Read(handle(r)),
-        _ => Call::Close(handle(r)),
+        8 => Call::Close(handle(r)),
+        9 | 10 => Call::Lose(handle(r), place(r)),
+        _ => Call::Find(handle(r), place(r)),
     }
 }
 
@@ -96,6 +109,9 @@ fn spoilt(r: &mut Random, shapes: &[Shape]) -> Vec<Call> {
     let mut calls = vec![Call::Save];
     for _ in 0..r.pick(&[1, 1, 1, 2, 3]) {
         calls.push(Call::Change(change(r)));
+    }
+    if r.one_in(2) {
+        calls.extend((0..8).map(|s| Call::Change(Change::Worked(s))));
     }
     let count = 1 + r.below(4);
     calls.extend(some(r, shapes, count));
@@ -127,6 +143,21 @@ fn last_serves(r: &mut Random) -> Vec<Call> {
     calls
 }
 
+/// One job loses and finds places, and serves between.
+fn losses(r: &mut Random) -> Vec<Call> {
+    let handle = Handle::InSlot(slot(r), 0);
+    let mut calls = Vec::new();
+    for _ in 0..4 + r.below(12) {
+        let place = place(r);
+        calls.push(match r.below(4) {
+            0 => Call::Serve(handle, word(r)),
+            1 => Call::Find(handle, place),
+            _ => Call::Lose(handle, place),
+        });
+    }
+    calls
+}
+
 /// Calls that belong together.
 fn episode(r: &mut Random, shapes: &[Shape]) -> Vec<Call> {
     match r.below(40) {
@@ -138,6 +169,7 @@ fn episode(r: &mut Random, shapes: &[Shape]) -> Vec<Call> {
         9 | 10 => vec![Call::Save],
         11 => vec![Call::Lend(r.below(6))],
         12 if r.one_in(2) => vec![Call::Fresh],
+        13..=15 => losses(r),
         _ => some(r, shapes, 1),
     }
 }

@@ -1,6 +1,6 @@
 //! Histories: lists of calls on one desk, with saved copies lent again and records changed by other hands, compared after every call.
 
-use crate::library::{self, Shape, DESK_SIZE};
+use crate::library::{self, Shape, DESK_SIZE, JOB_SIZE};
 use crate::random::{codeword, damaged, figures, wide, Random};
 use crate::second;
 use crate::shrink::{row, shorter, zeroed, Case};
@@ -29,6 +29,14 @@ pub enum Word {
     Off(isize),
 }
 
+/// A place of the job that the handle names.
+#[derive(Clone, Copy, Debug, PartialEq)]
+pub enum Place {
+    /// One below n+2, by a seed.
+    About(usize),
+    Number(usize),
+}
+
 /// A change of the record by other hands.
 #[derive(Clone, Debug, PartialEq)]
 pub enum Change {
@@ -44,6 +52,11 @@ pub enum Change {
     Mark(usize, usize, u8),
     /// The first so many places are lost.
     Lost(usize, usize),
+    /// The lost count of a group, and the excess.
+    Count(usize, usize, u8),
+    Excess(usize, u8),
+    /// The figures of a slot with a good shape become those of its marks.
+    Worked(usize),
     /// Every field but taken, from a seed.
     Junk(usize, u64),
     Byte(usize, u8),
@@ -56,6 +69,8 @@ pub enum Call {
     Serve(Handle, Word),
     Read(Handle),
     Close(Handle),
+    Lose(Handle, Place),
+    Find(Handle, Place),
     /// A copy of the desk is saved.
     Save,
     /// The copy saved that many saves ago is the desk now.
@@ -93,6 +108,8 @@ fn record(desk: &second::Desk) -> library::Desk {
         served: job.served as u32,
         handle: job.handle,
         marks: job.marks,
+        lost: job.lost.map(|count| count as u8),
+        excess: job.excess as u8,
     });
     library::Desk { t: desk.t, jobs }
 }
@@ -107,6 +124,8 @@ fn desk_of(record: &library::Desk) -> second::Desk {
         served: job.served.into(),
         handle: job.handle,
         marks: job.marks,
+        lost: job.lost.map(u64::from),
+        excess: job.excess.into(),
     });
     second::Desk { t: record.t, jobs }
 }
@@ -116,7 +135,7 @@ fn place_of(byte: usize) -> String {
     if byte < 8 {
         return String::from("t");
     }
-    let (slot, at) = ((byte - 8) / 256, (byte - 8) % 256);
+    let (slot, at) = ((byte - 8) / JOB_SIZE, (byte - 8) % JOB_SIZE);
     let field = match at {
         0 => "taken",
         1 => "m",
@@ -124,7 +143,9 @@ fn place_of(byte: usize) -> String {
         3 => "c",
         4..=7 => "served",
         8..=15 => "handle",
-        _ => return format!("mark {} of slot {slot}", at - 16),
+        16..=255 => return format!("mark {} of slot {slot}", at - 16),
+        271 => "excess",
+        _ => return format!("lost count {} of slot {slot}", at - 256),
     };
     format!("{field} of slot {slot}")
 }
@@ -133,11 +154,12 @@ fn place_of(byte: usize) -> String {
 fn show_record(desk: &library::Desk) -> String {
     let mut text = format!("\n  then t is {}", desk.t);
     for (s, job) in desk.jobs.iter().enumerate() {
-        let library::Job { taken, m, w, c, served, handle, marks } = job;
+        let library::Job { taken, m, w, c, served, handle, marks, lost, excess } = job;
         let end = marks.iter().rposition(|&mark| mark != 0).map_or(0, |last| last + 1);
-        if (*taken, *m, *w, *c, *served, *handle, end) != (0, 0, 0, 0, 0, 0, 0) {
+        if (*taken, *m, *w, *c, *served, *handle, end, *lost, *excess) != (0, 0, 0, 0, 0, 0, 0, [0; 15], 0) {
             let marks = if end == 0 { String::from("all 0") } else { format!("{}, then 0", row(&marks[..end])) };
             text += &format!("\n  slot {s}: taken {taken}, m {m}, w {w}, c {c}, served {served}, handle {handle}, marks {marks}");
+            text += &format!(", lost {}, excess {excess}", row(lost));
         }
     }
     text
@@ -225,6 +247,30 @@ impl Desks {
         (format!("close handle {handle}"), Outcome(a, None, Vec::new()), Outcome(b, None, Vec::new()))
     }
 
+    /// The handle, and a place of its job.
+    fn place(&self, handle: Handle, place: Place) -> (u64, usize) {
+        let handle = self.handle(handle);
+        let ((m, w, _), _) = self.job(handle);
+        match place {
+            Place::About(seed) => (handle, seed % (m * w + 2)),
+            Place::Number(number) => (handle, number),
+        }
+    }
+
+    fn lose(&mut self, handle: Handle, place: Place) -> (String, Outcome, Outcome) {
+        let (handle, place) = self.place(handle, place);
+        let a = library::lose(&mut self.ours, handle, place);
+        let b = second::lose(&mut self.theirs, handle, place as u64);
+        (format!("lose handle {handle}, place {place}"), Outcome(a, None, Vec::new()), Outcome(b, None, Vec::new()))
+    }
+
+    fn find(&mut self, handle: Handle, place: Place) -> (String, Outcome, Outcome) {
+        let (handle, place) = self.place(handle, place);
+        let a = library::find(&mut self.ours, handle, place);
+        let b = second::find(&mut self.theirs, handle, place as u64);
+        (format!("find handle {handle}, place {place}"), Outcome(a, None, Vec::new()), Outcome(b, None, Vec::new()))
+    }
+
     /// Makes both records those of a copy, if there is one.
     fn lend(&mut self, back: usize) {
         if let Some(&(ours, theirs)) = self.saved.iter().rev().nth(back) {
@@ -268,6 +314,8 @@ impl Desks {
             Call::Serve(handle, word) => self.serve(*handle, *word),
             Call::Read(handle) => self.read(*handle),
             Call::Close(handle) => self.close(*handle),
+            Call::Lose(handle, place) => self.lose(*handle, *place),
+            Call::Find(handle, place) => self.find(*handle, *place),
             _ => {
                 self.by_hand(call);
                 return self.records();
@@ -310,6 +358,13 @@ impl Outcome {
     }
 }
 
+/// Makes the figures of a job with a good shape those of its marks.
+fn work(job: &mut library::Job) {
+    let Some((n, _)) = figures((job.m.into(), job.w.into(), job.c.into())) else { return };
+    let (lost, excess) = second::worked(job.w.into(), job.c.into(), &job.marks[..n]);
+    (job.lost, job.excess) = (lost.map(|count| count as u8), excess as u8);
+}
+
 impl Change {
     fn make(&self, desk: &mut library::Desk) {
         match *self {
@@ -327,11 +382,14 @@ impl Change {
             }
             Change::Mark(s, p, mark) => desk.jobs[s].marks[p] = mark,
             Change::Lost(s, count) => desk.jobs[s].marks[..count].fill(1),
+            Change::Count(s, g, count) => desk.jobs[s].lost[g] = count,
+            Change::Excess(s, excess) => desk.jobs[s].excess = excess,
+            Change::Worked(s) => work(&mut desk.jobs[s]),
             Change::Junk(s, seed) => {
                 let mut r = Random::new(seed);
                 let taken = desk.jobs[s].taken;
                 let mut bytes = desk.bytes();
-                bytes[8 + 256 * s..264 + 256 * s].fill_with(|| r.byte());
+                bytes[8 + JOB_SIZE * s..][..JOB_SIZE].fill_with(|| r.byte());
                 *desk = library::Desk::of_bytes(bytes);
                 desk.jobs[s].taken = taken;
             }
@@ -378,6 +436,8 @@ fn simpler(call: &Call) -> Vec<Call> {
             let words = simpler_words(*word).into_iter().map(|word| Call::Serve(*handle, word));
             [Call::Read(*handle)].into_iter().chain(words).collect()
         }
+        Call::Lose(handle, Place::About(seed)) if *seed > 0 => vec![Call::Read(*handle), Call::Lose(*handle, Place::About(0))],
+        Call::Find(handle, Place::About(seed)) if *seed > 0 => vec![Call::Read(*handle), Call::Find(*handle, Place::About(0))],
         _ => Vec::new(),
     }
 }

@@ -20,6 +20,8 @@ mod c {
         pub fn axlebloom_serve(desk: *mut Desk, handle: u64, x: *mut u8, n: usize) -> Answer;
         pub fn axlebloom_read(desk: *const Desk, handle: u64, served: *mut u32) -> u8;
         pub fn axlebloom_close(desk: *mut Desk, handle: u64) -> u8;
+        pub fn axlebloom_lose(desk: *mut Desk, handle: u64, place: usize) -> u8;
+        pub fn axlebloom_find(desk: *mut Desk, handle: u64, place: usize) -> u8;
         pub fn axlebloom_gather_begin(gather: *mut Gather, m: usize, w: usize, c: usize) -> u8;
         pub fn axlebloom_gather_take(gather: *mut Gather, first: usize, x: *const u8, n: usize) -> u8;
         pub fn axlebloom_gather_finish(gather: *mut Gather, x: *mut u8, n: usize) -> Answer;
@@ -103,7 +105,12 @@ pub struct Job {
     pub served: u32,
     pub handle: u64,
     pub marks: [u8; 240],
+    pub lost: [u8; 15],
+    pub excess: u8,
 }
+
+/// How many bytes the record of a job has; there are none between its fields.
+pub const JOB_SIZE: usize = 272;
 
 #[repr(C)]
 #[derive(Clone, Copy)]
@@ -112,8 +119,8 @@ pub struct Desk {
     pub jobs: [Job; 8],
 }
 
-/// How many bytes the record of a desk has; there are none between its fields.
-pub const DESK_SIZE: usize = 2056;
+/// How many bytes the record of a desk has.
+pub const DESK_SIZE: usize = 8 + 8 * JOB_SIZE;
 
 impl Desk {
     /// A record that holds anything.
@@ -145,6 +152,14 @@ pub fn read(desk: &Desk, handle: u64, served: &mut u32) -> u8 {
 
 pub fn close(desk: &mut Desk, handle: u64) -> u8 {
     unsafe { c::axlebloom_close(desk, handle) }
+}
+
+pub fn lose(desk: &mut Desk, handle: u64, place: usize) -> u8 {
+    unsafe { c::axlebloom_lose(desk, handle, place) }
+}
+
+pub fn find(desk: &mut Desk, handle: u64, place: usize) -> u8 {
+    unsafe { c::axlebloom_find(desk, handle, place) }
 }
 
 #[repr(C)]

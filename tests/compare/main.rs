@@ -101,7 +101,7 @@ fn patterns(wanted: &Wanted) -> Tally {
 /// One line for each number: how often each kind of case met it.
 fn print_table(tallies: &[Tally; 5]) {
     println!("number {}", KINDS.map(|kind| format!("{kind:>10}")).concat());
-    for number in (0..=15).chain([22, 23, 24, 28, 29, 30, 31]) {
+    for number in (0..=15).chain([22, 23, 24, 25, 28, 29, 30, 31]) {
         println!("{number:>6} {}", tallies.each_ref().map(|tally| format!("{:>10}", tally.numbers[number])).concat());
     }
 }
@@ -109,7 +109,7 @@ fn print_table(tallies: &[Tally; 5]) {
 /// Numbers that calls and lines can give and that never came.
 fn never_met(tallies: &[Tally; 5]) -> Vec<String> {
     let calls = |number: usize| tallies[..3].iter().map(|tally| tally.numbers[number]).sum::<u64>();
-    let by_calls = (0..=13).chain([28, 29, 30, 31]).filter(|&number| calls(number) == 0).map(|number| format!("{number} by a call"));
+    let by_calls = (0..=13).chain([25, 28, 29, 30, 31]).filter(|&number| calls(number) == 0).map(|number| format!("{number} by a call"));
     let by_lines = [0, 1, 2, 3, 4, 5, 8, 9, 14, 15, 29].into_iter().filter(|&number| tallies[3].numbers[number] == 0);
     let gathered = [0, 1, 2, 3, 4, 5, 6, 8, 9, 22, 23, 24].into_iter().filter(|&number| tallies[4].numbers[number] == 0);
     let by_gathers = gathered.map(|number| format!("{number} by a gather"));

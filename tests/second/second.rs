@@ -548,6 +548,8 @@ pub struct Job {
     pub handle: u64,
     pub served: u64,
     pub marks: [u8; 240],
+    pub lost: [u64; 15],
+    pub excess: u64,
 }
 
 /// The desk: the count t of handles issued and eight slots.
@@ -566,11 +568,30 @@ pub const FREE: Job = Job {
     handle: 0,
     served: 0,
     marks: [0; 240],
+    lost: [0; 15],
+    excess: 0,
 };
 
 /// The desk with t 0 and all slots free.
 pub fn fresh() -> Desk {
     Desk { t: 0, jobs: [FREE; 8] }
+}
+
+/// The figures worked from n marks, place by place: each group's lost
+/// count, 0 past the last group, and the excess.
+pub fn worked(w: u64, c: u64, marks: &[u8]) -> ([u64; 15], u64) {
+    let mut lost = [0; 15];
+    let mut excess = 0;
+    for (p, &mark) in marks.iter().enumerate() {
+        let count = &mut lost[p / w as usize];
+        if mark == 1 {
+            *count += 1;
+            if *count > c {
+                excess += 1;
+            }
+        }
+    }
+    (lost, excess)
 }
 
 /// Whether a taken job is sound in slot s of a desk with count t.
@@ -584,6 +605,9 @@ fn sound_job(job: &Job, s: u64, t: u64) -> bool {
         return false;
     }
     if excess(job.m, job.w, job.c, marks) > 2 {
+        return false;
+    }
+    if (job.lost, job.excess) != worked(job.w, job.c, marks) {
         return false;
     }
     let u = job.handle / 8;
@@ -613,7 +637,7 @@ pub fn sound(desk: &Desk) -> bool {
 }
 
 /// The taken slot that holds the handle.
-fn find(desk: &Desk, handle: u64) -> Option<usize> {
+fn slot_of(desk: &Desk, handle: u64) -> Option<usize> {
     (0..8).find(|&s| desk.jobs[s].taken == 1 && desk.jobs[s].handle == handle)
 }
 
@@ -636,6 +660,7 @@ pub fn open(desk: &mut Desk, m: u64, w: u64, c: u64, marks: &[u8]) -> Result<u64
     let handle = 8 * desk.t + s as u64;
     let mut job = Job { taken: 1, m, w, c, handle, ..FREE };
     job.marks[..marks.len()].copy_from_slice(marks);
+    (job.lost, job.excess) = worked(w, c, marks);
     desk.jobs[s] = job;
     Ok(handle)
 }
@@ -646,7 +671,7 @@ pub fn serve(desk: &mut Desk, handle: u64, word: &mut [u8]) -> Mended {
     if !sound(desk) {
         return (31, 0);
     }
-    let Some(s) = find(desk, handle) else {
+    let Some(s) = slot_of(desk, handle) else {
         return (12, 0);
     };
     let job = &mut desk.jobs[s];
@@ -670,7 +695,7 @@ pub fn read(desk: &Desk, handle: u64) -> Result<u64, u8> {
     if !sound(desk) {
         return Err(31);
     }
-    match find(desk, handle) {
+    match slot_of(desk, handle) {
         Some(s) => Ok(desk.jobs[s].served),
         None => Err(12),
     }
@@ -681,13 +706,48 @@ pub fn close(desk: &mut Desk, handle: u64) -> u8 {
     if !sound(desk) {
         return 31;
     }
-    match find(desk, handle) {
+    match slot_of(desk, handle) {
         Some(s) => {
             desk.jobs[s] = FREE;
             0
         }
         None => 12,
     }
+}
+
+/// One place of an open job gets another mark, if what is then present
+/// still settles a word; 0, or 31, 12, 25, 8.
+fn change(desk: &mut Desk, handle: u64, place: u64, mark: u8) -> u8 {
+    if !sound(desk) {
+        return 31;
+    }
+    let Some(s) = slot_of(desk, handle) else {
+        return 12;
+    };
+    let mut job = desk.jobs[s];
+    let n = job.m * job.w;
+    if place >= n {
+        return 25;
+    }
+    job.marks[place as usize] = mark;
+    let marks = &job.marks[..n as usize];
+    let number = judge(job.m, job.w, job.c, marks);
+    if number != 0 {
+        return number;
+    }
+    (job.lost, job.excess) = worked(job.w, job.c, marks);
+    desk.jobs[s] = job;
+    0
+}
+
+/// Lose: the place is lost from now on.
+pub fn lose(desk: &mut Desk, handle: u64, place: u64) -> u8 {
+    change(desk, handle, place, 1)
+}
+
+/// Find: the place is present from now on.
+pub fn find(desk: &mut Desk, handle: u64, place: u64) -> u8 {
+    change(desk, handle, place, 0)
 }
 
 // --------------------------------------------------------------- text lines

@@ -596,6 +596,35 @@ fn desk_serves(t: &mut Tally) {
     t.ok(desk.t == 2, "t stays at close");
 }
 
+/// A disk dies in the middle of a rebuild, and another comes back.
+fn desk_losses(t: &mut Tally) {
+    let mut desk = fresh();
+    let handle = open(&mut desk, 2, 3, 1, &[1, 1, 1, 0, 0, 0]).unwrap();
+    let other = open(&mut desk, 2, 3, 1, &[0; 6]).unwrap();
+    t.ok(desk.jobs[0].lost[..3] == [3, 0, 0] && desk.jobs[0].excess == 2, "figures of open");
+    let before = desk;
+    t.ok(lose(&mut desk, 0, 6) == 12 && find(&mut desk, 7, 6) == 12, "12 before 25");
+    t.ok(lose(&mut desk, handle, 6) == 25 && find(&mut desk, handle, u64::MAX) == 25, "25");
+    t.ok(lose(&mut desk, handle, 2) == 0 && find(&mut desk, handle, 3) == 0, "as wanted already");
+    t.ok(desk == before, "nothing has changed");
+    t.ok(lose(&mut desk, handle, 3) == 0, "a check of the group is left");
+    t.ok(desk.jobs[0].lost[..3] == [3, 1, 0] && desk.jobs[0].excess == 2, "its count alone");
+    t.ok(lose(&mut desk, handle, 4) == 8 && lose(&mut desk, handle, 3) == 0, "8, but not for a lost place");
+    t.ok(desk.jobs[1] == before.jobs[1] && desk.t == 2, "the other job stays");
+    let mut garbage = [0, 0, 0, 0, 207, 128];
+    t.ok(serve(&mut desk, handle, &mut garbage) == (0, 0), "a refused loss counts as present");
+    t.ok(garbage == [158, 131, 29, 79, 207, 128], "a wrong word");
+    t.ok(find(&mut desk, handle, 0) == 0 && lose(&mut desk, handle, 4) == 0, "another place found first");
+    t.ok(desk.jobs[0].lost[..3] == [2, 2, 0] && desk.jobs[0].excess == 2, "figures of both");
+    let mut word = [1, 0, 0, 0, 207, 128];
+    t.ok(serve(&mut desk, handle, &mut word) == (0, 0), "serve");
+    t.ok(word == [1, 1, 0, 78, 206, 128] && read(&desk, handle) == Ok(2), "the right word");
+    let mut wrong = [1, 1, 0, 78, 206, 129];
+    t.ok(serve(&mut desk, other, &mut wrong) == (9, 1), "9 before");
+    t.ok(lose(&mut desk, other, 5) == 0 && serve(&mut desk, other, &mut wrong) == (0, 0), "0 after");
+    t.ok(wrong == [1, 1, 0, 78, 206, 128], "mended");
+}
+
 /// One changed field: the desk is refused 31 by every service, untouched.
 fn refused_31(t: &mut Tally, base: &Desk, what: &str, change: fn(&mut Desk)) {
     let mut desk = *base;
@@ -607,6 +636,7 @@ fn refused_31(t: &mut Tally, base: &Desk, what: &str, change: fn(&mut Desk)) {
     t.ok(serve(&mut desk, 0, &mut word) == (31, 0), what);
     t.ok(read(&desk, 0) == Err(31), what);
     t.ok(close(&mut desk, 0) == 31, what);
+    t.ok(lose(&mut desk, 0, u64::MAX) == 31 && find(&mut desk, 0, u64::MAX) == 31, what);
     t.ok(desk == before && word == [0; 6], what);
 }
 
@@ -624,6 +654,11 @@ fn desk_sound(t: &mut Tally) {
     refused_31(t, &base, "bad c", |d| d.jobs[0].c = u64::MAX);
     refused_31(t, &base, "bad mark", |d| d.jobs[1].marks[5] = 2);
     refused_31(t, &base, "excess 3", |d| d.jobs[0].marks = [1; 240]);
+    refused_31(t, &base, "a count less", |d| d.jobs[0].lost[0] = 2);
+    refused_31(t, &base, "a count more", |d| d.jobs[1].lost[1] = 1);
+    refused_31(t, &base, "a count past the groups", |d| d.jobs[0].lost[14] = 1);
+    refused_31(t, &base, "another excess", |d| d.jobs[0].excess = 1);
+    refused_31(t, &base, "marks without their figures", |d| d.jobs[1].marks[0] = 1);
     refused_31(t, &base, "handle 0", |d| d.jobs[0].handle = 0);
     refused_31(t, &base, "wrong slot", |d| d.jobs[0].handle = 9);
     refused_31(t, &base, "u above t", |d| d.jobs[0].handle = 24);
@@ -632,7 +667,7 @@ fn desk_sound(t: &mut Tally) {
     let mut desk = base;
     desk.jobs[0].marks[6] = 77;
     desk.jobs[0].served = 12;
-    desk.jobs[7] = Job { taken: 0, m: 99, w: 99, c: 99, handle: 8, served: 9, marks: [9; 240] };
+    desk.jobs[7] = Job { taken: 0, m: 99, w: 99, c: 99, handle: 8, served: 9, marks: [9; 240], lost: [9; 15], excess: 9 };
     t.ok(sound(&desk), "marks past n, served and free slots do not matter");
     t.ok(read(&desk, 8) == Ok(12), "a free slot holds no handle");
 }
@@ -817,6 +852,7 @@ fn main() -> ExitCode {
     edits(t, random);
     desk_handles(t);
     desk_serves(t);
+    desk_losses(t);
     desk_sound(t);
     lines(t);
     sessions(t);

@@ -1,17 +1,29 @@
--- Laws of a good job.
-use mathlib.Core.Path.{_≡_}
-use mathlib.Core.Bool.{true, false}
+-- Laws of a good job, and of its figures.
+use mathlib.Core.Path.{_≡_, sym, ap, _∙_, subst}
+use mathlib.Core.Logic.{_↔_}
+use mathlib.Core.Bool.{true, false, _&&_, and-eq-true-iff, and-true, and-false}
 use mathlib.Core.List.{List}
 use Prim.Native.Nat.{ℕ, _*_, _<_, _≤_}
 use native.Mathlib.Omega.{arith}
-use borrow.Author.Tests.{eqb-true, ne-eqb}
+use borrow.Author.Tests.{eqb-true, eq-eqb, ne-eqb}
+use lib.Dec.{T, eqb}
+use lib.Ieee.Bits.{is-true}
+use lib.ListN.{length, getD}
+use lib.Seq.{ext-getD}
+use Rattle.counting.specs.Test.{allBelow}
+use Rattle.counting.specs.TestLaws.{all-at, all-intro}
+use Rattle.code.specs.Marks.{excess}
+use Rattle.code.specs.DeterminedLaws.{list-length, list-at}
 use Rattle.shape.specs.RefusalsLaws.{orElse-zero}
 use Rattle.shape.specs.Laws.{places-most}
 use Rattle.marks.specs.Refusal.{Marked}
-use Rattle.marks.specs.RefusalLaws.{good-of-marks}
+use Rattle.marks.specs.RefusalLaws.{good-of-marks, marks-of-good}
 use Rattle.judge.specs.Answer.{judgedNumberOf, judgedNumberIn}
+use Rattle.judge.specs.Laws.{zero-excess}
 use Rattle.desk_job.specs.declared.Job.{Job}
-use Rattle.desk_job.specs.Jobs.{isGood, marksOf}
+use Rattle.desk_job.specs.Figures.{lostCount, lostCounts}
+use Rattle.desk_job.specs.FiguresLaws.{all-ext}
+use Rattle.desk_job.specs.Jobs.{isGood, marksOf, hasFigures, isSoundJob}
 
 -- what Judge answers 0 has a good shape and n marks of 0 or 1
 pub judged-marked : (m w c : ℕ) (marks : List ℕ) → judgedNumberOf m w c marks ≡ 0 → Marked m w c marks
@@ -30,3 +42,76 @@ unfolding isGood
 good-places job e =
     let z = eqb-true (judgedNumberOf (job .m) (job .w) (job .c) (marksOf job)) 0 e in
     places-most (judged-marked (job .m) (job .w) (job .c) (marksOf job) z .good)
+
+-- "a good shape, its n marks of 0 or 1 with excess at most 2"
+pub good-iff : (job : Job) → (isGood job ≡ true) ↔ (Marked (job .m) (job .w) (job .c) (marksOf job) × (excess (job .m) (job .w) (job .c) (marksOf job) ≤ 2))
+unfolding isGood
+good-iff job = (
+  λ e.
+      let z = eqb-true (judgedNumberOf (job .m) (job .w) (job .c) (marksOf job)) 0 e in
+      let M = judged-marked (job .m) (job .w) (job .c) (marksOf job) z in
+      (M, zero-excess (job .m) (job .w) (job .c) (marksOf job) (marks-of-good (job .m) (job .w) (job .c) (marksOf job) M) .0 z),
+  λ p. eq-eqb (judgedNumberOf (job .m) (job .w) (job .c) (marksOf job)) 0
+      (zero-excess (job .m) (job .w) (job .c) (marksOf job) (marks-of-good (job .m) (job .w) (job .c) (marksOf job) (p .0)) .1 (p .1)),
+)
+
+-- ---- the figures
+
+module _ (job : Job) where
+  -- the count of each group
+  abbrev counts : ℕ → ℕ
+  counts = lostCount (job .m) (job .w) (marksOf job)
+
+  abbrev worked : ℕ
+  worked = excess (job .m) (job .w) (job .c) (marksOf job)
+
+  -- "Stored figures always equal those worked from the marks"
+  pub figures-iff : (hasFigures job ≡ true)
+      ↔ ((job .lost ≡ lostCounts (job .m) (job .w) (marksOf job)) × (job .excess ≡ excess (job .m) (job .w) (job .c) (marksOf job)))
+  unfolding hasFigures
+  figures-iff = (to, from)
+    where
+      to : (eqb (length (job .lost)) 15 && allBelow 15 (λ g. eqb (getD (job .lost) g 0) (counts g)) && eqb (job .excess) worked) ≡ true
+          → (job .lost ≡ lostCounts (job .m) (job .w) (marksOf job)) × (job .excess ≡ worked)
+      to e =
+          let p = and-eq-true-iff (eqb (length (job .lost)) 15 && allBelow 15 (λ g. eqb (getD (job .lost) g 0) (counts g))) (eqb (job .excess) worked) .0 e in
+          let q = and-eq-true-iff (eqb (length (job .lost)) 15) (allBelow 15 (λ g. eqb (getD (job .lost) g 0) (counts g))) .0 (p .0) in
+          let l = eqb-true (length (job .lost)) 15 (q .0) in (
+            ext-getD 0 (job .lost) (lostCounts (job .m) (job .w) (marksOf job)) (l ∙ sym (list-length 15 counts)) (λ g h.
+                let k : g < 15 = omega arith in
+                eqb-true _ _ (is-true _ (all-at 15 (λ g. eqb (getD (job .lost) g 0) (counts g)) (subst T (sym (q .1)) tt) g k)) ∙ sym (list-at 15 counts g k)),
+            eqb-true (job .excess) worked (p .1),
+          )
+
+      from : (job .lost ≡ lostCounts (job .m) (job .w) (marksOf job)) × (job .excess ≡ worked)
+          → (eqb (length (job .lost)) 15 && allBelow 15 (λ g. eqb (getD (job .lost) g 0) (counts g)) && eqb (job .excess) worked) ≡ true
+      from p =
+          and-eq-true-iff (eqb (length (job .lost)) 15 && allBelow 15 (λ g. eqb (getD (job .lost) g 0) (counts g))) (eqb (job .excess) worked) .1 (
+            and-eq-true-iff (eqb (length (job .lost)) 15) (allBelow 15 (λ g. eqb (getD (job .lost) g 0) (counts g))) .1 (
+              eq-eqb (length (job .lost)) 15 (ap length (p .0) ∙ list-length 15 counts),
+              is-true _ (all-intro 15 (λ g. eqb (getD (job .lost) g 0) (counts g)) (λ g k.
+                  subst T (sym (eq-eqb (getD (job .lost) g 0) (counts g) (ap (λ x. getD x g 0) (p .0) ∙ list-at 15 counts g k))) tt)),
+            ),
+            eq-eqb (job .excess) worked (p .1),
+          )
+
+  -- another excess, and the counts where the excess is the same
+  pub other-excess : ¬ (excess (job .m) (job .w) (job .c) (marksOf job) ≡ job .excess) → hasFigures job ≡ false
+  unfolding hasFigures
+  other-excess n =
+      ap (λ b. eqb (length (job .lost)) 15 && allBelow 15 (λ g. eqb (getD (job .lost) g 0) (counts g)) && b) (ne-eqb (job .excess) worked (λ e. n (sym e)))
+      ∙ and-false (eqb (length (job .lost)) 15 && allBelow 15 (λ g. eqb (getD (job .lost) g 0) (counts g)))
+
+  pub counts-decide : length (job .lost) ≡ 15 → excess (job .m) (job .w) (job .c) (marksOf job) ≡ job .excess
+      → allBelow 15 (λ g. eqb (getD (job .lost) g 0) (getD (lostCounts (job .m) (job .w) (marksOf job)) g 0)) ≡ hasFigures job
+  unfolding hasFigures
+  counts-decide l e =
+      all-ext 15 (λ g. eqb (getD (job .lost) g 0) (getD (lostCounts (job .m) (job .w) (marksOf job)) g 0)) (λ g. eqb (getD (job .lost) g 0) (counts g))
+      (λ g k. ap (eqb (getD (job .lost) g 0)) (list-at 15 counts g k))
+      ∙ sym (ap (λ b. b && allBelow 15 (λ g. eqb (getD (job .lost) g 0) (counts g)) && eqb (job .excess) worked) (eq-eqb (length (job .lost)) 15 l)
+      ∙ ap (λ b. allBelow 15 (λ g. eqb (getD (job .lost) g 0) (counts g)) && b) (eq-eqb (job .excess) worked (sym e))
+      ∙ and-true (allBelow 15 (λ g. eqb (getD (job .lost) g 0) (counts g))))
+
+  pub sound-job-iff : (isSoundJob job ≡ true) ↔ ((isGood job ≡ true) × (hasFigures job ≡ true))
+  unfolding isSoundJob
+  sound-job-iff = and-eq-true-iff (isGood job) (hasFigures job)

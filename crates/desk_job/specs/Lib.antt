@@ -1,2 +1,4 @@
+pub mod Figures
+pub mod FiguresLaws
 pub mod Jobs
 pub mod JobLaws

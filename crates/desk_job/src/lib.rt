@@ -1,11 +1,19 @@
-// A job of a desk, and whether it is good.
+// A job of a desk, its figures worked from its marks, and whether it is sound.
 use judge::Judged;
 use shape::Shape;
 ghost use mathlib.Core.Path.{_≡_};
+ghost use mathlib.Core.Bool.{true};
+ghost use Prim.Native.Nat.{_*_};
+ghost use lib.Dec.{eqb};
+ghost use lib.ListN.{length, getD, replicate};
+ghost use Rattle.counting.specs.Test.{allBelow};
+ghost use Rattle.shape.specs.Shapes.{Good};
 ghost use Rattle.judge.specs.Answer.{judgedNumberOf};
-ghost use Rattle.desk_job.specs.Jobs.{emptyJob, isGood};
+ghost use Rattle.desk_job.specs.Figures.{lossFigures};
+ghost use Rattle.desk_job.specs.Jobs.{emptyJob, isGood, hasFigures, isSoundJob};
 
 // A slot of the desk: a shape, the marks of a loss pattern, how many words were served, and the handle. Taken is 1, or 0 for a free slot.
+// The figures of the marks stand beside them: each group's lost count, and the excess.
 #[repr(C)]
 pub struct Job {
     pub taken: u8,
@@ -15,6 +23,14 @@ pub struct Job {
     pub served: u32,
     pub handle: u64,
     pub marks: [u8; 240],
+    pub lost: [u8; 15],
+    pub excess: u8,
+}
+
+// The figures of a loss pattern: each group's lost count, 0 past the last group, and the excess.
+pub struct Figures {
+    pub lost: [u8; 15],
+    pub excess: usize,
 }
 
 // A slot with all its fields zero.
@@ -29,6 +45,8 @@ pub fn empty() -> Job
         served: 0,
         handle: 0,
         marks: [0; 240],
+        lost: [0; 15],
+        excess: 0,
     }
 }
 
@@ -55,4 +73,77 @@ pub fn is_good(job: Job) -> bool
     }
     let marks = job.marks;
     judged(m, w, c, &marks[..n]) == 0
+}
+
+// The figures of the marks of a good shape. A shape that is not good, or marks of another length, have none.
+pub fn figures_of(m: usize, w: usize, c: usize, marks: &[u8]) -> Figures
+    ensures { λ r. ⌜ (Good m w c → length (now (marks .entry)) ≡ m * w → r ≡ lossFigures m w c (now (marks .entry))) ⌝ }
+    ensures { λ r. ⌜ ((Good m w c → length (now (marks .entry)) ≡ m * w → ⊥) → r ≡ record { lost = replicate 15 0; excess = 0 }) ⌝ }
+{
+    let mut lost = [0u8; 15];
+    let mut excess: usize = 0;
+    if shape::word_refusal(m, w, c, marks.len()) != 0 {
+        return Figures {
+            lost: lost,
+            excess: excess,
+        };
+    }
+    let mut g: usize = 0;
+    while g < m {
+        let a = g * w;
+        let e = a + w;
+        let l = marks::lost_in(&marks[a..e]);
+        lost[g] = l as u8;
+        if c < l {
+            excess += l - c;
+        }
+        g += 1;
+    }
+    Figures {
+        lost: lost,
+        excess: excess,
+    }
+}
+
+// Whether fifteen counts are the same as fifteen others.
+fn same_counts(kept: [u8; 15], worked: [u8; 15]) -> bool
+    ensures { λ r. ⌜ r ≡ allBelow 15 (λ g. eqb (getD kept g 0) (getD worked g 0)) ⌝ }
+{
+    let mut g: usize = 0;
+    while g < 15 {
+        if kept[g] != worked[g] {
+            return false;
+        }
+        g += 1;
+    }
+    true
+}
+
+// Whether the figures of a good job are those worked from its marks.
+fn has_figures(job: Job) -> bool
+    requires { ⌜ isGood job ≡ true ⌝ }
+    ensures { λ r. ⌜ r ≡ hasFigures job ⌝ }
+{
+    let m = job.m as usize;
+    let w = job.w as usize;
+    let c = job.c as usize;
+    let n = m * w;
+    let marks = job.marks;
+    let worked = figures_of(m, w, c, &marks[..n]);
+    let counts = worked.lost;
+    let lost = job.lost;
+    if worked.excess != job.excess as usize {
+        return false;
+    }
+    same_counts(lost, counts)
+}
+
+// Whether a job is good and its figures are those worked from its marks.
+pub fn is_sound_job(job: Job) -> bool
+    ensures { λ r. ⌜ r ≡ isSoundJob job ⌝ }
+{
+    if !is_good(job) {
+        return false;
+    }
+    has_figures(job)
 }

@@ -8,6 +8,7 @@ ghost use Rattle.desk_open.specs.Open.{openOf, OpenGives};
 ghost use Rattle.desk_close.specs.Read.{readOf, ReadGives};
 ghost use Rattle.desk_close.specs.Close.{closeOf, CloseGives};
 ghost use Rattle.desk_serve.specs.Serve.{serveOf, ServeGives};
+ghost use Rattle.desk_change.specs.Change.{loseOf, findOf, ChangeGives};
 
 // Close on the desk that the caller lends.
 pub fn close_at(desk: &mut Desk, handle: u64) -> Answer
@@ -43,6 +44,26 @@ pub fn serve_at(desk: &mut Desk, handle: u64, word: &mut [u8]) -> Mending
 {
     let d = *desk;
     let r = desk_serve::serve(d, handle, word);
+    *desk = r.desk;
+    r.answer
+}
+
+// Lose on the desk that the caller lends.
+pub fn lose_at(desk: &mut Desk, handle: u64, place: usize) -> Answer
+    ensures { λ r. ⌜ ChangeGives (loseOf handle place (now (desk .entry))) (now (desk .exit)) r ⌝ }
+{
+    let d = *desk;
+    let r = desk_change::lose(d, handle, place);
+    *desk = r.desk;
+    r.answer
+}
+
+// Find on the desk that the caller lends.
+pub fn find_at(desk: &mut Desk, handle: u64, place: usize) -> Answer
+    ensures { λ r. ⌜ ChangeGives (findOf handle place (now (desk .entry))) (now (desk .exit)) r ⌝ }
+{
+    let d = *desk;
+    let r = desk_change::find(d, handle, place);
     *desk = r.desk;
     r.answer
 }

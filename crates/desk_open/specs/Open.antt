@@ -10,7 +10,7 @@ use Rattle.judge.specs.Answer.{judgedNumberOf}
 use Rattle.desk_job.specs.declared.Job.{Job}
 use Rattle.desk_record.specs.declared.Desk.{Desk}
 use Rattle.desk_open.specs.declared.Opened.{Opened}
-use Rattle.desk_job.specs.Jobs.{isTaken}
+use Rattle.desk_job.specs.Jobs.{isTaken, withMarks}
 use Rattle.desk_record.specs.Refusal.{soundRefusal}
 
 -- the first slot, counted from i, that is not taken; past the last one if all are
@@ -34,10 +34,11 @@ openNumber m w c marks desk =
 abbrev pub newHandle : Desk → ℕ
 newHandle desk = 8 * (desk .t + 1) + freeSlot desk
 
--- "keeps copies (marks past n as 0, served as 0)"
+-- "keeps copies (marks past n as 0, served as 0)", with the figures worked from the marks
 unfoldable pub newJob : ℕ → ℕ → ℕ → List ℕ → ℕ → Job
 newJob m w c marks handle =
-    record { taken = 1; m = m; w = w; c = c; served = 0; handle = handle; marks = marks ++ replicate (240 - length marks) 0 }
+    withMarks (record { taken = 1; m = m; w = w; c = c; served = 0; handle = handle; marks = []; lost = []; excess = 0 })
+    (marks ++ replicate (240 - length marks) 0)
 
 -- A number given back, 0 for done, the handle, 0 if there is none, and the desk then.
 pub record Opening : Type 0 where

@@ -2,19 +2,21 @@
 use mathlib.Core.Path.{_≡_, refl, sym, ap, _∙_}
 use mathlib.Core.Bool.{true, false, cond}
 use mathlib.Core.List.{List, [], _∷_, _++_, append-assoc}
-use Prim.Native.Nat.{ℕ, zero, suc, _+_, _-_, _≤_, _<_}
+use Prim.Native.Nat.{ℕ, zero, suc, _+_, _-_, _*_, _≤_, _<_}
 use native.Mathlib.Numerals.{add-one}
 use native.Mathlib.Omega.{arith}
 use borrow.Author.Tests.{eqb-false, not-false}
 use lib.ListN.{length, getD, take, set, replicate}
-use lib.Seq.{length-take-le, set-at, take-suc}
+use lib.Seq.{length-take-le, set-at, take-suc, take-at}
 use Rattle.shape.specs.RefusalsLaws.{refuse-zero, orElse-zero}
 use Rattle.judge.specs.Answer.{judgedNumberOf}
 use Rattle.desk_job.specs.declared.Job.{Job}
 use Rattle.desk_record.specs.declared.Desk.{Desk}
 use Rattle.desk_open.specs.declared.Opened.{Opened}
+use Rattle.desk_job.specs.declared.Figures.{Figures}
+use Rattle.desk_job.specs.Figures.{lossFigures}
 use Rattle.desk_job.specs.Jobs.{isTaken}
-use Rattle.desk_open.specs.Open.{freeFrom, freeSlot, openNumber, openBy, openedAt}
+use Rattle.desk_open.specs.Open.{freeFrom, freeSlot, openNumber, openBy, openedAt, newJob}
 use Rattle.desk_record.specs.Laws.{Sound, sound-parts}
 
 -- "On every refusal all lent buffers and the desk stay as they were."
@@ -67,3 +69,16 @@ kept-turn marks i l h =
     ∙ sym (append-assoc (take i marks) (getD marks i 0 ∷ []) (replicate (240 - (i + 1)) 0))
     ∙ ap (λ x. x ++ replicate (240 - (i + 1)) 0) (sym (take-suc marks i 0 l))
     ∙ ap (λ n. take n marks ++ replicate (240 - (i + 1)) 0) (sym (add-one i))
+
+-- a new job by its figures
+abbrev pub jobWith : ℕ → ℕ → ℕ → List ℕ → ℕ → Figures → Job
+jobWith m w c marks handle figures =
+    record { taken = 1; m = m; w = w; c = c; served = 0; handle = handle; marks = marks; lost = figures .lost; excess = figures .excess }
+
+-- its figures are those of the marks given
+pub new-job : (m w c : ℕ) (marks : List ℕ) (handle : ℕ) → length marks ≡ m * w
+    → newJob m w c marks handle ≡ jobWith m w c (marks ++ replicate (240 - length marks) 0) handle (lossFigures m w c marks)
+unfolding newJob
+new-job m w c marks handle size =
+    ap (λ x. jobWith m w c (marks ++ replicate (240 - length marks) 0) handle (lossFigures m w c x))
+    (take-at marks (replicate (240 - length marks) 0) (m * w) size)

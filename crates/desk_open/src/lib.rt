@@ -82,6 +82,8 @@ pub fn open(desk: Desk, m: usize, w: usize, c: usize, marks: &[u8]) -> AfterOpen
     let t = desk.t + 1;
     let handle = 8 * t + (s as u64);
     let copy = kept(marks);
+    let worked = desk_job::figures_of(m, w, c, marks);
+    let lost = worked.lost;
     let mut d = desk;
     d.jobs[s] = Job {
         taken: 1,
@@ -91,6 +93,8 @@ pub fn open(desk: Desk, m: usize, w: usize, c: usize, marks: &[u8]) -> AfterOpen
         served: 0,
         handle: handle,
         marks: copy,
+        lost: lost,
+        excess: worked.excess as u8,
     };
     d.t = t;
     AfterOpen {

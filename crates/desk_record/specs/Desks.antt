@@ -6,7 +6,7 @@ use lib.ListN.{getD, set, replicate}
 use Rattle.counting.specs.Test.{allBelow, anyBelow}
 use Rattle.desk_job.specs.declared.Job.{Job}
 use Rattle.desk_record.specs.declared.Desk.{Desk}
-use Rattle.desk_job.specs.Jobs.{emptyJob, noJob, isFree, isTaken, isGood}
+use Rattle.desk_job.specs.Jobs.{emptyJob, noJob, isFree, isTaken, isSoundJob}
 
 -- "the desk with t 0 and all slots free [..]; every field of a slot that is free in it is zero"
 unfoldable pub freshDesk : Desk
@@ -32,9 +32,9 @@ slotOf handle = handle % 8
 unfoldable pub isIssued : ℕ → ℕ → Bool
 isIssued t u = leb 1 u && leb u t
 
--- slot s is free, or taken by a good job with "a handle 8u+s with u from 1 to t"
+-- slot s is free, or taken by a good job whose figures are those worked from its marks, with "a handle 8u+s with u from 1 to t"
 unfoldable pub isSoundSlot : ℕ → ℕ → Job → Bool
-isSoundSlot t s job = isFree job || isTaken job && isGood job && eqb (slotOf (job .handle)) s && isIssued t (issueOf (job .handle))
+isSoundSlot t s job = isFree job || isTaken job && isSoundJob job && eqb (slotOf (job .handle)) s && isIssued t (issueOf (job .handle))
 
 -- the job is taken under the issue number u
 unfoldable pub hasIssue : ℕ → Job → Bool
@@ -45,7 +45,7 @@ unfoldable pub isTwice : Desk → ℕ → Bool
 isTwice desk s = isTaken (jobAt desk s) && anyBelow s (λ r. hasIssue (issueOf (jobAt desk s .handle)) (jobAt desk r))
 
 -- "A desk is sound if t is at most 65,535 and each taken slot s holds a good shape, its n marks of 0 or 1 with excess at most 2,
--- and a handle 8u+s with u from 1 to t, no u twice."
+-- and a handle 8u+s with u from 1 to t, no u twice." Where stored figures differ from "those worked from the marks [..] a desk [..] is not sound".
 unfoldable pub isSound : Desk → Bool
 isSound desk =
     leb (desk .t) 65535

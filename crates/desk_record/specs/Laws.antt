@@ -11,7 +11,8 @@ use Rattle.counting.specs.Test.{anyBelow}
 use Rattle.counting.specs.TestLaws.{all-at, all-intro, any-intro}
 use Rattle.desk_job.specs.declared.Job.{Job}
 use Rattle.desk_record.specs.declared.Desk.{Desk}
-use Rattle.desk_job.specs.Jobs.{isFree, isTaken, isGood}
+use Rattle.desk_job.specs.Jobs.{isFree, isTaken, isGood, hasFigures, isSoundJob}
+use Rattle.desk_job.specs.JobLaws.{sound-job-iff}
 use Rattle.desk_record.specs.Desks.{issueOf, slotOf, isIssued, jobAt, isSoundSlot, isTwice, isSound, isOpen}
 
 pub holds : {b : Bool} → b ≡ true → T b
@@ -61,19 +62,21 @@ module _ (desk : Desk) where
 -- a taken slot of a sound desk
 pub record Taken (t s : ℕ) (job : Job) : Type 0 where
   pub good : isGood job ≡ true
+  pub figures : hasFigures job ≡ true
   pub place : slotOf (job .handle) ≡ s
   pub issue : isIssued t (issueOf (job .handle)) ≡ true
 
 module _ (t s : ℕ) (job : Job) where
   -- what soundness asks of a taken slot
   abbrev pub isFit : Bool
-  isFit = isTaken job && isGood job && eqb (slotOf (job .handle)) s && isIssued t (issueOf (job .handle))
+  isFit = isTaken job && isSoundJob job && eqb (slotOf (job .handle)) s && isIssued t (issueOf (job .handle))
 
   fit-taken : isFit ≡ true → Taken t s job
   fit-taken e =
-      let p = and-eq-true-iff (isTaken job && isGood job && eqb (slotOf (job .handle)) s) (isIssued t (issueOf (job .handle))) .0 e in
-      let q = and-eq-true-iff (isTaken job && isGood job) (eqb (slotOf (job .handle)) s) .0 (p .0) in
-      record { good = and-eq-true-iff (isTaken job) (isGood job) .0 (q .0) .1; place = eqb-true (slotOf (job .handle)) s (q .1); issue = p .1 }
+      let p = and-eq-true-iff (isTaken job && isSoundJob job && eqb (slotOf (job .handle)) s) (isIssued t (issueOf (job .handle))) .0 e in
+      let q = and-eq-true-iff (isTaken job && isSoundJob job) (eqb (slotOf (job .handle)) s) .0 (p .0) in
+      let g = sound-job-iff job .0 (and-eq-true-iff (isTaken job) (isSoundJob job) .0 (q .0) .1) in
+      record { good = g .0; figures = g .1; place = eqb-true (slotOf (job .handle)) s (q .1); issue = p .1 }
 
   pub taken-of : isSoundSlot t s job ≡ true → isTaken job ≡ true → Taken t s job
   unfolding isSoundSlot

@@ -32,7 +32,7 @@ fn is_issued(t: u64, u: u64) -> bool
     u <= t
 }
 
-// Whether slot s is free, or taken by a good job with a handle 8u+s, u from 1 to t.
+// Whether slot s is free, or taken by a sound job with a handle 8u+s, u from 1 to t.
 fn is_sound_slot(t: u64, s: usize, job: Job) -> bool
     ensures { λ r. ⌜ r ≡ isSoundSlot t s job ⌝ }
 {
@@ -42,7 +42,7 @@ fn is_sound_slot(t: u64, s: usize, job: Job) -> bool
     if job.taken != 1 {
         return false;
     }
-    if !desk_job::is_good(job) {
+    if !desk_job::is_sound_job(job) {
         return false;
     }
     if job.handle % 8 != s as u64 {

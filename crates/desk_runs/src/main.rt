@@ -1,4 +1,5 @@
-// A desk in use: handles that are open, closed or never issued, a full desk, the ends of its counts, and a record that is not sound.
+// A desk in use: handles that are open, closed or never issued, a full desk, the ends of its counts, losses that change while a job is open, and
+// records that are not sound.
 use desk_record::Desk;
 use libc::STDOUT_FILENO;
 
@@ -72,6 +73,35 @@ fn read(d: Desk, handle: u64) {
     }
 }
 
+fn lose(d: Desk, handle: u64, place: usize) -> Desk {
+    let after = desk_change::lose(d, handle, place);
+    let answer = after.answer;
+    done(answer);
+    after.desk
+}
+
+fn find(d: Desk, handle: u64, place: usize) -> Desk {
+    let after = desk_change::find(d, handle, place);
+    let answer = after.answer;
+    done(answer);
+    after.desk
+}
+
+fn byte(x: u8, end: &[u8]) {
+    number(x as u64, end);
+}
+
+// The bytes of a word of six places.
+fn show(word: [u8; 6]) {
+    io::write_all(STDOUT_FILENO, b"word ");
+    byte(word[0], b" ");
+    byte(word[1], b" ");
+    byte(word[2], b" ");
+    byte(word[3], b" ");
+    byte(word[4], b" ");
+    byte(word[5], b"\n");
+}
+
 // Handles 0, 7 and a closed one are refused 12. A word whose second group, numbered 1, breaks its own equation is refused 9 with 1.
 fn handles() {
     let mut word = [255, 255, 255, 78, 206, 128];
@@ -124,8 +154,76 @@ fn ends() {
     read(h, 8);
 }
 
+// A word whose last byte is wrong is refused 9 while no place is lost, and mended by the same job once that place is lost.
+fn before_and_after() {
+    let mut word = [1, 1, 0, 78, 206, 129];
+    let a = close(open(desk_record::fresh()), 8);
+    let after = desk_open::open(a, 2, 3, 1, &[0; 6]);
+    let b = serve(after.desk, 16, &mut word);
+    let c = lose(b, 16, 5);
+    let d = serve(c, 16, &mut word);
+    show(word);
+    read(d, 16);
+}
+
+// The numbers in their order: 12, then 25, then 8. What is lost already is lost again at excess 2, and what is present is found.
+fn refusals() {
+    let a = open(desk_record::fresh());
+    let b = lose(lose(a, 16, 6), 8, 6);
+    let c = find(find(b, 7, 0), 8, 18446744073709551615);
+    let d = lose(lose(c, 8, 0), 8, 2);
+    let e = find(d, 8, 3);
+    let f = lose(lose(e, 8, 3), 8, 4);
+    read(lose(f, 8, 4), 8);
+}
+
+// After a lose refused 8 the job still counts that place as present: a serve with another byte there gives a wrong word, and nothing shows it.
+// Another place is found first, and then the lose is done and the word is the right one.
+fn refused_loss() {
+    let mut garbage = [255, 255, 255, 255, 207, 128];
+    let mut word = [1, 255, 255, 255, 207, 128];
+    let a = lose(lose(open(desk_record::fresh()), 8, 3), 8, 4);
+    let b = serve(a, 8, &mut garbage);
+    show(garbage);
+    let c = lose(find(b, 8, 0), 8, 4);
+    let d = serve(c, 8, &mut word);
+    show(word);
+    read(d, 8);
+}
+
+// Reads on a desk with these figures in its first job.
+fn with_figures(count: u8, past: u8, excess: u8) {
+    let d = open(desk_record::fresh());
+    let mut job = d.jobs[0];
+    job.lost[0] = count;
+    job.lost[14] = past;
+    job.excess = excess;
+    let mut row = d.jobs;
+    row[0] = job;
+    read(Desk { t: 1, jobs: row }, 8);
+}
+
+// Figures that are not those worked from the marks: 31. In a free slot they don't matter.
+fn figures() {
+    with_figures(3, 0, 2);
+    with_figures(2, 0, 2);
+    with_figures(3, 1, 2);
+    with_figures(3, 0, 1);
+    let d = open(desk_record::fresh());
+    let mut free = d.jobs[7];
+    free.lost[3] = 1;
+    free.excess = 9;
+    let mut row = d.jobs;
+    row[7] = free;
+    read(Desk { t: 1, jobs: row }, 8);
+}
+
 fn main() {
     handles();
     full();
     ends();
+    before_and_after();
+    refusals();
+    refused_loss();
+    figures();
 }

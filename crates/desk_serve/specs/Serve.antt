@@ -32,7 +32,7 @@ jobNumber job word =
 unfoldable pub serveNumber : ℕ → List ℕ → Desk → ℕ
 serveNumber handle word desk = handleRefusal handle desk orElse jobNumber (jobAt desk (slotOf handle)) word
 
--- "adds one to the job's served count"; its marks stay
+-- "adds one to the job's served count"; its marks and figures stay
 abbrev pub servedOnce : Job → Job
 servedOnce job = record {
   taken = job .taken;
@@ -42,6 +42,8 @@ servedOnce job = record {
   served = job .served + 1;
   handle = job .handle;
   marks = job .marks;
+  lost = job .lost;
+  excess = job .excess;
 }
 
 -- "A 9 now carries a group number"; with any other number it is 0

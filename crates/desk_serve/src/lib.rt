@@ -35,12 +35,13 @@ fn serve_job(job: Job, word: &mut [u8]) -> Mending
     recover::recover(m, w, c, word, &mut marks[..n])
 }
 
-// The job with one more word served; its marks stay.
+// The job with one more word served; its marks and figures stay.
 fn served_once(job: Job) -> Job
     requires { ⌜ ¬ (job .served ≡ 4294967295) ⌝ }
     ensures { λ r. ⌜ r ≡ servedOnce job ⌝ }
 {
     let marks = job.marks;
+    let lost = job.lost;
     Job {
         taken: job.taken,
         m: job.m,
@@ -49,6 +50,8 @@ fn served_once(job: Job) -> Job
         served: job.served + 1,
         handle: job.handle,
         marks: marks,
+        lost: lost,
+        excess: job.excess,
     }
 }
 

@@ -203,6 +203,26 @@ pub last-byte : outcomeList (recoverOf 2 3 1 (1 ∷ 1 ∷ 0 ∷ 78 ∷ 206 ∷ 1
     ≡ 9 ∷ 1 ∷ 1 ∷ 1 ∷ 0 ∷ 78 ∷ 206 ∷ 129 ∷ 0 ∷ 0 ∷ 0 ∷ 0 ∷ 0 ∷ 0 ∷ []
 last-byte = ap outcomeList last-outcome
 
+-- the same word with its last place lost: recovered. So "two equal words may get different numbers" before and after a lose of that place
+lastLost : List ℕ
+lastLost = 0 ∷ 0 ∷ 0 ∷ 0 ∷ 0 ∷ 1 ∷ []
+
+lost-called : called lastChanged lastLost 0
+unfolding called lastChanged lastLost recoverRefusalIn wordRefusalIn marksRefusalIn shapeRefusalIn areMarks excess lostIn totalBelow
+lost-called = (refl, refl)
+
+lost-agrees : Agrees bytes 2 3 1 lastLost lastChanged secondWord
+unfolding lastChanged lastLost secondWord
+lost-agrees = record { codeword = second-codeword; agree = agree 6 lastLost secondWord lastChanged tt }
+
+pub last-lost : outcomeList (recoverOf 2 3 1 (1 ∷ 1 ∷ 0 ∷ 78 ∷ 206 ∷ 129 ∷ []) (0 ∷ 0 ∷ 0 ∷ 0 ∷ 0 ∷ 1 ∷ []))
+    ≡ 0 ∷ 0 ∷ 1 ∷ 1 ∷ 0 ∷ 78 ∷ 206 ∷ 128 ∷ 0 ∷ 0 ∷ 0 ∷ 0 ∷ 0 ∷ 0 ∷ []
+unfolding called lastChanged lastLost secondWord
+last-lost =
+    let e = lost-called .1 in
+    ap outcomeList
+    (service-done 2 3 1 lastChanged lastLost (accepted 2 3 1 lastChanged lastLost 0 (lost-called .0) refl) (small lastChanged tt) secondWord (omega arith) lost-agrees)
+
 -- nothing lost, the bytes of the second group 0: each group meets its own equation and the equations across fail
 secondZero : List ℕ
 secondZero = 1 ∷ 1 ∷ 0 ∷ 0 ∷ 0 ∷ 0 ∷ []

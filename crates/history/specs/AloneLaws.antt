@@ -1,5 +1,5 @@
--- Laws: "On a sound desk, serve, read and close on one handle depend on that job alone (and the word lent), whatever is done to other jobs.
--- Open also depends on t and on which slots are taken."
+-- Laws: "On a sound desk, serve, read and close on one handle depend on that job alone (and the word lent), whatever is done to other jobs."
+-- Lose and find on it depend on that job alone too (and the place). "Open also depends on t and on which slots are taken."
 use mathlib.Core.Path.{_≡_, refl, sym, ap, _∙_, subst}
 use mathlib.Core.Bool.{true, not, cond}
 use mathlib.Core.List.{List, [], _∷_}
@@ -19,6 +19,7 @@ use Rattle.desk_close.specs.Read.{readBy, readOf}
 use Rattle.desk_close.specs.Close.{closeBy, closeOf}
 use Rattle.desk_record.specs.Refusal.{handleRefusal}
 use Rattle.desk_serve.specs.Serve.{recoveryOf, jobNumber, serveNumber, groupOfNine, serveBy, serveOf, servedOnce}
+use Rattle.desk_change.specs.Change.{changed, placeNumber, changeNumber, changeBy, changeOf}
 use Rattle.history.specs.Effects.{holdsHandle}
 use Rattle.history.specs.EffectsLaws.{slot-below, handle-refusal}
 use Rattle.history.specs.Alone.{Alike, OpenAlike}
@@ -67,6 +68,28 @@ module _ (h : ℕ) (word : List ℕ) (d e : Desk) (size-d : length (d .jobs) ≡
   close-jobs zero = same-put emptyJob emptyJob refl
   close-jobs (suc r) = same
 
+  module _ (mark place : ℕ) where
+    same-change : changeNumber mark h place d ≡ changeNumber mark h place e
+    unfolding changeNumber
+    same-change =
+        ap (λ r. r orElse placeNumber mark place (jobAt d (slotOf h))) same-refusal ∙ ap (λ j. handleRefusal h e orElse placeNumber mark place j) same
+
+    change-numbers : (r : ℕ) → changeBy r mark h place d .number ≡ changeBy r mark h place e .number
+    change-numbers zero = refl
+    change-numbers (suc r) = refl
+
+    change-jobs : (r : ℕ) → jobAt (changeBy r mark h place d .desk) (slotOf h) ≡ jobAt (changeBy r mark h place e .desk) (slotOf h)
+    change-jobs zero = same-put (changed mark place (jobAt d (slotOf h))) (changed mark place (jobAt e (slotOf h))) (ap (changed mark place) same)
+    change-jobs (suc r) = same
+
+    change-number : changeOf mark h place d .number ≡ changeOf mark h place e .number
+    unfolding changeOf
+    change-number = ap (λ r. changeBy r mark h place d .number) same-change ∙ change-numbers (changeNumber mark h place e)
+
+    change-job : jobAt (changeOf mark h place d .desk) (slotOf h) ≡ jobAt (changeOf mark h place e .desk) (slotOf h)
+    unfolding changeOf
+    change-job = ap (λ r. jobAt (changeBy r mark h place d .desk) (slotOf h)) same-change ∙ change-jobs (changeNumber mark h place e)
+
   -- sound desks with the same job in the slot that a handle names, whatever else they hold
   pub alone : Alike h word d e
   unfolding serveOf readOf closeOf
@@ -78,6 +101,10 @@ module _ (h : ℕ) (word : List ℕ) (d e : Desk) (size-d : length (d .jobs) ≡
     read = ap (λ r. readBy r h d) same-refusal ∙ reads (handleRefusal h e);
     close-number = ap (λ r. closeBy r h d .number) same-refusal ∙ close-numbers (handleRefusal h e);
     close-job = ap (λ r. jobAt (closeBy r h d .desk) (slotOf h)) same-refusal ∙ close-jobs (handleRefusal h e);
+    lose-number = change-number 1;
+    lose-job = change-job 1;
+    find-number = change-number 0;
+    find-job = change-job 0;
   }
 
 free-same : (x y : List Job) (i : ℕ) → length x ≡ length y → ((s : ℕ) → s < length x → isTaken (getD x s noJob) ≡ isTaken (getD y s noJob))
@@ -142,6 +169,23 @@ unfolding serveOf
 serve-count h word desk = go (serveNumber h word desk)
   where
     go : (r : ℕ) → serveBy r h word desk .desk .t ≡ desk .t
+    go zero = refl
+    go (suc r) = refl
+
+-- of Lose by mark 1, of Find by mark 0
+pub change-leaves : (mark h place : ℕ) (desk : Desk) (s : ℕ) → (s ≡ slotOf h → ⊥) → jobAt (changeOf mark h place desk .desk) s ≡ jobAt desk s
+unfolding changeOf
+change-leaves mark h place desk s n = go (changeNumber mark h place desk)
+  where
+    go : (r : ℕ) → jobAt (changeBy r mark h place desk .desk) s ≡ jobAt desk s
+    go zero = getD-set-other (desk .jobs) (slotOf h) s (changed mark place (jobAt desk (slotOf h))) noJob n
+    go (suc r) = refl
+
+pub change-count : (mark h place : ℕ) (desk : Desk) → changeOf mark h place desk .desk .t ≡ desk .t
+unfolding changeOf
+change-count mark h place desk = go (changeNumber mark h place desk)
+  where
+    go : (r : ℕ) → changeBy r mark h place desk .desk .t ≡ desk .t
     go zero = refl
     go (suc r) = refl
 

@@ -1,4 +1,4 @@
--- What an accepted Open, Serve or Close does to a sound desk: it stays sound, and which handles are open then.
+-- What an accepted Open, Serve, Close, Lose or Find does to a sound desk: it stays sound, and which handles are open then.
 use mathlib.Core.Path.{_≡_}
 use mathlib.Core.Bool.{Bool, true, false, _&&_}
 use mathlib.Core.List.{List}
@@ -9,7 +9,7 @@ use Rattle.judge.specs.Answer.{judgedNumberOf}
 use Rattle.desk_job.specs.declared.Job.{Job}
 use Rattle.desk_record.specs.declared.Desk.{Desk}
 use Rattle.desk_job.specs.Jobs.{emptyJob, noJob, isTaken}
-use Rattle.desk_record.specs.Desks.{jobAt, slotOf, isOpen}
+use Rattle.desk_record.specs.Desks.{jobAt, slotOf, isSoundSlot, isOpen}
 use Rattle.desk_open.specs.Open.{freeFrom, freeSlot, newHandle, newJob}
 use Rattle.desk_serve.specs.Serve.{servedOnce}
 use Rattle.desk_record.specs.Laws.{Sound}
@@ -41,5 +41,15 @@ module _ (desk : Desk) (size : length (desk .jobs) ≡ 8) (S : Sound desk) (H : 
   abbrev pub closed : Desk
   closed = put desk (desk .t) (slotOf H) emptyJob
 
+  -- another job in the slot of an open handle
+  abbrev pub replaced : Job → Desk
+  replaced job = put desk (desk .t) (slotOf H) job
+
   abbrev pub served : Desk
-  served = put desk (desk .t) (slotOf H) (servedOnce (jobAt desk (slotOf H)))
+  served = replaced (servedOnce (jobAt desk (slotOf H)))
+
+  -- a sound job under the same taken byte and handle: what Serve, Lose and Find put there
+  pub record SameKey (job : Job) : Type 0 where
+    pub taken : job .taken ≡ jobAt desk (slotOf H) .taken
+    pub handle : job .handle ≡ jobAt desk (slotOf H) .handle
+    pub slot : isSoundSlot (desk .t) (slotOf H) job ≡ true

@@ -1,4 +1,4 @@
--- Laws: What an accepted Open, Serve or Close does to a sound desk: it stays sound, and which handles are open then.
+-- Laws: What an accepted Open, Serve, Close, Lose or Find does to a sound desk: it stays sound, and which handles are open then.
 use mathlib.Core.Path.{_≡_, refl, sym, ap, _∙_, subst}
 use mathlib.Core.Bool.{Bool, true, false, not, _&&_, _||_, and-true, or-false, true≢false, cond}
 use mathlib.Core.List.{List, [], _∷_}
@@ -16,17 +16,19 @@ use Rattle.judge.specs.Answer.{judgedNumberOf}
 use Rattle.desk_job.specs.declared.Job.{Job}
 use Rattle.desk_record.specs.declared.Desk.{Desk}
 use Rattle.desk_record.specs.Desks.{freshDesk, jobAt, issueOf, slotOf, isIssued, isSoundSlot, isSound, isOpen}
-use Rattle.desk_job.specs.Jobs.{emptyJob, noJob, isFree, isTaken, isGood}
+use Rattle.desk_job.specs.Jobs.{emptyJob, noJob, isFree, isTaken, isGood, hasFigures, isSoundJob}
 use Rattle.desk_record.specs.Refusal.{handleRefusal}
 use Rattle.desk_open.specs.Open.{freeFrom, freeSlot, newJob}
 use Rattle.desk_serve.specs.Serve.{servedOnce}
 use Rattle.desk_record.specs.Laws.{Sound, sound-parts, false-of, taken-of, open-slot}
-use Rattle.desk_job.specs.JobLaws.{judged-marked}
+use Rattle.desk_job.specs.JobLaws.{judged-marked, figures-iff, sound-job-iff}
+use Rattle.desk_change.specs.Change.{changed, placeNumber}
+use Rattle.desk_change.specs.ChangeLaws.{changed-sound}
 use Rattle.history.specs.Put.{put}
 use Rattle.history.specs.PutLaws.{and-of, and-to, slot-of-free, slot-of-taken, issued-of, issued-to, unique-of, once-of, put-same, put-other}
 use Rattle.history.specs.PutLaws.{sound-put}
 use Rattle.history.specs.Meaning.{HeldIn}
-use Rattle.history.specs.Effects.{holdsHandle, Spot, H, job, opened, closed, served}
+use Rattle.history.specs.Effects.{holdsHandle, Spot, H, job, opened, closed, replaced, served, SameKey}
 
 pub bool-same : (a b : Bool) → (a ≡ true → b ≡ true) → (b ≡ true → a ≡ true) → a ≡ b
 bool-same true b f g = sym (f refl)
@@ -127,6 +129,11 @@ unfolding isGood newJob
 new-good m w c marks h e =
     eq-eqb _ 0 (ap (judgedNumberOf m w c) (take-at marks (replicate (240 - length marks) 0) (m * w) (judged-marked m w c marks e .size)) ∙ e)
 
+-- and its figures are worked from its marks
+pub new-figures : (m w c : ℕ) (marks : List ℕ) (h : ℕ) → hasFigures (newJob m w c marks h) ≡ true
+unfolding newJob
+new-figures m w c marks h = figures-iff (newJob m w c marks h) .1 (refl, refl)
+
 module _ (m w c : ℕ) (marks : List ℕ) (desk : Desk) (size : length (desk .jobs) ≡ 8) (S : Sound desk)
     (judged : judgedNumberOf m w c marks ≡ 0) (early : desk .t < 65535) (room : freeSlot desk < 8) where
   pub new-slot : slotOf (H m w c marks desk size S judged early room) ≡ freeSlot desk
@@ -148,6 +155,7 @@ module _ (m w c : ℕ) (marks : List ℕ) (desk : Desk) (size : length (desk .jo
       sound-put desk size (desk .t + 1) (freeSlot desk) room (job m w c marks desk size S judged early room) S (omega arith) (omega arith)
       (slot-of-taken (desk .t + 1) (freeSlot desk) (job m w c marks desk size S judged early room) job-taken (record {
         good = new-good m w c marks (H m w c marks desk size S judged early room) judged;
+        figures = new-figures m w c marks (H m w c marks desk size S judged early room);
         place = ap slotOf job-handle ∙ new-slot;
         issue = issued-to (desk .t + 1) (issueOf (job m w c marks desk size S judged early room .handle)) (rw (job-handle, new-issue) (omega arith)) (rw (job-handle, new-issue) (omega arith));
       }))
@@ -200,7 +208,7 @@ handle-done h desk s o = ap (λ b. refuse 31 (not b) orElse refuse 12 (not (isOp
 
 -- one word more served changes nothing that soundness asks
 served-slot : (t s : ℕ) (job : Job) → isSoundSlot t s (servedOnce job) ≡ isSoundSlot t s job
-unfolding isSoundSlot isGood
+unfolding isSoundSlot isSoundJob isGood hasFigures
 served-slot t s job = refl
 
 module _ (desk : Desk) (size : length (desk .jobs) ≡ 8) (S : Sound desk) (H : ℕ) (o : isOpen desk H ≡ true) where
@@ -227,23 +235,63 @@ module _ (desk : Desk) (size : length (desk .jobs) ≡ 8) (S : Sound desk) (H : 
   pub other-job : (t : ℕ) (job : Job) (h : ℕ) → isOpen desk h ≡ true → (h ≡ H → ⊥) → jobAt (put desk t (slotOf H) job) (slotOf h) ≡ jobAt desk (slotOf h)
   other-job t job h p n = put-other desk size t (slotOf H) (slot-below H) job (slotOf h) (λ e. n (one-slot desk h H p o e))
 
+  module _ (job : Job) (K : SameKey desk size S H o job) where
+    same-taken : isTaken job ≡ isTaken (jobAt desk (slotOf H))
+    same-taken = ap (λ x. eqb x 1) (K .taken)
+
+    -- a sound job put under the same taken byte and handle keeps the desk sound, and the same handles open
+    pub replaced-sound : Sound (replaced desk size S H o job)
+    replaced-sound =
+        sound-put desk size (desk .t) (slotOf H) (slot-below H) job S (le-refl (desk .t)) (S .few) (K .slot)
+        (λ r k n a b e.
+        let a′ = sym same-taken ∙ a in
+        let e′ = e ∙ ap issueOf (K .handle) in
+        elim (decLt r (slotOf H)) [
+          | yes l ↦ unique-of desk S r (slotOf H) l (slot-below H) b a′ e′
+          | no l ↦ (let g : slotOf H < r = omega arith in unique-of desk S (slotOf H) r g k a′ b (sym e′))
+        ])
+
+    pub replaced-open : (h : ℕ) → isOpen (replaced desk size S H o job) h ≡ isOpen desk h
+    replaced-open h = elim (ℕ-discrete (slotOf h) (slotOf H)) [
+      | yes e ↦
+          open-here desk size S (desk .t) (slotOf H) (slot-below H) job replaced-sound h e
+          ∙ ap (λ b. b && eqb (job .handle) h) same-taken
+          ∙ ap (λ x. isTaken (jobAt desk (slotOf H)) && eqb x h) (K .handle)
+          ∙ ap (λ s. holdsHandle (jobAt desk s) h) (sym e)
+          ∙ sym (open-by-slot desk S h)
+      | no n ↦ open-there desk size S (desk .t) (slotOf H) (slot-below H) job replaced-sound h n
+    ]
+
+  pub replaced-job : (job : Job) → jobAt (replaced desk size S H o job) (slotOf H) ≡ job
+  replaced-job job = put-same desk size (desk .t) (slotOf H) (slot-below H) job
+
+  -- Serve
+  pub served-key : SameKey desk size S H o (servedOnce (jobAt desk (slotOf H)))
+  served-key = record {
+    taken = refl;
+    handle = refl;
+    slot = served-slot (desk .t) (slotOf H) (jobAt desk (slotOf H)) ∙ S .slots (slotOf H) (slot-below H);
+  }
+
   pub served-sound : Sound (served desk size S H o)
-  served-sound =
-      sound-put desk size (desk .t) (slotOf H) (slot-below H) (servedOnce (jobAt desk (slotOf H))) S (le-refl (desk .t)) (S .few)
-      (served-slot (desk .t) (slotOf H) (jobAt desk (slotOf H)) ∙ S .slots (slotOf H) (slot-below H))
-      (λ r k n a b e. elim (decLt r (slotOf H)) [
-        | yes l ↦ unique-of desk S r (slotOf H) l (slot-below H) b a e
-        | no l ↦ (let g : slotOf H < r = omega arith in unique-of desk S (slotOf H) r g k a b (sym e))
-      ])
+  served-sound = replaced-sound (servedOnce (jobAt desk (slotOf H))) served-key
 
   pub served-open : (h : ℕ) → isOpen (served desk size S H o) h ≡ isOpen desk h
-  served-open h = elim (ℕ-discrete (slotOf h) (slotOf H)) [
-    | yes e ↦
-        open-here desk size S (desk .t) (slotOf H) (slot-below H) (servedOnce (jobAt desk (slotOf H))) served-sound h e
-        ∙ ap (λ s. holdsHandle (jobAt desk s) h) (sym e)
-        ∙ sym (open-by-slot desk S h)
-    | no n ↦ open-there desk size S (desk .t) (slotOf H) (slot-below H) (servedOnce (jobAt desk (slotOf H))) served-sound h n
-  ]
+  served-open = replaced-open (servedOnce (jobAt desk (slotOf H))) served-key
 
   pub served-job : jobAt (served desk size S H o) (slotOf H) ≡ servedOnce (jobAt desk (slotOf H))
-  served-job = put-same desk size (desk .t) (slotOf H) (slot-below H) (servedOnce (jobAt desk (slotOf H)))
+  served-job = replaced-job (servedOnce (jobAt desk (slotOf H)))
+
+  -- Lose and Find: a place below n is marked 0 or 1, and the excess stays at most 2
+  pub changed-key : (mark place : ℕ) → mark < 2 → placeNumber mark place (jobAt desk (slotOf H)) ≡ 0
+      → SameKey desk size S H o (changed mark place (jobAt desk (slotOf H)))
+  changed-key mark place l e =
+      let j = jobAt desk (slotOf H) in
+      let k = open-held desk H o .taken in
+      let T = taken-of (desk .t) (slotOf H) j (S .slots (slotOf H) (slot-below H)) k in
+      let G = sound-job-iff (changed mark place j) .0 (changed-sound mark place j l (sound-job-iff j .1 (T .good, T .figures)) e) in
+      record {
+        taken = refl;
+        handle = refl;
+        slot = slot-of-taken (desk .t) (slotOf H) (changed mark place j) k (record { good = G .0; figures = G .1; place = T .place; issue = T .issue });
+      }

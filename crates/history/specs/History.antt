@@ -1,8 +1,9 @@
 -- A desk's history: lists of calls, refused ones included, what they answer and leave, and a ledger kept from the calls and their answers alone.
-use mathlib.Core.Bool.{Bool, true, false, not, _&&_, _||_}
+use mathlib.Core.Bool.{Bool, true, false, not, _&&_, _||_, cond}
 use mathlib.Core.List.{List, [], _∷_}
 use Prim.Native.Nat.{ℕ, zero, suc, _+_}
 use lib.Dec.{eqb}
+use lib.ListN.{set}
 use Rattle.counting.specs.Count.{one}
 use Rattle.desk_record.specs.declared.Desk.{Desk}
 use Rattle.desk_record.specs.Desks.{freshDesk}
@@ -10,6 +11,7 @@ use Rattle.desk_open.specs.Open.{openOf}
 use Rattle.desk_close.specs.Read.{readOf}
 use Rattle.desk_close.specs.Close.{closeOf}
 use Rattle.desk_serve.specs.Serve.{serveOf}
+use Rattle.desk_change.specs.Change.{loseOf, findOf}
 
 -- The calls on a desk.
 pub data Call : Type 0 where
@@ -18,6 +20,8 @@ pub data Call : Type 0 where
   Serve : (handle : ℕ) → (word : List ℕ) → Call
   Read : (handle : ℕ) → Call
   Close : (handle : ℕ) → Call
+  Lose : (handle : ℕ) → (place : ℕ) → Call
+  Find : (handle : ℕ) → (place : ℕ) → Call
 
 -- What a call answers: a number, 0 for done, and a value: Open's handle, Read's served count, the group that a Serve's 9 carries, else 0; and the desk then.
 pub record Step : Type 0 where
@@ -40,6 +44,8 @@ step (Serve handle word) desk = record {
 }
 step (Read handle) desk = record { number = (readOf handle desk) .number; value = (readOf handle desk) .served; desk = desk }
 step (Close handle) desk = record { number = (closeOf handle desk) .number; value = 0; desk = (closeOf handle desk) .desk }
+step (Lose handle place) desk = record { number = (loseOf handle place desk) .number; value = 0; desk = (loseOf handle place desk) .desk }
+step (Find handle place) desk = record { number = (findOf handle place desk) .number; value = 0; desk = (findOf handle place desk) .desk }
 
 -- the desk after a list of calls, the first first
 unfoldable pub after : Desk → List Call → Desk
@@ -61,15 +67,51 @@ unfoldable pub answers : Desk → List Call → List Answered
 answers desk [] = []
 answers desk (call ∷ calls) = record { call = call; number = step call desk .number; value = step call desk .value } ∷ answers (step call desk .desk) calls
 
--- What the caller writes down: the handles issued, those closed, and the handle of each serve answered 0; the last first.
+-- A handle, and the shape and the marks of its job from then on.
+pub record Pattern : Type 0 where
+  pub handle : ℕ
+  pub m : ℕ
+  pub w : ℕ
+  pub c : ℕ
+  pub marks : List ℕ
+
+-- What the caller writes down: the handles issued, those closed, the handle of each serve answered 0, and the shape and the marks of each
+-- handle: those of its opening, and after each lose or find answered 0 the marks changed by it; the last first.
 pub record Ledger : Type 0 where
   pub issued : List ℕ
   pub closed : List ℕ
   pub serves : List ℕ
+  pub patterns : List Pattern
 
 -- Fresh "starts a new desk, so what was issued before it doesn't count"
 abbrev pub emptyLedger : Ledger
-emptyLedger = record { issued = []; closed = []; serves = [] }
+emptyLedger = record { issued = []; closed = []; serves = []; patterns = [] }
+
+-- of a handle that was never noted
+abbrev pub noPattern : Pattern
+noPattern = record { handle = 0; m = 0; w = 0; c = 0; marks = [] }
+
+-- what was last noted of a handle
+unfoldable pub patternIn : ℕ → List Pattern → Pattern
+patternIn h [] = noPattern
+patternIn h (p ∷ ps) = cond (eqb h (p .handle)) p (patternIn h ps)
+
+-- the shape of a handle's opening, and its marks: those of its opening, changed by the loses and finds answered 0 since
+abbrev pub patternOf : Ledger → ℕ → Pattern
+patternOf ledger h = patternIn h (ledger .patterns)
+
+-- a pattern with the mark of one place set
+abbrev pub withMark : ℕ → ℕ → Pattern → Pattern
+withMark mark place p = record { handle = p .handle; m = p .m; w = p .w; c = p .c; marks = set (p .marks) place mark }
+
+-- a lose or find answered 0: the mark of that place is set
+abbrev pub noteMark : ℕ → ℕ → ℕ → Ledger → Ledger
+noteMark mark handle place ledger = record {
+  issued = ledger .issued;
+  closed = ledger .closed;
+  serves = ledger .serves;
+  patterns = withMark mark place (patternOf ledger handle) ∷ ledger .patterns;
+}
 
 -- the first where the number is 0
 abbrev pub ifDone : ℕ → Ledger → Ledger → Ledger
@@ -80,12 +122,19 @@ ifDone (suc r) a b = b
 abbrev pub noteBy : Call → ℕ → ℕ → Ledger → Ledger
 noteBy Fresh number value ledger = emptyLedger
 noteBy (Open m w c marks) number value ledger =
-    ifDone number (record { issued = value ∷ ledger .issued; closed = ledger .closed; serves = ledger .serves }) ledger
+    ifDone number (record {
+      issued = value ∷ ledger .issued;
+      closed = ledger .closed;
+      serves = ledger .serves;
+      patterns = record { handle = value; m = m; w = w; c = c; marks = marks } ∷ ledger .patterns;
+    }) ledger
 noteBy (Serve handle word) number value ledger =
-    ifDone number (record { issued = ledger .issued; closed = ledger .closed; serves = handle ∷ ledger .serves }) ledger
+    ifDone number (record { issued = ledger .issued; closed = ledger .closed; serves = handle ∷ ledger .serves; patterns = ledger .patterns }) ledger
 noteBy (Read handle) number value ledger = ledger
 noteBy (Close handle) number value ledger =
-    ifDone number (record { issued = ledger .issued; closed = handle ∷ ledger .closed; serves = ledger .serves }) ledger
+    ifDone number (record { issued = ledger .issued; closed = handle ∷ ledger .closed; serves = ledger .serves; patterns = ledger .patterns }) ledger
+noteBy (Lose handle place) number value ledger = ifDone number (noteMark 1 handle place ledger) ledger
+noteBy (Find handle place) number value ledger = ifDone number (noteMark 0 handle place ledger) ledger
 
 -- the ledger after one more answer: no desk is looked at
 abbrev pub note : Answered → Ledger → Ledger

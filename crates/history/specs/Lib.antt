@@ -18,3 +18,4 @@ pub mod SavedLaws
 pub mod Meaning
 pub mod MeaningLaws
 pub mod NumberLaws
+pub mod ChangeLaws

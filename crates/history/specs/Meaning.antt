@@ -1,14 +1,14 @@
--- Soundness, open handles, what Open, Close and Serve leave, that a refusal leaves everything as it was, and the numbers that calls give, in the
--- paper's words. The proofs stand in MeaningLaws and NumberLaws.
+-- Soundness, open handles, what Open, Close, Serve, Lose and Find leave, that a refusal leaves everything as it was, and the numbers that calls
+-- give, in the papers' words. The proofs stand in MeaningLaws, NumberLaws and ChangeLaws.
 use mathlib.Core.Path.{_≡_}
 use mathlib.Core.Logic.{_↔_, _⊎_}
 use mathlib.Core.Bool.{true}
 use mathlib.Core.List.{List}
 use Prim.Native.Nat.{ℕ, _+_, _*_, _<_, _≤_}
-use lib.ListN.{length, getD}
+use lib.ListN.{length, getD, set}
 use Rattle.shape.specs.Shapes.{Good, placeCount}
 use Rattle.byte_edition.specs.Edition.{bytes}
-use Rattle.code.specs.Marks.{excess}
+use Rattle.code.specs.Marks.{lostIn, excess}
 use Rattle.code.specs.Contradiction.{contradictingGroup}
 use Rattle.code.specs.Recovery.{Agrees}
 use Rattle.recover.specs.DemandTwo.{Named}
@@ -20,6 +20,7 @@ use Rattle.desk_record.specs.Desks.{jobAt}
 use Rattle.desk_open.specs.Open.{Opening, newJob, openOf}
 use Rattle.desk_close.specs.Close.{Closing, closeOf}
 use Rattle.desk_serve.specs.Serve.{Serving, servedOnce, serveOf}
+use Rattle.desk_change.specs.Change.{changed, Changing, loseOf, findOf}
 
 -- ---- soundness
 
@@ -27,12 +28,17 @@ use Rattle.desk_serve.specs.Serve.{Serving, servedOnce, serveOf}
 abbrev pub TakenAt : Desk → ℕ → Type 0
 TakenAt desk s = isTaken (jobAt desk s) ≡ true
 
--- slot s "holds a good shape, its n marks of 0 or 1 with excess at most 2, and a handle 8u+s with u from 1 to t"
+-- slot s "holds a good shape, its n marks of 0 or 1 with excess at most 2, and a handle 8u+s with u from 1 to t"; its "stored figures equal those
+-- worked from the marks [..], counts past group m−1 being 0"
 pub record Holds (t s : ℕ) (job : Job) : Type 0 where
   pub shape : Good (job .m) (job .w) (job .c)
   pub size : length (marksOf job) ≡ placeCount (job .m) (job .w)
   pub each : (p : ℕ) → p < placeCount (job .m) (job .w) → getD (job .marks) p 0 ≤ 1
   pub losses : excess (job .m) (job .w) (job .c) (marksOf job) ≤ 2
+  pub fifteen : length (job .lost) ≡ 15
+  pub counts : (g : ℕ) → g < job .m → getD (job .lost) g 0 ≡ lostIn (job .w) (marksOf job) g
+  pub past : (g : ℕ) → job .m ≤ g → g < 15 → getD (job .lost) g 0 ≡ 0
+  pub excess-is : job .excess ≡ excess (job .m) (job .w) (job .c) (marksOf job)
   pub issue : ℕ
   pub handle-is : job .handle ≡ 8 * issue + s
   pub first : 1 ≤ issue
@@ -144,6 +150,54 @@ pub record Serves (handle : ℕ) (word : List ℕ) (desk : Desk) (o : Serving) :
   pub job : jobAt (o .desk) slot ≡ servedOnce (jobAt desk slot)
   pub others : (r : ℕ) → ¬ (r ≡ slot) → jobAt (o .desk) r ≡ jobAt desk r
 
+-- ---- Lose by mark 1, Find by mark 0
+
+-- of a job: "25 place is n or more"; 8 for a change "that would bring excess above 2", the excess of its marks with that one set; else it is done
+pub record PlaceNumbers (mark place : ℕ) (job : Job) (number : ℕ) : Type 0 where
+  pub past : (number ≡ 25) ↔ (placeCount (job .m) (job .w) ≤ place)
+  pub eight : (number ≡ 8) ↔ ((place < placeCount (job .m) (job .w)) × (2 < excess (job .m) (job .w) (job .c) (set (marksOf job) place mark)))
+  pub done : (number ≡ 0) ↔ ((place < placeCount (job .m) (job .w)) × (excess (job .m) (job .w) (job .c) (set (marksOf job) place mark) ≤ 2))
+
+-- "25 place is n or more, after 12 and before 8", and 31 before all others
+pub record ChangeNumbers (mark handle place : ℕ) (desk : Desk) (number : ℕ) : Type 0 where
+  pub one-of : (number ≡ 0) ⊎ (number ≡ 31) ⊎ (number ≡ 12) ⊎ (number ≡ 25) ⊎ (number ≡ 8)
+  pub unsound : (number ≡ 31) ↔ ¬ SoundDesk desk
+  pub shut : (number ≡ 12) ↔ (SoundDesk desk × ¬ IsHeld desk handle)
+  -- by the job in the slot that holds the handle
+  pub of-job : (s : ℕ) → SoundDesk desk → HeldIn desk handle s → PlaceNumbers mark place (jobAt desk s) number
+
+-- every other field of a job, and every other mark, those past n too, is as it was
+pub record OneMark (mark place : ℕ) (before after : Job) : Type 0 where
+  pub taken : after .taken ≡ before .taken
+  pub groups : after .m ≡ before .m
+  pub width : after .w ≡ before .w
+  pub checks : after .c ≡ before .c
+  pub served : after .served ≡ before .served
+  pub handle : after .handle ≡ before .handle
+  pub size : length (after .marks) ≡ length (before .marks)
+  pub mark-is : getD (after .marks) place 0 ≡ mark
+  pub marks : (p : ℕ) → ¬ (p ≡ place) → getD (after .marks) p 0 ≡ getD (before .marks) p 0
+
+-- "A lose or find that is done sets that place's mark and these figures, and changes nothing else on the desk."
+pub record Changes (mark handle place : ℕ) (desk : Desk) (o : Changing) : Type 0 where
+  pub slot : ℕ
+  pub held : HeldIn desk handle slot
+  -- t and every other slot
+  pub count : o .desk .t ≡ desk .t
+  pub others : (r : ℕ) → ¬ (r ≡ slot) → jobAt (o .desk) r ≡ jobAt desk r
+  pub job : jobAt (o .desk) slot ≡ changed mark place (jobAt desk slot)
+  pub one-mark : OneMark mark place (jobAt desk slot) (jobAt (o .desk) slot)
+  -- and the figures are those worked from the marks then
+  pub sound : SoundDesk (o .desk)
+
+-- "one already in the wanted state is done and changes nothing": also at excess 2
+pub record Already (mark handle place : ℕ) (desk : Desk) : Type 0 where
+  pub slot : ℕ
+  pub sound : SoundDesk desk
+  pub held : HeldIn desk handle slot
+  pub below : place < placeCount (jobAt desk slot .m) (jobAt desk slot .w)
+  pub wanted : getD (jobAt desk slot .marks) place 0 ≡ mark
+
 -- ---- refusals
 
 -- "On every refusal all lent buffers and the desk stay as they were." Read leaves no desk.
@@ -152,3 +206,5 @@ pub record KeptIfRefused (desk : Desk) : Type 0 where
   pub by-serve : (handle : ℕ) (word : List ℕ) → ¬ ((serveOf handle word desk) .number ≡ 0) → (serveOf handle word desk) .desk ≡ desk
   pub word-by-serve : (handle : ℕ) (word : List ℕ) → ¬ ((serveOf handle word desk) .number ≡ 0) → (serveOf handle word desk) .word ≡ word
   pub by-close : (handle : ℕ) → ¬ ((closeOf handle desk) .number ≡ 0) → (closeOf handle desk) .desk ≡ desk
+  pub by-lose : (handle place : ℕ) → ¬ ((loseOf handle place desk) .number ≡ 0) → (loseOf handle place desk) .desk ≡ desk
+  pub by-find : (handle place : ℕ) → ¬ ((findOf handle place desk) .number ≡ 0) → (findOf handle place desk) .desk ≡ desk

@@ -1,25 +1,25 @@
 -- The tests on a desk say what Meaning says: soundness, open handles, the lowest free slot.
-use mathlib.Core.Path.{_≡_, refl, sym, _∙_, subst}
+use mathlib.Core.Path.{_≡_, refl, sym, ap, _∙_, subst}
 use mathlib.Core.Logic.{_↔_, inl, inr, _⊎_}
 use mathlib.Core.Bool.{true, false, true≢false}
 use mathlib.Core.List.{List}
 use Prim.Native.Nat.{ℕ, _+_, _*_, _≤_, _<_}
+use native.Mathlib.Nat.{le-trans}
 use native.Mathlib.Omega.{arith}
 use native.Mathlib.Decide.{ℕ-discrete, decLt}
 use borrow.Author.Tests.{eqb-true, eq-eqb}
 use lib.ListN.{length, getD, List·getD-eq-default}
-use lib.Seq.{getD-take}
+use lib.Seq.{getD-take, ext-getD}
 use Rattle.code.specs.Marks.{excess}
-use Rattle.marks.specs.Refusal.{Marked}
-use Rattle.marks.specs.RefusalLaws.{marks-of-good}
-use Rattle.judge.specs.Answer.{judgedNumberOf}
-use Rattle.judge.specs.Laws.{zero-excess}
+use Rattle.code.specs.DeterminedLaws.{list-length, list-at}
 use Rattle.desk_job.specs.declared.Job.{Job}
 use Rattle.desk_record.specs.declared.Desk.{Desk}
 use Rattle.desk_record.specs.Desks.{jobAt, issueOf, slotOf, isSoundSlot, isSound, isOpen}
-use Rattle.desk_job.specs.Jobs.{isFree, isTaken, marksOf, isGood}
+use Rattle.desk_job.specs.Figures.{lostCount, lostCounts}
+use Rattle.desk_job.specs.FiguresLaws.{count-group, count-past}
+use Rattle.desk_job.specs.Jobs.{isFree, isTaken, marksOf}
 use Rattle.desk_open.specs.Open.{freeSlot, newHandle, newJob, openNumber, openBy, openOf}
-use Rattle.desk_job.specs.JobLaws.{judged-marked}
+use Rattle.desk_job.specs.JobLaws.{good-iff, figures-iff}
 use Rattle.desk_record.specs.Laws.{Sound, sound-parts, sound-of, Taken, taken-of}
 use Rattle.desk_open.specs.OpenLaws.{free-most, open-parts}
 use Rattle.history.specs.Put.{Unique}
@@ -29,18 +29,6 @@ use Rattle.history.specs.PutLaws.{and-to}
 use Rattle.history.specs.Meaning.{TakenAt, Holds, SoundDesk, HeldIn, IsHeld, LowestFree, Opens, AllTaken}
 
 -- ---- soundness
-
--- "a good shape, its n marks of 0 or 1 with excess at most 2"
-pub good-iff : (job : Job) → (isGood job ≡ true) ↔ (Marked (job .m) (job .w) (job .c) (marksOf job) × (excess (job .m) (job .w) (job .c) (marksOf job) ≤ 2))
-unfolding isGood
-good-iff job = (
-  λ e.
-      let z = eqb-true (judgedNumberOf (job .m) (job .w) (job .c) (marksOf job)) 0 e in
-      let M = judged-marked (job .m) (job .w) (job .c) (marksOf job) z in
-      (M, zero-excess (job .m) (job .w) (job .c) (marksOf job) (marks-of-good (job .m) (job .w) (job .c) (marksOf job) M) .0 z),
-  λ p. eq-eqb (judgedNumberOf (job .m) (job .w) (job .c) (marksOf job)) 0
-      (zero-excess (job .m) (job .w) (job .c) (marksOf job) (marks-of-good (job .m) (job .w) (job .c) (marksOf job) (p .0)) .1 (p .1)),
-)
 
 module _ (t s : ℕ) (l : s < 8) (job : Job) where
   taken-holds : Taken t s job → Holds t s job
@@ -53,17 +41,39 @@ module _ (t s : ℕ) (l : s < 8) (job : Job) where
         size = G .0 .size;
         each = λ p k. let h = G .0 .each p in let e = getD-take (job .m * job .w) (job .marks) p 0 k in omega arith;
         losses = G .1;
+        fifteen = ap length (C .0) ∙ list-length 15 (lostCount (job .m) (job .w) (marksOf job));
+        counts = λ g h. count-at g (le-trans h (G .0 .good .few)) ∙ count-group (job .m) (job .w) (marksOf job) g h;
+        past = λ g h k. count-at g k ∙ count-past (job .m) (job .w) (marksOf job) g h;
+        excess-is = C .1;
         issue = issueOf (job .handle);
         handle-is = omega arith;
         first = i .0;
         last = i .1;
       }
+    where
+      C : (job .lost ≡ lostCounts (job .m) (job .w) (marksOf job)) × (job .excess ≡ excess (job .m) (job .w) (job .c) (marksOf job))
+      C = figures-iff job .0 (T .figures)
+
+      count-at : (g : ℕ) → g < 15 → getD (job .lost) g 0 ≡ lostCount (job .m) (job .w) (marksOf job) g
+      count-at g k = ap (λ x. getD x g 0) (C .0) ∙ list-at 15 (lostCount (job .m) (job .w) (marksOf job)) g k
 
   each-mark : Holds t s job → (p : ℕ) → getD (marksOf job) p 0 < 2
   each-mark H p = elim (decLt p (job .m * job .w)) [
     | yes k ↦ (let h = H .each p k in let e = getD-take (job .m * job .w) (job .marks) p 0 k in omega arith)
     | no k ↦ (let z = H .size in let n : length (marksOf job) ≤ p = omega arith in let e = List·getD-eq-default (marksOf job) 0 n in omega arith)
   ]
+
+  counts-are : Holds t s job → job .lost ≡ lostCounts (job .m) (job .w) (marksOf job)
+  counts-are H =
+      ext-getD 0 (job .lost) (lostCounts (job .m) (job .w) (marksOf job)) (H .fifteen ∙ sym (list-length 15 (lostCount (job .m) (job .w) (marksOf job)))) λ g k.
+      let f = H .fifteen in
+      let b : g < 15 = omega arith in
+      elim (decLt g (job .m)) [
+        | yes h ↦ H .counts g h ∙ sym (count-group (job .m) (job .w) (marksOf job) g h) ∙ sym (list-at 15 (lostCount (job .m) (job .w) (marksOf job)) g b)
+        | no h ↦ (
+            let p : job .m ≤ g = omega arith in
+            H .past g p b ∙ sym (count-past (job .m) (job .w) (marksOf job) g p) ∙ sym (list-at 15 (lostCount (job .m) (job .w) (marksOf job)) g b))
+      ]
 
   holds-taken : Holds t s job → Taken t s job
   holds-taken H =
@@ -73,6 +83,7 @@ module _ (t s : ℕ) (l : s < 8) (job : Job) where
       let b = H .last in
       record {
         good = good-iff job .1 (record { good = H .shape; size = H .size; each = each-mark H }, H .losses);
+        figures = figures-iff job .1 (counts-are H, H .excess-is);
         place = omega arith;
         issue = issued-to t (issueOf (job .handle)) (omega arith) (omega arith);
       }

@@ -38,27 +38,30 @@ use Rattle.desk_serve.specs.Serve.{recoveryOf, jobNumber}
 use Rattle.desk_open.specs.Open.{Opening}
 use Rattle.desk_close.specs.Close.{Closing}
 use Rattle.desk_serve.specs.Serve.{Serving, servedOnce, serveNumber, serveBy, serveOf}
+use Rattle.desk_change.specs.Change.{Changing, changeNumber, changeBy, changeOf}
+use Rattle.desk_change.specs.ChangeLaws.{change-refused}
 use Rattle.desk_open.specs.OpenLaws.{open-refused}
 use Rattle.desk_close.specs.CloseLaws.{close-refused}
 use Rattle.desk_serve.specs.ServeLaws.{serve-refused}
+use Rattle.desk_job.specs.JobLaws.{good-iff}
 use Rattle.desk_record.specs.RefusalLaws.{open-good}
 use Rattle.desk_serve.specs.ServeLaws.{job-length, job-end, job-recovery}
 use Rattle.history.specs.PutLaws.{put-same, put-other}
 use Rattle.history.specs.EffectsLaws.{slot-below, open-held, handle-parts}
 use Rattle.history.specs.Meaning.{SoundDesk, IsHeld, AllTaken, OpenNumbers, HandleNumbers, AgreesBy, groupBy, JobNumbers, ServeNumbers}
 use Rattle.history.specs.Meaning.{Closes, Serves, KeptIfRefused}
-use Rattle.history.specs.MeaningLaws.{good-iff, sound-iff, held-slot, open-iff, full-iff}
+use Rattle.history.specs.MeaningLaws.{sound-iff, held-slot, open-iff, full-iff}
 
 -- ---- Read and Close
 
 -- the three cases of a call with a handle
-data HandleCase (handle : ℕ) (desk : Desk) (number : ℕ) : Type 0 where
+pub data HandleCase (handle : ℕ) (desk : Desk) (number : ℕ) : Type 0 where
   not-sound : ¬ SoundDesk desk → number ≡ 31 → HandleCase handle desk number
   not-open : SoundDesk desk → ¬ IsHeld desk handle → number ≡ 12 → HandleCase handle desk number
   is-open : SoundDesk desk → IsHeld desk handle → number ≡ 0 → HandleCase handle desk number
 
 module _ (handle : ℕ) (desk : Desk) where
-  handle-case : HandleCase handle desk (handleRefusal handle desk)
+  pub handle-case : HandleCase handle desk (handleRefusal handle desk)
   unfolding handleRefusal
   handle-case = go (isSound desk) (isOpen desk handle) refl refl
     where
@@ -429,10 +432,14 @@ module _ (m w c : ℕ) (marks : List ℕ) (desk : Desk) where
 
 -- ---- refusals
 
+pub change-number : (mark handle place : ℕ) (desk : Desk) (r : ℕ) → (changeBy r mark handle place desk) .number ≡ r
+change-number mark handle place desk zero = refl
+change-number mark handle place desk (suc r) = refl
+
 module _ (desk : Desk) where
   -- a refusal leaves the desk, and Serve's word, as they were
   pub kept-if-refused : KeptIfRefused desk
-  unfolding openOf serveOf closeOf
+  unfolding openOf serveOf closeOf changeOf
   kept-if-refused = record {
     by-open = λ m w c marks n.
         let r = openNumber m w c marks desk in
@@ -446,4 +453,10 @@ module _ (desk : Desk) where
     by-close = λ handle n.
         let r = handleRefusal handle desk in
         ap (λ (o : Closing). o .desk) (close-refused r (λ z. n (close-number handle desk r ∙ z)) handle desk);
+    by-lose = λ handle place n.
+        let r = changeNumber 1 handle place desk in
+        ap (λ (o : Changing). o .desk) (change-refused r (λ z. n (change-number 1 handle place desk r ∙ z)) 1 handle place desk);
+    by-find = λ handle place n.
+        let r = changeNumber 0 handle place desk in
+        ap (λ (o : Changing). o .desk) (change-refused r (λ z. n (change-number 0 handle place desk r ∙ z)) 0 handle place desk);
   }

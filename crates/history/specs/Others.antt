@@ -7,15 +7,17 @@ use lib.Dec.{eqb}
 use Rattle.desk_record.specs.declared.Desk.{Desk}
 use Rattle.desk_record.specs.Desks.{jobAt, slotOf, isOpen}
 use Rattle.desk_open.specs.Open.{newJob}
-use Rattle.history.specs.History.{Call, Fresh, Open, Serve, Read, Close}
+use Rattle.history.specs.History.{Call, Fresh, Open, Serve, Read, Close, Lose, Find}
 
--- a call that neither starts a new desk nor serves or closes this handle
+-- a call that neither starts a new desk nor serves, changes or closes this handle
 unfoldable pub isOther : ℕ → Call → Bool
 isOther h Fresh = false
 isOther h (Open m w c marks) = true
 isOther h (Serve g word) = not (eqb h g)
 isOther h (Read g) = true
 isOther h (Close g) = not (eqb h g)
+isOther h (Lose g place) = not (eqb h g)
+isOther h (Find g place) = not (eqb h g)
 
 unfoldable pub areOthers : ℕ → List Call → Bool
 areOthers h [] = true

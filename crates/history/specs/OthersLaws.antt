@@ -14,14 +14,15 @@ use Rattle.desk_record.specs.Refusal.{handleRefusal}
 use Rattle.desk_open.specs.Open.{openNumber, openBy, openOf, newHandle}
 use Rattle.desk_close.specs.Close.{closeBy, closeOf}
 use Rattle.desk_serve.specs.Serve.{serveNumber, serveBy, serveOf, servedOnce}
+use Rattle.desk_change.specs.Change.{changed, changeNumber, changeBy, changeOf}
 use Rattle.desk_record.specs.Laws.{sound-parts, sound-of}
 use Rattle.desk_open.specs.OpenLaws.{open-parts}
-use Rattle.history.specs.History.{Call, Fresh, Open, Serve, Read, Close, step, after}
+use Rattle.history.specs.History.{Call, Fresh, Open, Serve, Read, Close, Lose, Find, step, after}
 use Rattle.history.specs.PutLaws.{and-of}
 use Rattle.history.specs.Effects.{holdsHandle}
 use Rattle.history.specs.EffectsLaws.{open-by-slot, opened-open, opened-new, opened-job, other-job, handle-parts}
 use Rattle.history.specs.Sound.{Fit}
-use Rattle.history.specs.SoundLaws.{serve-parts, fit-step, fit-all}
+use Rattle.history.specs.SoundLaws.{serve-parts, change-parts, fit-step, fit-all}
 use Rattle.history.specs.Alone.{Alike}
 use Rattle.history.specs.AloneLaws.{alone}
 use Rattle.history.specs.Others.{isOther, areOthers, Given}
@@ -47,13 +48,21 @@ module _ (h : ℕ) (desk : Desk) (F : Fit desk) (o : isOpen desk h ≡ true) whe
   close-other g n zero e = other-job desk (F .size) (F .sound) g (handle-parts g desk e .1) (desk .t) emptyJob h o n
   close-other g n (suc r) e = refl
 
+  pub change-other : (mark g place : ℕ) → (h ≡ g → ⊥) → (r : ℕ) → changeNumber mark g place desk ≡ r
+      → jobAt (changeBy r mark g place desk .desk) (slotOf h) ≡ jobAt desk (slotOf h)
+  change-other mark g place n zero e =
+      other-job desk (F .size) (F .sound) g (change-parts mark g place desk e .0) (desk .t) (changed mark place (jobAt desk (slotOf g))) h o n
+  change-other mark g place n (suc r) e = refl
+
   other-step : (call : Call) → isOther h call ≡ true → jobAt (step call desk .desk) (slotOf h) ≡ jobAt desk (slotOf h)
-  unfolding isOther step openOf serveOf closeOf
+  unfolding isOther step openOf serveOf closeOf changeOf
   other-step Fresh e = absurd (true≢false (sym e))
   other-step (Open m w c marks) e = open-other m w c marks (openNumber m w c marks desk) refl
   other-step (Serve g word) e = serve-other g word (other-than h g e) (serveNumber g word desk) refl
   other-step (Read g) e = refl
   other-step (Close g) e = close-other g (other-than h g e) (handleRefusal g desk) refl
+  other-step (Lose g place) e = change-other 1 g place (other-than h g e) (changeNumber 1 g place desk) refl
+  other-step (Find g place) e = change-other 0 g place (other-than h g e) (changeNumber 0 g place desk) refl
 
   still-open : (call : Call) → isOther h call ≡ true → isOpen (step call desk .desk) h ≡ true
   still-open call e =
@@ -71,7 +80,7 @@ others h (call ∷ calls) desk F o e =
     let q = others h calls (step call desk .desk) (fit-step desk F call) (still-open h desk F o call (p .0)) (p .1) in
     (q .0, q .1 ∙ other-step h desk F o call (p .0))
 
--- serve, read and close on an open handle answer after such calls as before them
+-- serve, read, close, lose and find on an open handle answer after such calls as before them
 pub unmoved : (h : ℕ) (word : List ℕ) (calls : List Call) (desk : Desk) → length (desk .jobs) ≡ 8 → isSound desk ≡ true → isOpen desk h ≡ true
     → areOthers h calls ≡ true → Alike h word (after desk calls) desk
 unmoved h word calls desk size s o e =

@@ -15,7 +15,8 @@ use Rattle.counting.specs.Test.{anyBelow}
 use Rattle.counting.specs.TestLaws.{any-at}
 use Rattle.desk_job.specs.declared.Job.{Job}
 use Rattle.desk_record.specs.declared.Desk.{Desk}
-use Rattle.desk_job.specs.Jobs.{noJob, isFree, isTaken, isGood}
+use Rattle.desk_job.specs.Jobs.{noJob, isFree, isTaken, isSoundJob}
+use Rattle.desk_job.specs.JobLaws.{sound-job-iff}
 use Rattle.desk_record.specs.Desks.{jobAt, issueOf, slotOf, isIssued, isSoundSlot, hasIssue, isTwice}
 use Rattle.desk_record.specs.Laws.{Sound, holds, false-of, any-true, Taken, isFit, taken-of}
 use Rattle.history.specs.Put.{Unique, put, Apart}
@@ -34,9 +35,9 @@ module _ (t s : ℕ) (job : Job) where
   pub slot-of-taken : isTaken job ≡ true → Taken t s job → isSoundSlot t s job ≡ true
   unfolding isSoundSlot
   slot-of-taken k T =
-      let e : isFit t s job ≡ true = and-to (isTaken job && isGood job && eqb (slotOf (job .handle)) s) (isIssued t (issueOf (job .handle)))
-      (and-to (isTaken job && isGood job) (eqb (slotOf (job .handle)) s)
-      (and-to (isTaken job) (isGood job) k (T .good)) (eq-eqb _ _ (T .place))) (T .issue) in
+      let e : isFit t s job ≡ true = and-to (isTaken job && isSoundJob job && eqb (slotOf (job .handle)) s) (isIssued t (issueOf (job .handle)))
+      (and-to (isTaken job && isSoundJob job) (eqb (slotOf (job .handle)) s)
+      (and-to (isTaken job) (isSoundJob job) k (sound-job-iff job .1 (T .good, T .figures))) (eq-eqb _ _ (T .place))) (T .issue) in
       ap (λ b. isFree job || b) e ∙ or-true (isFree job)
 
   pub free-or-taken : isSoundSlot t s job ≡ true → (isFree job ≡ true) ⊎ (isTaken job ≡ true)
@@ -45,8 +46,8 @@ module _ (t s : ℕ) (job : Job) where
     where
       go : (b : Bool) → isFree job ≡ b → b || isFit t s job ≡ true → (isFree job ≡ true) ⊎ (isTaken job ≡ true)
       go true f e = inl f
-      go false f e = inr (and-of (isTaken job) (isGood job) (and-of (isTaken job && isGood job) (eqb (slotOf (job .handle)) s)
-          (and-of (isTaken job && isGood job && eqb (slotOf (job .handle)) s) (isIssued t (issueOf (job .handle))) e .0) .0) .0)
+      go false f e = inr (and-of (isTaken job) (isSoundJob job) (and-of (isTaken job && isSoundJob job) (eqb (slotOf (job .handle)) s)
+          (and-of (isTaken job && isSoundJob job && eqb (slotOf (job .handle)) s) (isIssued t (issueOf (job .handle))) e .0) .0) .0)
 
 -- an issue number from 1 to t
 pub issued-of : (t u : ℕ) → isIssued t u ≡ true → (1 ≤ u) × (u ≤ t)
@@ -66,7 +67,7 @@ slot-later t t′ s job h e = go (free-or-taken t s job e)
     go (inr k) =
         let T = taken-of t s job e k in
         let i = issued-of t (issueOf (job .handle)) (T .issue) in
-        slot-of-taken t′ s job k (record { good = T .good; place = T .place; issue = issued-to t′ _ (i .0) (le-trans (i .1) h) })
+        slot-of-taken t′ s job k (record { good = T .good; figures = T .figures; place = T .place; issue = issued-to t′ _ (i .0) (le-trans (i .1) h) })
 
 module _ (desk : Desk) where
   pub unique-of : Sound desk → Unique desk

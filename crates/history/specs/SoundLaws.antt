@@ -2,7 +2,8 @@
 use mathlib.Core.Path.{_≡_, refl, ap}
 use mathlib.Core.Bool.{true, false, not}
 use mathlib.Core.List.{List, [], _∷_}
-use Prim.Native.Nat.{ℕ, zero, suc, _+_}
+use Prim.Native.Nat.{ℕ, zero, suc, _+_, _<_}
+use native.Mathlib.Omega.{arith}
 use lib.Dec.{eqb}
 use Rattle.desk_record.specs.declared.Desk.{Desk}
 use Rattle.desk_job.specs.Jobs.{emptyJob}
@@ -13,13 +14,15 @@ use Rattle.desk_close.specs.Read.{readBy, readOf}
 use Rattle.desk_close.specs.Close.{closeBy, closeOf}
 use Rattle.desk_serve.specs.Serve.{jobNumber, serveNumber}
 use Rattle.desk_serve.specs.Serve.{serveBy, serveOf, servedOnce}
+use Rattle.desk_change.specs.Change.{changed, placeNumber, changeNumber, changeBy, changeOf}
 use Rattle.desk_open.specs.OpenLaws.{open-parts}
 use Rattle.shape.specs.Refusals.{refuse, _orElse_}
 use Rattle.shape.specs.RefusalsLaws.{orElse-zero}
 use Rattle.judge.specs.Answer.{judgedNumberOf}
-use Rattle.history.specs.History.{Call, Fresh, Open, Serve, Read, Close, step, after}
+use Rattle.history.specs.History.{Call, Fresh, Open, Serve, Read, Close, Lose, Find, Step, step, after}
 use Rattle.history.specs.PutLaws.{put-size}
 use Rattle.history.specs.EffectsLaws.{slot-below, fresh-size, fresh-sound, opened-sound, handle-parts, closed-sound, served-sound}
+use Rattle.history.specs.EffectsLaws.{replaced-sound, changed-key}
 use Rattle.history.specs.Sound.{Fit, refused31}
 
 -- a serve answered 0 is on an open handle
@@ -29,6 +32,18 @@ unfolding serveNumber
 serve-parts H word desk e =
     let p = orElse-zero (handleRefusal H desk) (jobNumber (jobAt desk (slotOf H)) word) e in
     (handle-parts H desk (p .0) .1, p .1)
+
+-- and so is a lose or find, of a place that its job takes
+pub change-parts : (mark H place : ℕ) (desk : Desk) → changeNumber mark H place desk ≡ 0
+    → (isOpen desk H ≡ true) × (placeNumber mark place (jobAt desk (slotOf H)) ≡ 0)
+unfolding changeNumber
+change-parts mark H place desk e =
+    let p = orElse-zero (handleRefusal H desk) (placeNumber mark place (jobAt desk (slotOf H))) e in
+    (handle-parts H desk (p .0) .1, p .1)
+
+pub change-handle : (mark H place : ℕ) (desk : Desk) → changeNumber mark H place desk ≡ 0 → handleRefusal H desk ≡ 0
+unfolding changeNumber
+change-handle mark H place desk e = orElse-zero (handleRefusal H desk) (placeNumber mark place (jobAt desk (slotOf H))) e .0
 
 module _ (desk : Desk) (F : Fit desk) where
   open-fit : (m w c : ℕ) (marks : List ℕ) (r : ℕ) → openNumber m w c marks desk ≡ r → Fit (openBy r m w c marks desk .desk)
@@ -54,13 +69,25 @@ module _ (desk : Desk) (F : Fit desk) where
   }
   close-fit H (suc r) e = F
 
+  pub change-fit : (mark H place : ℕ) → mark < 2 → (r : ℕ) → changeNumber mark H place desk ≡ r → Fit (changeBy r mark H place desk .desk)
+  change-fit mark H place l zero e =
+      let P = change-parts mark H place desk e in
+      let j = changed mark place (jobAt desk (slotOf H)) in
+      record {
+        size = put-size desk (F .size) (desk .t) (slotOf H) (slot-below H) j;
+        sound = replaced-sound desk (F .size) (F .sound) H (P .0) j (changed-key desk (F .size) (F .sound) H (P .0) mark place l (P .1));
+      }
+  change-fit mark H place l (suc r) e = F
+
   pub fit-step : (call : Call) → Fit (step call desk .desk)
-  unfolding step openOf serveOf closeOf
+  unfolding step openOf serveOf closeOf changeOf
   fit-step Fresh = record { size = fresh-size; sound = fresh-sound }
   fit-step (Open m w c marks) = open-fit m w c marks (openNumber m w c marks desk) refl
   fit-step (Serve H word) = serve-fit H word (serveNumber H word desk) refl
   fit-step (Read H) = F
   fit-step (Close H) = close-fit H (handleRefusal H desk) refl
+  fit-step (Lose H place) = change-fit 1 H place (omega arith) (changeNumber 1 H place desk) refl
+  fit-step (Find H place) = change-fit 0 H place (omega arith) (changeNumber 0 H place desk) refl
 
 pub fit-all : (calls : List Call) (desk : Desk) → Fit desk → Fit (after desk calls)
 unfolding after
@@ -99,3 +126,21 @@ module _ (desk : Desk) (e : isSound desk ≡ false) where
   pub unsound-close : (h : ℕ) → step (Close h) desk ≡ refused31 desk
   unfolding step closeOf
   unsound-close h = ap (λ r. record { number = closeBy r h desk .number; value = 0; desk = closeBy r h desk .desk }) (handle-31 h)
+
+  change-31 : (mark h place : ℕ) → changeNumber mark h place desk ≡ 31
+  unfolding changeNumber
+  change-31 mark h place = ap (λ r. r orElse placeNumber mark place (jobAt desk (slotOf h))) (handle-31 h)
+
+  unsound-change : (mark h place : ℕ)
+      → _≡_ {A = Step} (record { number = (changeOf mark h place desk) .number; value = 0; desk = (changeOf mark h place desk) .desk }) (refused31 desk)
+  unfolding changeOf
+  unsound-change mark h place =
+      ap (λ r. record { number = changeBy r mark h place desk .number; value = 0; desk = changeBy r mark h place desk .desk }) (change-31 mark h place)
+
+  pub unsound-lose : (h place : ℕ) → step (Lose h place) desk ≡ refused31 desk
+  unfolding step
+  unsound-lose h place = unsound-change 1 h place
+
+  pub unsound-find : (h place : ℕ) → step (Find h place) desk ≡ refused31 desk
+  unfolding step
+  unsound-find h place = unsound-change 0 h place

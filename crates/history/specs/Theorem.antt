@@ -1,6 +1,7 @@
 -- On a desk grown from fresh by any list of calls, refused ones included, the desk and the ledger agree.
 use mathlib.Core.Path.{_≡_}
 use mathlib.Core.Bool.{true, false, not}
+use mathlib.Core.List.{List}
 use Prim.Native.Nat.{ℕ, _<_, _≤_}
 use lib.ListN.{length}
 use Rattle.shape.specs.Refusals.{refuse}
@@ -8,11 +9,21 @@ use Rattle.desk_record.specs.declared.Desk.{Desk}
 use Rattle.desk_record.specs.Desks.{jobAt, issueOf, slotOf, isSound, isOpen}
 use Rattle.desk_record.specs.Refusal.{handleRefusal}
 use Rattle.desk_close.specs.Read.{readOf}
+use Rattle.code.specs.Marks.{excess}
+use Rattle.desk_job.specs.Figures.{lostCounts}
+use Rattle.desk_job.specs.declared.Job.{Job}
+use Rattle.desk_job.specs.Jobs.{marksOf}
+use Rattle.recover.specs.Service.{recoverOf}
+use Rattle.desk_serve.specs.Serve.{recoveryOf}
 use Rattle.desk_record.specs.Laws.{Sound}
-use Rattle.history.specs.History.{Ledger}
-use Rattle.history.specs.History.{isIn, isDistinct, isLive, servesOf}
+use Rattle.history.specs.History.{Ledger, Pattern}
+use Rattle.history.specs.History.{isIn, isDistinct, isLive, servesOf, patternOf}
 use Rattle.history.specs.Effects.{closed}
 use Rattle.history.specs.Effects.{served}
+
+-- the shape and the n marks of a job, under its handle
+abbrev pub patternFor : ℕ → Job → Pattern
+patternFor h job = record { handle = h; m = job .m; w = job .w; c = job .c; marks = marksOf job }
 
 -- what the desk and the ledger keep
 pub record Kept (desk : Desk) (ledger : Ledger) : Type 0 where
@@ -26,6 +37,7 @@ pub record Kept (desk : Desk) (ledger : Ledger) : Type 0 where
   pub counted : (h : ℕ) → isOpen desk h ≡ true → jobAt desk (slotOf h) .served ≡ servesOf ledger h
   pub early : (h : ℕ) → isIn h (ledger .issued) ≡ false → servesOf ledger h ≡ 0
   pub most : (h : ℕ) → isOpen desk h ≡ true → jobAt desk (slotOf h) .served ≤ 4294967295
+  pub marked : (h : ℕ) → isOpen desk h ≡ true → patternFor h (jobAt desk (slotOf h)) ≡ patternOf ledger h
 
 -- What a desk and its ledger agree on.
 pub record Agrees (desk : Desk) (ledger : Ledger) : Type 0 where
@@ -49,3 +61,15 @@ pub record Agrees (desk : Desk) (ledger : Ledger) : Type 0 where
   pub before : (h : ℕ) → isIn h (ledger .issued) ≡ false → servesOf ledger h ≡ 0
   -- "at most 4,294,967,295"
   pub most : (h : ℕ) → isOpen desk h ≡ true → servesOf ledger h ≤ 4294967295
+  -- a job has the shape of its opening, and its marks are those of its opening, changed by the loses and finds answered 0 since
+  pub pattern : (h : ℕ) → isOpen desk h ≡ true → patternFor h (jobAt desk (slotOf h)) ≡ patternOf ledger h
+  -- "Serves use the marks at the time of the call"
+  pub recovery : (h : ℕ) → isOpen desk h ≡ true → (word : List ℕ)
+      → recoveryOf (jobAt desk (slotOf h)) word
+      ≡ recoverOf (patternOf ledger h .m) (patternOf ledger h .w) (patternOf ledger h .c) word (patternOf ledger h .marks)
+  -- "Stored figures always equal those worked from the marks, after open, lose and find": each group's lost count, 0 past the last group,
+  pub counts : (h : ℕ) → isOpen desk h ≡ true
+      → jobAt desk (slotOf h) .lost ≡ lostCounts (patternOf ledger h .m) (patternOf ledger h .w) (patternOf ledger h .marks)
+  -- and the excess
+  pub excess-is : (h : ℕ) → isOpen desk h ≡ true
+      → jobAt desk (slotOf h) .excess ≡ excess (patternOf ledger h .m) (patternOf ledger h .w) (patternOf ledger h .c) (patternOf ledger h .marks)

@@ -1,37 +1,48 @@
 -- Laws: On a desk grown from fresh by any list of calls, refused ones included, the desk and the ledger agree.
 use mathlib.Core.Path.{_≡_, refl, sym, ap, _∙_, subst}
-use mathlib.Core.Bool.{Bool, true, false, not, _&&_, _||_, and-true, and-false, or-true, true≢false, false≢true}
+use mathlib.Core.Bool.{Bool, true, false, not, cond, _&&_, _||_, and-true, and-false, or-true, true≢false, false≢true}
 use mathlib.Core.List.{List, [], _∷_}
-use Prim.Native.Nat.{ℕ, zero, suc, _+_, _≤_}
+use Prim.Native.Nat.{ℕ, zero, suc, _+_, _-_, _*_, _≤_, _<_}
 use native.Mathlib.Nat.{add-zero}
 use native.Mathlib.Omega.{arith}
 use native.Mathlib.Decide.{ℕ-discrete}
 use borrow.Author.Tests.{eqb-true, eqb-false, eq-eqb, ne-eqb, not-true}
 use lib.Dec.{eqb}
+use lib.ListN.{length, replicate}
+use lib.Seq.{take-at}
+use Rattle.code.specs.Marks.{excess}
+use Rattle.recover.specs.Service.{recoverOf}
 use Rattle.shape.specs.Refusals.{refuse, _orElse_}
 use Rattle.desk_record.specs.declared.Desk.{Desk}
 use Rattle.desk_record.specs.Desks.{freshDesk, jobAt, issueOf, slotOf, isOpen}
-use Rattle.desk_job.specs.Jobs.{emptyJob}
+use Rattle.desk_job.specs.declared.Job.{Job}
+use Rattle.desk_job.specs.Figures.{lostCounts}
+use Rattle.desk_job.specs.Jobs.{emptyJob, hasFigures}
+use Rattle.desk_job.specs.JobLaws.{judged-marked, figures-iff}
 use Rattle.desk_record.specs.Refusal.{handleRefusal}
 use Rattle.desk_open.specs.Open.{freeSlot, newHandle, newJob, openNumber, openBy, openOf}
 use Rattle.desk_close.specs.Read.{readBy, readOf}
 use Rattle.desk_close.specs.Close.{closeBy, closeOf}
 use Rattle.desk_serve.specs.Serve.{serveNumber, serveBy, serveOf, servedOnce}
-use Rattle.desk_record.specs.Laws.{sound-of, false-of}
+use Rattle.desk_change.specs.Change.{changed, placeNumber, changeNumber, changeBy, changeOf}
+use Rattle.desk_change.specs.ChangeLaws.{place-parts, changed-marks}
+use Rattle.desk_record.specs.Laws.{sound-of, false-of, taken-of}
 use Rattle.desk_open.specs.OpenLaws.{Openable, open-parts}
 use Rattle.desk_serve.specs.ServeLaws.{job-room}
-use Rattle.history.specs.History.{Call, Fresh, Open, Serve, Read, Close, step, after, grown, answers, Ledger, emptyLedger, noteBy, note, noted, ledgerOf}
+use Rattle.history.specs.History.{Call, Fresh, Open, Serve, Read, Close, Lose, Find, step, after, grown, answers}
+use Rattle.history.specs.History.{Ledger, emptyLedger, ifDone, noteMark, noteBy, note, noted, ledgerOf}
 use Rattle.counting.specs.Count.{one}
-use Rattle.history.specs.History.{isIn, times, isDistinct, isLive, servesOf}
-use Rattle.history.specs.SoundLaws.{serve-parts}
+use Rattle.history.specs.History.{isIn, times, isDistinct, isLive, servesOf, Pattern, patternIn, patternOf, withMark}
+use Rattle.history.specs.SoundLaws.{serve-parts, change-parts}
 use Rattle.history.specs.PutLaws.{and-of, and-to, put-size}
 use Rattle.history.specs.Effects.{holdsHandle, opened}
 use Rattle.history.specs.EffectsLaws.{slot-below, fresh-size, fresh-zero, fresh-free, fresh-sound, empty-not, open-by-slot}
 use Rattle.history.specs.Effects.{closed}
 use Rattle.history.specs.EffectsLaws.{opened-sound, opened-open, opened-new, opened-job, new-issue, handle-parts, handle-done, closed-sound}
-use Rattle.history.specs.Effects.{served}
-use Rattle.history.specs.EffectsLaws.{closed-open, other-job, served-sound, served-open, served-job}
-use Rattle.history.specs.Theorem.{Kept, Agrees}
+use Rattle.history.specs.Effects.{replaced, served, SameKey}
+use Rattle.history.specs.EffectsLaws.{closed-open, other-job, served-sound, served-open, served-job, open-held}
+use Rattle.history.specs.EffectsLaws.{replaced-sound, replaced-open, replaced-job, changed-key}
+use Rattle.history.specs.Theorem.{patternFor, Kept, Agrees}
 
 or-right : (a b : Bool) → a || b ≡ false → b ≡ false
 or-right true b e = absurd (true≢false e)
@@ -56,7 +67,17 @@ fresh-kept = record {
   counted = λ h o. absurd (true≢false (sym o ∙ fresh-shut h));
   early = λ h e. refl;
   most = λ h o. absurd (true≢false (sym o ∙ fresh-shut h));
+  marked = λ h o. absurd (true≢false (sym o ∙ fresh-shut h));
 }
+
+-- what was noted last
+noted-here : (p : Pattern) (ps : List Pattern) (g : ℕ) → g ≡ p .handle → patternIn g (p ∷ ps) ≡ p
+unfolding patternIn
+noted-here p ps g e = ap (λ b. cond b p (patternIn g ps)) (eq-eqb g (p .handle) e)
+
+noted-there : (p : Pattern) (ps : List Pattern) (g : ℕ) → (g ≡ p .handle → ⊥) → patternIn g (p ∷ ps) ≡ patternIn g ps
+unfolding patternIn
+noted-there p ps g n = ap (λ b. cond b p (patternIn g ps)) (ne-eqb g (p .handle) n)
 
 -- ---- Open
 module _ (m w c : ℕ) (marks : List ℕ) (desk : Desk) (ledger : Ledger) (K : Kept desk ledger) (P : Openable m w c marks desk) where
@@ -66,8 +87,16 @@ module _ (m w c : ℕ) (marks : List ℕ) (desk : Desk) (ledger : Ledger) (K : K
   abbrev then : Desk
   then = opened m w c marks desk (K .size) (K .sound) (P .judged) (P .early) (P .room)
 
+  abbrev newPattern : Pattern
+  newPattern = record { handle = H; m = m; w = w; c = c; marks = marks }
+
   abbrev openLedger : Ledger
-  openLedger = record { issued = H ∷ ledger .issued; closed = ledger .closed; serves = ledger .serves }
+  openLedger = record {
+    issued = H ∷ ledger .issued;
+    closed = ledger .closed;
+    serves = ledger .serves;
+    patterns = newPattern ∷ ledger .patterns;
+  }
 
   H-issue : issueOf H ≡ desk .t + 1
   H-issue = new-issue m w c marks desk (K .size) (K .sound) (P .judged) (P .early) (P .room)
@@ -112,6 +141,15 @@ module _ (m w c : ℕ) (marks : List ℕ) (desk : Desk) (ledger : Ledger) (K : K
   old-count : (h : ℕ) → isOpen desk h ≡ true → jobAt then (slotOf h) .served ≡ jobAt desk (slotOf h) .served
   old-count h o = ap (λ j. j .served) (opened-job m w c marks desk (K .size) (K .sound) (P .judged) (P .early) (P .room) h o)
 
+  new-marks : patternFor H (newJob m w c marks H) ≡ newPattern
+  unfolding newJob
+  new-marks =
+      ap (λ x. record { handle = H; m = m; w = w; c = c; marks = x })
+      (take-at marks (replicate (240 - length marks) 0) (m * w) (judged-marked m w c marks (P .judged) .size))
+
+  old-marks : (h : ℕ) → isOpen desk h ≡ true → patternFor h (jobAt then (slotOf h)) ≡ patternFor h (jobAt desk (slotOf h))
+  old-marks h o = ap (patternFor h) (opened-job m w c marks desk (K .size) (K .sound) (P .judged) (P .early) (P .room) h o)
+
   open-kept : Kept then openLedger
   unfolding isIn isDistinct
   open-kept = record {
@@ -131,6 +169,14 @@ module _ (m w c : ℕ) (marks : List ℕ) (desk : Desk) (ledger : Ledger) (K : K
       | yes e ↦ subst (λ n. n ≤ 4294967295) (sym (ap (λ x. jobAt then (slotOf x) .served) e ∙ new-count)) (omega arith)
       | no n ↦ subst (λ n. n ≤ 4294967295) (sym (old-count h (was-open h n o))) (K .most h (was-open h n o))
     ];
+    marked = λ h o. elim (ℕ-discrete h H) [
+      | yes e ↦
+          ap (λ x. patternFor x (jobAt then (slotOf x))) e
+          ∙ ap (patternFor H) (opened-new m w c marks desk (K .size) (K .sound) (P .judged) (P .early) (P .room))
+          ∙ new-marks
+          ∙ sym (noted-here newPattern (ledger .patterns) h e)
+      | no n ↦ old-marks h (was-open h n o) ∙ K .marked h (was-open h n o) ∙ sym (noted-there newPattern (ledger .patterns) h n)
+    ];
   }
 
 open-step : (m w c : ℕ) (marks : List ℕ) (desk : Desk) (ledger : Ledger) → Kept desk ledger → (r : ℕ) → openNumber m w c marks desk ≡ r
@@ -138,14 +184,14 @@ open-step : (m w c : ℕ) (marks : List ℕ) (desk : Desk) (ledger : Ledger) →
 open-step m w c marks desk ledger K zero e = open-kept m w c marks desk ledger K (open-parts m w c marks desk (K .size) e)
 open-step m w c marks desk ledger K (suc r) e = K
 
--- ---- Serve and Close
+-- ---- Serve, Close, Lose and Find
 module _ (desk : Desk) (ledger : Ledger) (K : Kept desk ledger) (H : ℕ) (o : isOpen desk H ≡ true) where
   live-parts : (isIn H (ledger .issued) ≡ true) × (not (isIn H (ledger .closed)) ≡ true)
   unfolding isLive
   live-parts = and-of (isIn H (ledger .issued)) (not (isIn H (ledger .closed))) (sym (K .live H) ∙ o)
 
   abbrev closeLedger : Ledger
-  closeLedger = record { issued = ledger .issued; closed = H ∷ ledger .closed; serves = ledger .serves }
+  closeLedger = record { issued = ledger .issued; closed = H ∷ ledger .closed; serves = ledger .serves; patterns = ledger .patterns }
 
   close-live : (h : ℕ) → isOpen (closed desk (K .size) (K .sound) H o) h ≡ isLive closeLedger h
   unfolding isLive isIn
@@ -166,11 +212,10 @@ module _ (desk : Desk) (ledger : Ledger) (K : Kept desk ledger) (H : ℕ) (o : i
   close-parts : (h : ℕ) → isOpen (closed desk (K .size) (K .sound) H o) h ≡ true → (isOpen desk h ≡ true) × (not (eqb h H) ≡ true)
   close-parts h p = and-of (isOpen desk h) (not (eqb h H)) (sym (closed-open desk (K .size) (K .sound) H o h) ∙ p)
 
-  close-job : (h : ℕ) → isOpen (closed desk (K .size) (K .sound) H o) h ≡ true
-      → jobAt (closed desk (K .size) (K .sound) H o) (slotOf h) .served ≡ jobAt desk (slotOf h) .served
+  close-job : (h : ℕ) → isOpen (closed desk (K .size) (K .sound) H o) h ≡ true → jobAt (closed desk (K .size) (K .sound) H o) (slotOf h) ≡ jobAt desk (slotOf h)
   close-job h p =
       let q = close-parts h p in
-      ap (λ j. j .served) (other-job desk (K .size) (K .sound) H o (desk .t) emptyJob h (q .0) (eqb-false h H (not-true _ (q .1))))
+      other-job desk (K .size) (K .sound) H o (desk .t) emptyJob h (q .0) (eqb-false h H (not-true _ (q .1)))
 
   close-kept : Kept (closed desk (K .size) (K .sound) H o) closeLedger
   close-kept = record {
@@ -181,13 +226,14 @@ module _ (desk : Desk) (ledger : Ledger) (K : Kept desk ledger) (H : ℕ) (o : i
     distinct = K .distinct;
     count = K .count;
     shut = close-shut;
-    counted = λ h p. close-job h p ∙ K .counted h (close-parts h p .0);
+    counted = λ h p. ap (λ j. j .served) (close-job h p) ∙ K .counted h (close-parts h p .0);
     early = K .early;
-    most = λ h p. subst (λ n. n ≤ 4294967295) (sym (close-job h p)) (K .most h (close-parts h p .0));
+    most = λ h p. subst (λ n. n ≤ 4294967295) (sym (ap (λ j. j .served) (close-job h p))) (K .most h (close-parts h p .0));
+    marked = λ h p. ap (patternFor h) (close-job h p) ∙ K .marked h (close-parts h p .0);
   }
 
   abbrev serveLedger : Ledger
-  serveLedger = record { issued = ledger .issued; closed = ledger .closed; serves = H ∷ ledger .serves }
+  serveLedger = record { issued = ledger .issued; closed = ledger .closed; serves = H ∷ ledger .serves; patterns = ledger .patterns }
 
   serve-live : (h : ℕ) → isOpen (served desk (K .size) (K .sound) H o) h ≡ isLive serveLedger h
   unfolding isLive
@@ -205,6 +251,16 @@ module _ (desk : Desk) (ledger : Ledger) (K : Kept desk ledger) (H : ℕ) (o : i
 
   serve-other : (h : ℕ) → (h ≡ H → ⊥) → isOpen desk h ≡ true → jobAt (served desk (K .size) (K .sound) H o) (slotOf h) .served ≡ jobAt desk (slotOf h) .served
   serve-other h n p = ap (λ j. j .served) (other-job desk (K .size) (K .sound) H o (desk .t) (servedOnce (jobAt desk (slotOf H))) h p n)
+
+  -- its shape and marks stay
+  serve-marks : (h : ℕ) → isOpen desk h ≡ true → patternFor h (jobAt (served desk (K .size) (K .sound) H o) (slotOf h)) ≡ patternFor h (jobAt desk (slotOf h))
+  serve-marks h p = elim (ℕ-discrete h H) [
+    | yes e ↦
+        ap (λ x. patternFor h (jobAt (served desk (K .size) (K .sound) H o) (slotOf x))) e
+        ∙ ap (patternFor h) (served-job desk (K .size) (K .sound) H o)
+        ∙ ap (λ x. patternFor h (jobAt desk (slotOf x))) (sym e)
+    | no n ↦ ap (patternFor h) (other-job desk (K .size) (K .sound) H o (desk .t) (servedOnce (jobAt desk (slotOf H))) h p n)
+  ]
 
   one-more : (h : ℕ) → h ≡ H → servesOf serveLedger h ≡ servesOf ledger h + 1
   unfolding times
@@ -235,7 +291,72 @@ module _ (desk : Desk) (ledger : Ledger) (K : Kept desk ledger) (H : ℕ) (o : i
           omega arith)
       | no n ↦ subst (λ n. n ≤ 4294967295) (sym (serve-other h n (serve-was h p))) (K .most h (serve-was h p))
     ];
+    marked = λ h p. serve-marks h (serve-was h p) ∙ K .marked h (serve-was h p);
   }
+
+  module _ (mark place : ℕ) (b : mark < 2) (e : placeNumber mark place (jobAt desk (slotOf H)) ≡ 0) where
+    abbrev changedJob : Job
+    changedJob = changed mark place (jobAt desk (slotOf H))
+
+    abbrev changedDesk : Desk
+    changedDesk = replaced desk (K .size) (K .sound) H o changedJob
+
+    key : SameKey desk (K .size) (K .sound) H o changedJob
+    key = changed-key desk (K .size) (K .sound) H o mark place b e
+
+    change-was : (h : ℕ) → isOpen changedDesk h ≡ true → isOpen desk h ≡ true
+    change-was h p = sym (replaced-open desk (K .size) (K .sound) H o changedJob key h) ∙ p
+
+    change-here : (h : ℕ) → h ≡ H → jobAt changedDesk (slotOf h) ≡ changedJob
+    change-here h q = ap (λ x. jobAt changedDesk (slotOf x)) q ∙ replaced-job desk (K .size) (K .sound) H o changedJob
+
+    change-there : (h : ℕ) → (h ≡ H → ⊥) → isOpen desk h ≡ true → jobAt changedDesk (slotOf h) ≡ jobAt desk (slotOf h)
+    change-there h n p = other-job desk (K .size) (K .sound) H o (desk .t) changedJob h p n
+
+    -- served counts stay
+    change-served : (h : ℕ) → isOpen desk h ≡ true → jobAt changedDesk (slotOf h) .served ≡ jobAt desk (slotOf h) .served
+    change-served h p = elim (ℕ-discrete h H) [
+      | yes q ↦ ap (λ j. j .served) (change-here h q) ∙ ap (λ x. jobAt desk (slotOf x) .served) (sym q)
+      | no n ↦ ap (λ j. j .served) (change-there h n p)
+    ]
+
+    abbrev noted-now : Pattern
+    noted-now = withMark mark place (patternOf ledger H)
+
+    noted-handle : H ≡ noted-now .handle
+    noted-handle = ap (λ (p : Pattern). p .handle) (K .marked H o)
+
+    change-pattern : patternFor H changedJob ≡ noted-now
+    change-pattern =
+        let j = jobAt desk (slotOf H) in
+        ap (λ x. record { handle = H; m = j .m; w = j .w; c = j .c; marks = x }) (changed-marks mark place j (place-parts mark place j e .0))
+        ∙ ap (withMark mark place) (K .marked H o)
+
+    change-kept : Kept changedDesk (noteMark mark H place ledger)
+    unfolding isLive
+    change-kept = record {
+      size = put-size desk (K .size) (desk .t) (slotOf H) (slot-below H) changedJob;
+      sound = replaced-sound desk (K .size) (K .sound) H o changedJob key;
+      live = λ h. replaced-open desk (K .size) (K .sound) H o changedJob key h ∙ K .live h;
+      numbers = K .numbers;
+      distinct = K .distinct;
+      count = K .count;
+      shut = K .shut;
+      counted = λ h p. change-served h (change-was h p) ∙ K .counted h (change-was h p);
+      early = K .early;
+      most = λ h p. subst (λ n. n ≤ 4294967295) (sym (change-served h (change-was h p))) (K .most h (change-was h p));
+      marked = λ h p. elim (ℕ-discrete h H) [
+        | yes q ↦
+            ap (λ x. patternFor x (jobAt changedDesk (slotOf h))) q
+            ∙ ap (patternFor H) (change-here h q)
+            ∙ change-pattern
+            ∙ sym (noted-here noted-now (ledger .patterns) h (q ∙ noted-handle))
+        | no n ↦
+            ap (patternFor h) (change-there h n (change-was h p))
+            ∙ K .marked h (change-was h p)
+            ∙ sym (noted-there noted-now (ledger .patterns) h (λ q. n (q ∙ sym noted-handle)))
+      ];
+    }
 
 close-step : (H : ℕ) (desk : Desk) (ledger : Ledger) → Kept desk ledger → (r : ℕ) → handleRefusal H desk ≡ r
     → Kept (closeBy r H desk .desk) (noteBy (Close H) (closeBy r H desk .number) 0 ledger)
@@ -247,15 +368,22 @@ serve-step : (H : ℕ) (word : List ℕ) (desk : Desk) (ledger : Ledger) → Kep
 serve-step H word desk ledger K zero e = let p = serve-parts H word desk e in serve-kept desk ledger K H (p .0) (job-room (jobAt desk (slotOf H)) word (p .1))
 serve-step H word desk ledger K (suc r) e = K
 
+change-step : (mark H place : ℕ) (desk : Desk) (ledger : Ledger) → mark < 2 → Kept desk ledger → (r : ℕ) → changeNumber mark H place desk ≡ r
+    → Kept (changeBy r mark H place desk .desk) (ifDone (changeBy r mark H place desk .number) (noteMark mark H place ledger) ledger)
+change-step mark H place desk ledger b K zero e = let p = change-parts mark H place desk e in change-kept desk ledger K H (p .0) mark place b (p .1)
+change-step mark H place desk ledger b K (suc r) e = K
+
 -- ---- every call, and every list of calls
 pub kept-step : (call : Call) (desk : Desk) (ledger : Ledger) → Kept desk ledger
     → Kept (step call desk .desk) (note (record { call = call; number = step call desk .number; value = step call desk .value }) ledger)
-unfolding step openOf closeOf serveOf
+unfolding step openOf closeOf serveOf changeOf
 kept-step Fresh desk ledger K = fresh-kept
 kept-step (Open m w c marks) desk ledger K = open-step m w c marks desk ledger K (openNumber m w c marks desk) refl
 kept-step (Serve H word) desk ledger K = serve-step H word desk ledger K (serveNumber H word desk) refl
 kept-step (Read H) desk ledger K = K
 kept-step (Close H) desk ledger K = close-step H desk ledger K (handleRefusal H desk) refl
+kept-step (Lose H place) desk ledger K = change-step 1 H place desk ledger (omega arith) K (changeNumber 1 H place desk) refl
+kept-step (Find H place) desk ledger K = change-step 0 H place desk ledger (omega arith) K (changeNumber 0 H place desk) refl
 
 pub kept-all : (calls : List Call) (desk : Desk) (ledger : Ledger) → Kept desk ledger → Kept (after desk calls) (noted ledger (answers desk calls))
 unfolding after answers noted
@@ -277,7 +405,16 @@ agrees desk ledger K =
       read = λ h o. ap (λ r. readBy r h desk) (handle-done h desk s o) ∙ ap (λ n. record { number = 0; served = n }) (K .counted h o);
       before = K .early;
       most = λ h o. subst (λ n. n ≤ 4294967295) (K .counted h o) (K .most h o);
+      pattern = K .marked;
+      recovery = λ h o word. ap (λ (p : Pattern). recoverOf (p .m) (p .w) (p .c) word (p .marks)) (K .marked h o);
+      counts = λ h o.
+          figures-iff (jobAt desk (slotOf h)) .0 (figures h o) .0 ∙ ap (λ (p : Pattern). lostCounts (p .m) (p .w) (p .marks)) (K .marked h o);
+      excess-is = λ h o.
+          figures-iff (jobAt desk (slotOf h)) .0 (figures h o) .1 ∙ ap (λ (p : Pattern). excess (p .m) (p .w) (p .c) (p .marks)) (K .marked h o);
     }
+  where
+    figures : (h : ℕ) → isOpen desk h ≡ true → hasFigures (jobAt desk (slotOf h)) ≡ true
+    figures h o = taken-of (desk .t) (slotOf h) (jobAt desk (slotOf h)) (K .sound .slots (slotOf h) (slot-below h)) (open-held desk h o .taken) .figures
 
 -- "on a desk grown from fresh by these calls alone": every list of calls, refused ones included, any numbers given
 pub history : (calls : List Call) → Agrees (grown calls) (ledgerOf calls)

@@ -3,9 +3,13 @@ use Prim.Native.Nat.{_<_}
 use native.Mathlib.Omega.{arith}
 use Rattle.shape.specs.Laws.{places-most}
 use Rattle.marks.specs.Refusal.{Marked}
-use Rattle.desk_open.specs.Open.{openOf, openBy, newJob}
+use Rattle.marks.specs.RefusalLaws.{marks-of-good}
+use Rattle.judge.specs.Laws.{zero-excess}
+use Rattle.desk_job.specs.declared.Figures.{Figures}
+use Rattle.desk_job.specs.Figures.{lossFigures}
+use Rattle.desk_open.specs.Open.{openOf, openBy, newHandle}
 use Rattle.desk_job.specs.JobLaws.{judged-marked}
-use Rattle.desk_open.specs.OpenLaws.{open-refused, opened-refused, Openable, open-parts}
+use Rattle.desk_open.specs.OpenLaws.{open-refused, opened-refused, Openable, open-parts, new-job}
 use Rattle.desk_record.proofs.Laws.{jobs-long}
 use borrow.Author.Needs.{needs}
 use Rattle.desk_open.proofs.open.Statement.{statement}
@@ -62,29 +66,49 @@ kept-requires c κs =
     let l = places-most (M .good) in
     let z = M .size in omega arith
 
-cast-t16 : tie.Need-cast-t16
-cast-t16 c = let g = marked (c .before .before) .good in omega arith
+figures-of-requires : tie.Need-figures-of-requires
+figures-of-requires c κs = search needs
 
-cast-t17 : tie.Need-cast-t17
-cast-t17 c = let g = marked (c .before .before) .good in omega arith
+-- the figures of the marks given
+worked : (c : tie.After-figures-of)
+    → c .figures-of .result ≡ lossFigures (c .before .before .before .before .before .before .before .args .m) (c .before .before .before .before .before .before .before .args .w)
+    (c .before .before .before .before .before .before .before .args .c) (c .before .before .before .before .before .before .before .args .marks .now)
+worked c = let M = marked (c .before .before .before) in c .figures-of .ensures .0 (M .good) (M .size)
 
 cast-t18 : tie.Need-cast-t18
-cast-t18 c = let g = marked (c .before .before) .good in omega arith
+cast-t18 c = let g = marked (c .before .before .before .before) .good in omega arith
 
-mul-t20 : tie.Need-mul-t20
-mul-t20 c = let l = slot (c .before .before) in omega arith
+cast-t19 : tie.Need-cast-t19
+cast-t19 c = let g = marked (c .before .before .before .before) .good in omega arith
+
+cast-t20 : tie.Need-cast-t20
+cast-t20 c = let g = marked (c .before .before .before .before) .good in omega arith
+
+cast-t21 : tie.Need-cast-t21
+cast-t21 c =
+    let f = c .before .before in
+    let a = f .before .before .before .before .before .before .before .args in
+    let M = marked (f .before .before .before) in
+    let l = zero-excess (a .m) (a .w) (a .c) (a .marks .now) (marks-of-good (a .m) (a .w) (a .c) (a .marks .now) M) .0 (parts (f .before .before .before) .judged) in
+    let e = ap (λ (x : Figures). x .excess) (worked f) in
+    omega arith
+
+mul-t23 : tie.Need-mul-t23
+mul-t23 c = let l = slot (c .before .before .before .before .before) in omega arith
 
 element-set-from-d : tie.Need-element-set-from-d
-element-set-from-d c = slot (c .before .before)
+element-set-from-d c = slot (c .before .before .before .before .before)
 
 returns-2 : tie.Need-returns-2
-unfolding openOf newJob
+unfolding openOf
 returns-2 c =
-    let f = c .before .before in
+    let g = c .before .before in
+    let f = g .before .before .before in
     let a = f .before .before .before .before .args in
     let e : openOf (a .m) (a .w) (a .c) (a .marks .now) (a .desk) ≡ openBy 0 (a .m) (a .w) (a .c) (a .marks .now) (a .desk)
     = ap (λ n. openBy n (a .m) (a .w) (a .c) (a .marks .now) (a .desk)) (sym (f .before .before .open-refusal .ensures) ∙ f .before .if1 .left) in
-    rw (e, f .free-slot .ensures, c .kept .ensures) (record { desk-is = refl; answer-is = refl; number-is = refl; handle-is = refl })
+    rw (e, f .free-slot .ensures, g .before .kept .ensures, worked g, new-job (a .m) (a .w) (a .c) (a .marks .now) (newHandle (a .desk)) (marked f .size))
+    (record { desk-is = refl; answer-is = refl; number-is = refl; handle-is = refl })
 
 pub open-spec : {M : Type 1} → statement M
 open-spec =
@@ -97,9 +121,11 @@ open-spec =
     mul-handle
     add-handle
     kept-requires
-    cast-t16
-    cast-t17
+    figures-of-requires
     cast-t18
-    mul-t20
+    cast-t19
+    cast-t20
+    cast-t21
+    mul-t23
     element-set-from-d
     returns-2)

@@ -1,0 +1,3 @@
+pub mod Change
+pub mod CountsLaws
+pub mod ChangeLaws
