@@ -1,4 +1,5 @@
-/* Products per second of the field of bytes: the library's loops by shifts and through tables, beside the same two in C. */
+/* Products per second of the field of bytes: the library's loops by shifts and through tables, beside the same two in C; and the time of a row times
+ * a factor, by shifts and from two rows of sixteen made for the factor. */
 #include <stdint.h>
 #include <stdio.h>
 #include <stdlib.h>
@@ -7,6 +8,8 @@
 
 uint8_t bench_dot_shifts(const uint8_t *u, size_t nu, const uint8_t *v, size_t nv);
 uint8_t bench_dot_tables(const uint8_t *u, size_t nu, const uint8_t *v, size_t nv);
+void bench_row_shifts(uint8_t *row, size_t n, uint8_t f);
+void bench_row_halves(uint8_t *row, size_t n, uint8_t f);
 
 static uint8_t powers[510], logs[256];
 
@@ -49,6 +52,36 @@ static uint8_t measure(const char *name, dot *f) {
   return r;
 }
 
+/* best of the rounds, in nanoseconds a row */
+static double measure_rows(void f(uint8_t *, size_t, uint8_t), size_t n) {
+  double best = 1e9;
+  for (int round = 0; round < 200; round++) {
+    double start = now();
+    for (int i = 0; i < 1000; i++) f(u, n, (uint8_t)i);
+    double t = (now() - start) * 1e6;
+    if (t < best) best = t;
+  }
+  return best;
+}
+
+/* rows of the elimination: five bytes in use, or the sixteen that one has */
+static int compare_rows(void) {
+  static const size_t sizes[] = {3, 5, 16, 240};
+  uint8_t a[N], b[N];
+  for (int i = 0; i < N; i++) a[i] = b[i] = (uint8_t)i;
+  for (int f = 0; f < 256; f++) {
+    bench_row_shifts(a, N, (uint8_t)f);
+    bench_row_halves(b, N, (uint8_t)f);
+    for (int i = 0; i < N; i++) {
+      if (a[i] != b[i]) return 0;
+      a[i] = b[i] = (uint8_t)i;
+    }
+  }
+  for (int k = 0; k < 4; k++)
+    printf("a row of %3zu times a factor: by shifts %6.1f ns, from two rows of sixteen %6.1f ns\n", sizes[k], measure_rows(bench_row_shifts, sizes[k]), measure_rows(bench_row_halves, sizes[k]));
+  return 1;
+}
+
 int main(void) {
   uint8_t a = 1;
   for (int i = 0; i < 255; i++, a = doubled(a)) {
@@ -65,5 +98,6 @@ int main(void) {
   }
   for (int k = 1; k < 4; k++)
     if (results[k] != results[0]) return puts("the four do not agree"), 1;
+  if (!compare_rows()) return puts("the two ways of a row do not agree"), 1;
   return 0;
 }

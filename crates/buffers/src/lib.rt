@@ -19,13 +19,13 @@ pub fn copy(from: &[u8], to: &mut [u8])
     }
 }
 
-// Sets every byte to 0.
-fn clear(buffer: &mut [u8])
-    ensures { λ _. ⌜ now (buffer .exit) ≡ replicate (length (now (buffer .entry))) 0 ⌝ }
+// Sets every byte to v.
+pub fn set_all(buffer: &mut [u8], v: u8)
+    ensures { λ _. ⌜ now (buffer .exit) ≡ replicate (length (now (buffer .entry))) v ⌝ }
 {
     let mut i: usize = 0;
     while i < buffer.len() {
-        buffer[i] = 0;
+        buffer[i] = v;
         i += 1;
     }
 }
@@ -36,6 +36,6 @@ pub fn clear_if(test: bool, buffer: &mut [u8])
     ensures { λ _. ⌜ (test ≡ false → now (buffer .exit) ≡ now (buffer .entry)) ⌝ }
 {
     if test {
-        clear(buffer);
+        set_all(buffer, 0);
     }
 }

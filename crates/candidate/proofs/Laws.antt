@@ -1,7 +1,7 @@
 -- Laws of the steps: writes, lent stretches, a filled group and front, the unknowns, and directions with their sums across.
 use mathlib.Core.Path.{_≡_, refl, sym, ap, ap₂, _∙_, subst}
 use mathlib.Core.Bool.{false}
-use mathlib.Core.List.{List, [], _∷_, _++_}
+use mathlib.Core.List.{List, _++_}
 use Prim.Native.Nat.{ℕ, zero, suc, _+_, _-_, _*_, _/_, _%_, _^_, _≤_, _<_}
 use native.Mathlib.Nat.{suc-mul, mul-le-mul-right, div-lt-iff-lt-mul, div-add-mod', mod-lt}
 use native.Mathlib.Decide.{ℕ-discrete, decLt}
@@ -30,10 +30,10 @@ use Rattle.erasures.specs.Places.{FreePlaces, freeAt}
 use Rattle.solve.specs.Elimination.{entry, eliminated}
 use Rattle.solve.specs.Solution.{OnlySolution}
 use Rattle.solve.specs.BytesLaws.{solution}
-use Rattle.syndrome.specs.Across.{acrossOf}
+use Rattle.syndrome.specs.Across.{groupSums, acrossOf}
 use Rattle.syndrome.specs.declared.Sums.{Sums}
 use Rattle.candidate.specs.Steps.{GroupsFilled, Direction, Added}
-use Rattle.candidate.specs.Solved.{twoRows, pairAt, Solved}
+use Rattle.candidate.specs.Solved.{twoRow, twoRows, pairAt, Solved}
 use Rattle.candidate.specs.SolvedLaws.{combined-length, combined-one}
 use Rattle.candidate.specs.Mended.{KeptFew}
 
@@ -136,13 +136,18 @@ direction-filled n j kept part rest fits narrow inside own few F =
     size = F .size ∙ width
 
 -- ---- two unknowns
-row-lt : {a b s : ℕ} → a < 256 → b < 256 → s < 256 → (i : ℕ) → getD (a ∷ b ∷ 0 ∷ 0 ∷ s ∷ []) i 0 < 256
+row-lt : {a b s : ℕ} → a < 256 → b < 256 → s < 256 → (i : ℕ) → getD (twoRow a b s) i 0 < 256
 row-lt ha hb hs zero = ha
 row-lt ha hb hs (suc zero) = hb
 row-lt ha hb hs (suc (suc zero)) = lit< tt
 row-lt ha hb hs (suc (suc (suc zero))) = lit< tt
 row-lt ha hb hs (suc (suc (suc (suc zero)))) = hs
-row-lt ha hb hs (suc (suc (suc (suc (suc i))))) = lit< tt
+row-lt ha hb hs (suc (suc (suc (suc (suc i))))) = zeros-lt 11 i
+  where
+    zeros-lt : (n i : ℕ) → getD (replicate n 0) i 0 < 256
+    zeros-lt zero i = lit< tt
+    zeros-lt (suc n) zero = lit< tt
+    zeros-lt (suc n) (suc i) = zeros-lt n i
 
 -- a solution is known by its values below t
 solution-ext : {k m : ℕ} {M : List (List ℕ)} {t r : ℕ} {x : ℕ → ℕ} (y : ℕ → ℕ) → ((i : ℕ) → i < t → x i ≡ y i) → OnlySolution k m M t r x → OnlySolution k m M t r y
@@ -242,13 +247,11 @@ module _ (m w c p : ℕ) (good : Good m w c) (l : p < m * w) where
     way-given r = subst (λ n. Direction n (p % w) (stretch w (p / w) kept) (take n r)) part-width
 
 -- ---- the sums across of a direction are those of its group
-pub weights-of : (m w c g : ℕ) (part : List ℕ) {a b : ℕ} → g < m → length part ≡ w
-    → a ≡ groupSum bytes (length part) part 0 (coefficient bytes c) → b ≡ groupSum bytes (length part) part 0 (twisted bytes c g)
-    → _≡_ {A = Sums} (record { first = a; second = b }) (acrossOf m w c (lone m w g part))
-weights-of m w c g part l long e₁ e₂ =
+pub weights-of : (m w c g : ℕ) (part : List ℕ) → g < m → length part ≡ w → groupSums c g part ≡ acrossOf m w c (lone m w g part)
+weights-of m w c g part l long =
     ap₂ (λ a b. record { first = a; second = b })
-    (e₁ ∙ ap (λ n. groupSum bytes n part 0 (coefficient bytes c)) long ∙ sym (lone-word m w g part l long bytes _))
-    (e₂ ∙ ap (λ n. groupSum bytes n part 0 (twisted bytes c g)) long ∙ sym (lone-word m w g part l long bytes _))
+    (ap (λ n. groupSum bytes n part 0 (coefficient bytes c)) long ∙ sym (lone-word m w g part l long bytes _))
+    (ap (λ n. groupSum bytes n part 0 (twisted bytes c g)) long ∙ sym (lone-word m w g part l long bytes _))
 
 -- the unknowns for these sums
 pub solved-sums : {A B S a b s : Sums} {u v : ℕ} → A ≡ a → B ≡ b → S ≡ s → Solved (A .first) (B .first) (A .second) (B .second) (S .first) (S .second) u v

@@ -2,15 +2,19 @@
 use mathlib.Core.Path.{_≡_}
 use mathlib.Core.List.{List, [], _∷_}
 use Prim.Native.Nat.{ℕ, zero, suc}
+use lib.ListN.{replicate}
 use Rattle.binary_field.specs.Product.{product}
 use Rattle.binary_field.specs.Inverse.{inverse}
 use Rattle.solve.specs.Kernel.{TrivialKernel}
 use Rattle.solve.specs.Solution.{OnlySolution}
 
--- a system of two equations in two unknowns, as rows of the elimination
+-- an equation in two unknowns, as a row of the elimination: the coefficients, the right side in column 4, and zeros
+abbrev pub twoRow : ℕ → ℕ → ℕ → List ℕ
+twoRow a b s = a ∷ b ∷ 0 ∷ 0 ∷ s ∷ replicate 11 0
+
+-- a system of two of them
 abbrev pub twoRows : ℕ → ℕ → ℕ → ℕ → ℕ → ℕ → List (List ℕ)
-twoRows a₁ a₂ b₁ b₂ s t =
-    (a₁ ∷ a₂ ∷ 0 ∷ 0 ∷ s ∷ []) ∷ (b₁ ∷ b₂ ∷ 0 ∷ 0 ∷ t ∷ []) ∷ (0 ∷ 0 ∷ 0 ∷ 0 ∷ 0 ∷ []) ∷ (0 ∷ 0 ∷ 0 ∷ 0 ∷ 0 ∷ []) ∷ []
+twoRows a₁ a₂ b₁ b₂ s t = twoRow a₁ a₂ s ∷ twoRow b₁ b₂ t ∷ replicate 16 0 ∷ replicate 16 0 ∷ []
 
 -- the first or the second of two
 abbrev pub pairAt : {A : Type 0} → A → A → ℕ → A

@@ -98,10 +98,10 @@ fn two_unknowns(a1: u8, a2: u8, b1: u8, b2: u8, s: u8, t: u8) -> Unknowns
     ensures { λ r. ⌜ Solved a1 a2 b1 b2 s t (r .first) (r .second) ⌝ }
 {
     let rows = [
-        [a1, a2, 0, 0, s],
-        [b1, b2, 0, 0, t],
-        [0, 0, 0, 0, 0],
-        [0, 0, 0, 0, 0],
+        [a1, a2, 0, 0, s, 0, 0, 0, 0, 0, 0, 0, 0, 0, 0, 0],
+        [b1, b2, 0, 0, t, 0, 0, 0, 0, 0, 0, 0, 0, 0, 0, 0],
+        [0; 16],
+        [0; 16],
     ];
     let r = solve::eliminate(rows, 2);
     Unknowns {
@@ -142,9 +142,7 @@ fn weights(m: usize, w: usize, c: usize, g: usize, h: [u8; 16]) -> syndrome::Sum
     requires { ⌜ g < m ⌝ }
     ensures { λ r. ⌜ r ≡ acrossOf m w c (lone m w g (take w h)) ⌝ }
 {
-    let first = syndrome::group_first(&h[..w], c);
-    let second = syndrome::group_second(&h[..w], c, g);
-    syndrome::Sums { first, second }
+    syndrome::group_sums(&h[..w], c, g)
 }
 
 // Sets the one free place p, and with it the kept places of its group, so that the sums across are zero if they can be.

@@ -1,10 +1,10 @@
 -- A row that is chosen by its number, and the row of ones.
-use mathlib.Core.Path.{_≡_, sym, ap, _∙_}
+use mathlib.Core.Path.{_≡_, refl, sym, ap, _∙_}
 use mathlib.Core.List.{List}
-use Prim.Native.Nat.{ℕ, _<_, _≤_}
+use Prim.Native.Nat.{ℕ, zero, suc, _<_, _≤_}
 use native.Mathlib.Omega.{arith}
 use lib.Dec.{lit<}
-use lib.ListN.{length, getD, List·getD-eq-default}
+use lib.ListN.{length, getD, replicate, List·getD-eq-default}
 use Rattle.binary_field.specs.Product.{product}
 use Rattle.binary_field.specs.ProductLaws.{product-one}
 use Rattle.binary_field.specs.PowerLaws.{power-zero}
@@ -44,3 +44,9 @@ ones-sum u small h =
     (λ i l.
     sym (product-one 8 285 (lit< tt) (getD u i 0) (small i))
     ∙ ap (product 8 285 (getD u i 0)) (sym (power-at 0 i (lit< tt) (omega arith) ∙ power-zero 8 285 (bytes .locator i))))
+
+-- a row of zeros
+pub zeros-row : (n j : ℕ) → getD {A = ℕ} (replicate n 0) j 0 ≡ 0
+zeros-row zero j = refl
+zeros-row (suc n) zero = refl
+zeros-row (suc n) (suc j) = zeros-row n j

@@ -1,9 +1,11 @@
 // The coefficients of the equations, as constant rows of sixteen places: the powers of the locators, and for each number c of local
 // checks the coefficients b and b^16 of the two sums across.
 ghost use mathlib.Core.Path.{_≡_};
+ghost use Prim.Native.Nat.{min};
 ghost use lib.ListN.{length, getD};
 ghost use Rattle.binary_field.specs.Sum.{innerProduct};
 ghost use Rattle.coefficients.specs.Rows.{powerRows, firstRows, secondRows, noRow};
+ghost use Rattle.coefficients.specs.Padded.{Padded};
 
 // The locators to the powers 0 to 3. Each row is a constant of its own, so that one row alone is read.
 const POWERS_0: [u8; 16] = [1, 1, 1, 1, 1, 1, 1, 1, 1, 1, 1, 1, 1, 1, 1, 1];
@@ -220,6 +222,26 @@ const SECOND_4: [u8; 16] = [
 ];
 
 const NONE: [u8; 16] = [0; 16];
+
+fn at_most_16(n: usize) -> usize
+    ensures { λ r. ⌜ r ≡ min n 16 ⌝ }
+{
+    if n < 16 { n } else { 16 }
+}
+
+// The first sixteen bytes of a part, followed by zeros where it has fewer.
+pub fn padded(part: &[u8]) -> [u8; 16]
+    ensures { λ r. ⌜ Padded (now (part .entry)) r ⌝ }
+{
+    let n = at_most_16(part.len());
+    let mut x = [0u8; 16];
+    let mut i: usize = 0;
+    while i < n {
+        x[i] = part[i];
+        i += 1;
+    }
+    x
+}
 
 // The locators of the sixteen places to the power e, for e below 4; zeros for any other e.
 pub fn power_row(e: usize) -> [u8; 16]

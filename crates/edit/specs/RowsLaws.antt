@@ -22,7 +22,7 @@ use Rattle.code.specs.Word.{groupSum, localSum, coefficient, twisted}
 use Rattle.code.specs.Marks.{lost, lostIn}
 use Rattle.byte_edition.specs.Edition.{bytes}
 use Rattle.coefficients.specs.Rows.{powerRows, firstRows, secondRows, noRow}
-use Rattle.syndrome.specs.PartsLaws.{power-group, first-group, second-group}
+use Rattle.syndrome.specs.PartsLaws.{power-group, first-group, second-group, twisted-group}
 use Rattle.edit.specs.Rows.{tailMarks, localMarks, firstFixes, secondFixes, rowStart, fixOf, fixesAt}
 
 -- ---- the rows
@@ -97,7 +97,7 @@ module _ (w i : ℕ) (few : i < 3) (wide : i + 3 ≤ w) (narrow : w ≤ 16) wher
         ap (λ k. times bytes (raised bytes 2 g) (innerProduct 8 285 w part (getD secondRows k noRow))) (sym less)
         ∙ subst (λ n. times bytes (raised bytes 2 g) (innerProduct 8 285 n part (getD secondRows (suc i - 1) noRow)) ≡ groupSum bytes n part 0
         (twisted bytes (suc i) g)) long
-        (second-group part short (suc i) (omega arith) (omega arith) g)
+        (ap (times bytes (raised bytes 2 g)) (second-group part short (suc i) (omega arith) (omega arith)) ∙ twisted-group bytes (length part) (suc i) g part)
 
   -- both meet the group's own equations
   module _ (e : ℕ) (l : e < suc i) where

@@ -37,16 +37,16 @@ fn refill(c: usize, g: usize, j: usize, byte: u8, part: &mut [u8]) -> Sums
     requires { ⌜ j + c < length (now part) ⌝ }
     ensures { λ r. ⌜ Refilled (length (now (part .entry))) c g j byte (now (part .entry)) (now (part .exit)) r ⌝ }
 {
-    let first = syndrome::group_first(part, c);
-    let second = syndrome::group_second(part, c, g);
+    let old = syndrome::group_sums(part, c, g);
     part[j] = byte;
     let tail = rows::TAIL;
     let e = 15 + c;
     let a = e - part.len();
     fill::fill(part, &tail[a..e]);
+    let new = syndrome::group_sums(part, c, g);
     Sums {
-        first: first ^ syndrome::group_first(part, c),
-        second: second ^ syndrome::group_second(part, c, g),
+        first: old.first ^ new.first,
+        second: old.second ^ new.second,
     }
 }
 

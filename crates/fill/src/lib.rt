@@ -32,7 +32,7 @@ fn find(marks: &[u8]) -> Erasures
 }
 
 // Writes the right side of row i at position at[i], for each i below t.
-fn place(part: &mut [u8], at: [usize; 4], rows: [[u8; 5]; 4], t: usize)
+fn place(part: &mut [u8], at: [usize; 4], rows: [[u8; 16]; 4], t: usize)
     requires { ⌜ (t ≤ 4) × Inside (length (now part)) at t ⌝ }
     ensures { λ _. ⌜ now (part .exit) ≡ placed (now (part .entry)) at rows t ⌝ }
 {
@@ -45,7 +45,7 @@ fn place(part: &mut [u8], at: [usize; 4], rows: [[u8; 5]; 4], t: usize)
 }
 
 // The equation e: the powers of the positions' locators, and the syndrome on the right side.
-fn equation(part: &[u8], at: [usize; 4], t: usize, e: usize) -> [u8; 5]
+fn equation(part: &[u8], at: [usize; 4], t: usize, e: usize) -> [u8; 16]
     requires { ⌜ (t ≤ 4) × (e < 4) × (length (now part) ≤ 16) × Inside (length (now part)) at t ⌝ }
     ensures { λ r. ⌜ Equation (now (part .entry)) at t e r ⌝ }
 {
@@ -57,15 +57,26 @@ fn equation(part: &[u8], at: [usize; 4], t: usize, e: usize) -> [u8; 5]
         powers[at[2] % 16],
         powers[at[3] % 16],
         syndrome,
+        0,
+        0,
+        0,
+        0,
+        0,
+        0,
+        0,
+        0,
+        0,
+        0,
+        0,
     ]
 }
 
 // The first t equations.
-fn equations(part: &[u8], at: [usize; 4], t: usize) -> [[u8; 5]; 4]
+fn equations_of(part: &[u8], at: [usize; 4], t: usize) -> [[u8; 16]; 4]
     requires { ⌜ (t ≤ 4) × (length (now part) ≤ 16) × Inside (length (now part)) at t ⌝ }
     ensures { λ r. ⌜ Equations (now (part .entry)) at t r ⌝ }
 {
-    let mut rows = [[0u8; 5]; 4];
+    let mut rows = [[0u8; 16]; 4];
     let mut e: usize = 0;
     while e < t {
         let x = equation(part, at, t, e);
@@ -73,6 +84,18 @@ fn equations(part: &[u8], at: [usize; 4], t: usize) -> [[u8; 5]; 4]
         e += 1;
     }
     rows
+}
+
+// The same; a part of fewer than sixteen places is padded, since sums over sixteen places are fast.
+fn equations(part: &[u8], at: [usize; 4], t: usize) -> [[u8; 16]; 4]
+    requires { ⌜ (t ≤ 4) × (length (now part) ≤ 16) × Inside (length (now part)) at t ⌝ }
+    ensures { λ r. ⌜ Equations (now (part .entry)) at t r ⌝ }
+{
+    if part.len() == 16 {
+        return equations_of(part, at, t);
+    }
+    let x = coefficients::padded(part);
+    equations_of(&x, at, t)
 }
 
 // Fills the lost places, if at most four of at most sixteen are lost; what stood there does not count. Else nothing changes.
@@ -91,7 +114,7 @@ pub fn fill(part: &mut [u8], marks: &[u8])
         return;
     }
     let at = erasures.at;
-    let zeros = [[0u8; 5]; 4];
+    let zeros = [[0u8; 16]; 4];
     place(part, at, zeros, t);
     let rows = equations(part, at, t);
     let solution = solve::eliminate(rows, t);

@@ -1,6 +1,6 @@
 pub mod Bytes
 pub mod BytesLaws
-pub mod Tables
-pub mod TablesLaws
 pub mod Locators
 pub mod LocatorsLaws
+pub mod Rows
+pub mod RowsLaws

@@ -1,35 +1,43 @@
 -- Laws: The sixteen locators: the constant table, its power rule by one test, and that they are the subfield of 16 elements.
-use mathlib.Core.Path.{_≡_, refl, sym, ap₂, _∙_, subst}
+use mathlib.Core.Path.{_≡_, refl, sym, ap, ap₂, _∙_, subst}
 use mathlib.Core.Bool.{Bool, not}
-use Prim.Native.Nat.{ℕ, _*_, _<_}
+use Prim.Native.Nat.{ℕ, zero, suc, _*_, _<_}
+use native.Mathlib.Nat.{mul-zero, mul-suc, add-comm}
 use native.Mathlib.Omega.{arith}
 use native.Mathlib.Decide.{decLt}
 use lib.Dec.{T, eqb, ltb, eqb→eq, eqb-refl, ltb→lt, T-not, lit<}
 use lib.ListN.{getD}
 use Rattle.binary_field.specs.Xor.{_⊕_, masked}
 use Rattle.binary_field.specs.XorLaws.{⊕-lt}
-use Rattle.counting.specs.Test.{allBelow, anyBelow, same}
-use Rattle.counting.specs.TestLaws.{all-at, any-at, any-intro, same-from-l, same-from-r}
+use Rattle.counting.specs.Test.{both, allBelow, anyBelow, same}
+use Rattle.counting.specs.TestLaws.{both-l, both-r, all-at, any-at, any-intro, same-from-l, same-from-r}
 use Rattle.binary_field.specs.Product.{double, bitSum, product}
 use Rattle.binary_field.specs.ProductLaws.{product-lt}
 use Rattle.binary_field.specs.Power.{power, squares}
-use Rattle.binary_field.specs.PowerLaws.{power-squares, frobenius, product-power}
-use Rattle.gf256.specs.Tables.{powers}
-use Rattle.gf256.specs.TablesLaws.{powers-at}
+use Rattle.binary_field.specs.PowerLaws.{power-zero, power-add, power-squares, frobenius, product-power}
+use Rattle.gf256.specs.BytesLaws.{power-17}
 use Rattle.gf256.specs.Locators.{locators}
 
--- the entry j below 15 is the power at 17j
-powerRight : ℕ → Bool
-powerRight j = eqb (getD locators j 0) (getD powers (17 * j) 0)
+-- the first is 1, and each of the next fourteen is 152 times the one before
+nextRight : ℕ → Bool
+nextRight j = eqb (getD locators (suc j) 0) (product 8 285 152 (getD locators j 0))
 
-power-rule : T (allBelow 15 powerRight)
-unfolding powerRight locators powers
+powerRule : Bool
+powerRule = both (eqb (getD locators 0 0) 1) (allBelow 14 nextRight)
+
+power-rule : T powerRule
+unfolding powerRule nextRight locators product bitSum double masked _⊕_
 power-rule = tt
 
 -- "Place j below 15 has 2 to the power 17j."
 pub locator-power : (j : ℕ) → j < 15 → getD locators j 0 ≡ power 8 285 2 (17 * j)
-unfolding powerRight
-locator-power j h = eqb→eq (getD locators j 0) (getD powers (17 * j) 0) (all-at 15 powerRight power-rule j h) ∙ powers-at (17 * j) (omega arith)
+unfolding powerRule nextRight
+locator-power zero h = eqb→eq (getD locators 0 0) 1 (both-l (eqb (getD locators 0 0) 1) (allBelow 14 nextRight) power-rule) ∙ sym (ap (power 8 285 2) (mul-zero 17) ∙ power-zero 8 285 2)
+locator-power (suc j) h =
+    eqb→eq (getD locators (suc j) 0) (product 8 285 152 (getD locators j 0))
+    (all-at 14 nextRight (both-r (eqb (getD locators 0 0) 1) (allBelow 14 nextRight) power-rule) j (omega arith))
+    ∙ ap₂ (product 8 285) (sym power-17) (locator-power j (omega arith)) ∙ sym (power-add 8 285 (lit< tt) 2 17 (17 * j))
+    ∙ ap (power 8 285 2) (add-comm 17 (17 * j) ∙ sym (mul-suc 17 j))
 
 pub last-locator : getD locators 15 0 ≡ 0
 unfolding locators

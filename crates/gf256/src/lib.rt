@@ -1,5 +1,6 @@
-// The field of bytes: doubling, the product by shifts and through tables, inverses, powers and the locators.
-pub mod tables;
+// The field of bytes: doubling, the product by shifts, inverses, powers and the locators.
+pub mod locators;
+mod rows;
 
 ghost use mathlib.Core.Path.{_≡_};
 ghost use Prim.Native.Nat.{_<_, _≤_, min};
@@ -8,7 +9,6 @@ ghost use Rattle.binary_field.specs.Product.{double, product};
 ghost use Rattle.binary_field.specs.Sum.{sumBelow, innerProduct};
 ghost use Rattle.binary_field.specs.Power.{power};
 ghost use Rattle.binary_field.specs.Inverse.{inverse};
-ghost use Rattle.gf256.specs.Tables.{throughTables, inverseThrough};
 
 // What is left of 285, if the bit that a doubling shifts out is set.
 fn reduction(a: u8) -> u8
@@ -44,55 +44,23 @@ pub fn shifted_product(a: u8, b: u8) -> u8
     r
 }
 
-fn wide(x: u8) -> usize
-    ensures { λ r. ⌜ (r ≡ x) × (r < 256) ⌝ }
+// a to the power 16: it is linear in a, so the sum of what the low four bits and the high four bits give.
+fn sixteenth(a: u8) -> u8
+    ensures { λ r. ⌜ r ≡ power 8 285 a 16 ⌝ }
 {
-    x as usize
+    rows::sixteenth_low(a) ^ rows::sixteenth_high(a)
 }
 
-// The product through tables that the caller holds and lends, so that none is laid out anew in a loop.
-pub fn product_in(p: &[u8; 256], l: &[u8; 256], a: u8, b: u8) -> u8
-    ensures { λ r. ⌜ r ≡ throughTables (now (p .entry)) (now (l .entry)) a b ⌝ }
-{
-    if a == 0 {
-        return 0;
-    }
-    if b == 0 {
-        return 0;
-    }
-    let i = wide(a);
-    let j = wide(b);
-    let s = wide(l[i]) + wide(l[j]);
-    if s < 255 { p[s] } else { p[s - 255] }
-}
-
-// The product through the two tables.
-pub fn product(a: u8, b: u8) -> u8
-    ensures { λ r. ⌜ r ≡ product 8 285 a b ⌝ }
-{
-    let p = tables::powers();
-    let l = tables::logs();
-    product_in(&p, &l, a, b)
-}
-
-// The inverse through tables that the caller lends; 0 for 0.
-pub fn inverse_in(p: &[u8; 256], l: &[u8; 256], a: u8) -> u8
-    ensures { λ r. ⌜ r ≡ inverseThrough (now (p .entry)) (now (l .entry)) a ⌝ }
-{
-    if a == 0 {
-        return 0;
-    }
-    let i = wide(a);
-    p[255 - wide(l[i])]
-}
-
-// The inverse of a, and 0 for 0.
+// The inverse of a, and 0 for 0: of a locator by one row, else a to the power 16 over the norm of a, which is a to the power 17 and a locator.
 pub fn inverse(a: u8) -> u8
     ensures { λ r. ⌜ r ≡ inverse 8 285 a ⌝ }
 {
-    let p = tables::powers();
-    let l = tables::logs();
-    inverse_in(&p, &l, a)
+    if rows::locator_like(a) == a {
+        return rows::locator_inverse(a);
+    }
+    let conjugate = sixteenth(a);
+    let norm = shifted_product(a, conjugate);
+    shifted_product(conjugate, rows::locator_inverse(norm))
 }
 
 // a to the power n; 0 to the power 0 is 1.

@@ -1,4 +1,4 @@
-// The hand sums, by the code: products by shifts and through the tables, the figures of shapes, and words that are checked, judged, encoded,
+// The hand sums, by the code: products and an inverse, the locators, the figures of shapes, and words that are checked, judged, encoded,
 // recovered and repaired.
 use libc::STDOUT_FILENO;
 
@@ -10,8 +10,7 @@ fn number(n: u64, end: &[u8]) {
 fn product_line(a: u8, b: u8) {
     number(a as u64, b" * ");
     number(b as u64, b" = ");
-    number(gf256::shifted_product(a, b) as u64, b" = ");
-    number(gf256::product(a, b) as u64, b"\n");
+    number(gf256::shifted_product(a, b) as u64, b"\n");
 }
 
 fn locator_line() {
@@ -19,7 +18,7 @@ fn locator_line() {
     let mut j: usize = 0;
     while j < 16 {
         io::write_all(STDOUT_FILENO, b" ");
-        number(gf256::tables::locator(j) as u64, b"");
+        number(gf256::locators::locator(j) as u64, b"");
         j += 1;
     }
     io::write_all(STDOUT_FILENO, b"\n");

@@ -3,14 +3,14 @@ use mathlib.Core.Path.{_≡_}
 use mathlib.Core.Bool.{Bool, true, false}
 use mathlib.Core.List.{List, [], _∷_, _++_, append-assoc, append-nil}
 use Prim.Native.Nat.{ℕ, suc, _+_, _-_, _≤_, _<_}
-use native.Mathlib.Nat.{add-zero, sub-zero}
+use native.Mathlib.Nat.{sub-zero}
 use native.Mathlib.Numerals.{add-one}
 use native.Mathlib.Omega.{arith}
-use lib.ListN.{length, getD, take, drop, set}
-use lib.Seq.{take-suc-set, take-all, drop-drop, getD-drop}
+use lib.ListN.{length, getD, take, set}
+use lib.Seq.{take-suc-set, take-all}
 use Rattle.shape.specs.Shapes.{Good, placeCount, dataCount}
 use Rattle.places.specs.Laws.{data-length}
-use Rattle.places.specs.Places.{isCheck, othersFrom, dataPlaces, bytesAt, extractOf, spreadFrom, placedOf, mark, marksFrom, checkMarks}
+use Rattle.places.specs.Places.{isCheck, othersFrom, dataPlaces, bytesAt, extractOf}
 
 module _ (check : ℕ → Bool) (p n : ℕ) (l : p < n) where
   next : n - p ≡ suc (n - (p + 1))
@@ -29,22 +29,6 @@ module _ (check : ℕ → Bool) (p n : ℕ) (l : p < n) where
   unfolding bytesAt
   copy-step word d i h e = rw (others-data e, add-one i, take-suc-set d i (getD word p 0) h, append-assoc)
 
-  pub spread-check : (x bytes : List ℕ) → p < length x → check p ≡ true
-      → take (p + 1) (set x p 0) ++ spreadFrom check (p + 1) (n - (p + 1)) bytes ≡ take p x ++ spreadFrom check p (n - p) bytes
-  unfolding spreadFrom
-  spread-check x bytes h e = rw (next, e, add-one p, take-suc-set x p 0 h, append-assoc)
-
-  pub spread-data : (x bytes : List ℕ) (i : ℕ) → p < length x → check p ≡ false
-      → take (p + 1) (set x p (getD bytes i 0)) ++ spreadFrom check (p + 1) (n - (p + 1)) (drop (i + 1) bytes) ≡ take p x ++ spreadFrom check p (n - p) (drop i bytes)
-  unfolding spreadFrom
-  spread-data x bytes i h e =
-      rw (next, e, add-one p, take-suc-set x p (getD bytes i 0) h, append-assoc, getD-drop i bytes 0 0, add-zero i, drop-drop 1 i bytes)
-
-  pub marks-step : (x : List ℕ) (v : ℕ) → p < length x → mark (check p) ≡ v
-      → take (p + 1) (set x p v) ++ marksFrom check (p + 1) (n - (p + 1)) ≡ take p x ++ marksFrom check p (n - p)
-  unfolding marksFrom
-  marks-step x v h e = rw (next, e, add-one p, take-suc-set x p v h, append-assoc)
-
 module _ (check : ℕ → Bool) (p n : ℕ) (l : n ≤ p) where
   none : n - p ≡ 0
   none = omega arith
@@ -57,14 +41,6 @@ module _ (check : ℕ → Bool) (p n : ℕ) (l : n ≤ p) where
   unfolding bytesAt
   copy-end word d i h = rw (others-end, append-nil, take-all i d h)
 
-  pub spread-end : (x bytes : List ℕ) → length x ≤ p → take p x ++ spreadFrom check p (n - p) bytes ≡ x
-  unfolding spreadFrom
-  spread-end x bytes h = rw (none, append-nil, take-all p x h)
-
-  pub marks-end : (x : List ℕ) → length x ≤ p → take p x ++ marksFrom check p (n - p) ≡ x
-  unfolding marksFrom
-  marks-end x h = rw (none, append-nil, take-all p x h)
-
 module _ (m w c n : ℕ) (e : n ≡ placeCount m w) where
   pub others-start : Good m w c → length (othersFrom (isCheck m w c) 0 (n - 0)) ≡ dataCount m w c
   unfolding dataPlaces
@@ -73,11 +49,3 @@ module _ (m w c n : ℕ) (e : n ≡ placeCount m w) where
   pub copy-start : (word : List ℕ) → bytesAt word (othersFrom (isCheck m w c) 0 (n - 0)) ≡ extractOf m w c word
   unfolding extractOf dataPlaces
   copy-start word = rw (sub-zero n, e)
-
-  pub spread-start : (bytes : List ℕ) → spreadFrom (isCheck m w c) 0 (n - 0) bytes ≡ placedOf m w c bytes
-  unfolding placedOf
-  spread-start bytes = rw (sub-zero n, e)
-
-  pub marks-start : marksFrom (isCheck m w c) 0 (n - 0) ≡ checkMarks m w c
-  unfolding checkMarks
-  marks-start = rw (sub-zero n, e)

@@ -2,3 +2,4 @@ pub mod Places
 pub mod CountLaws
 pub mod FromLaws
 pub mod Laws
+pub mod Runs

@@ -1,11 +1,13 @@
 // Which places of a word carry data: taking the data out, putting it in, and marking the check places.
 use shape::Answer;
 ghost use mathlib.Core.Path.{_≡_};
-ghost use Prim.Native.Nat.{_<_};
-ghost use lib.ListN.{length};
+ghost use mathlib.Core.List.{_++_};
+ghost use Prim.Native.Nat.{_-_, _≤_, _<_};
+ghost use lib.ListN.{length, replicate};
 ghost use Rattle.shape.specs.Shapes.{Good, placeCount, dataCount, bufferRefusal};
 ghost use Rattle.shape.specs.Answers.{answerNumber};
 ghost use Rattle.places.specs.Places.{isCheck, extractOf, placedOf, checkMarks, extractedOf, extractedData, placedWord, markedChecks};
+ghost use Rattle.places.specs.Runs.{dataIn};
 
 // Whether place p is a check place.
 fn is_check(m: usize, w: usize, c: usize, p: usize) -> bool
@@ -55,7 +57,26 @@ pub fn extract(m: usize, w: usize, c: usize, word: &[u8], bytes: &mut [u8]) -> A
     Answer::Done
 }
 
-// Writes data into the data places, in word order, and 0 into the check places.
+// How many places of group g carry data.
+fn data_in(m: usize, w: usize, c: usize, g: usize) -> usize
+    requires { ⌜ Good m w c ⌝ }
+    requires { ⌜ g < m ⌝ }
+    ensures { λ r. ⌜ r ≡ dataIn m w c g ⌝ }
+{
+    if g + 1 == m { w - (c + 2) } else { w - c }
+}
+
+// Writes bytes to the front of a part, and 0 after them.
+fn spread_part(bytes: &[u8], part: &mut [u8])
+    requires { ⌜ length (now bytes) ≤ length (now part) ⌝ }
+    ensures { λ _. ⌜ now (part .exit) ≡ now (bytes .entry) ++ replicate (length (now (part .entry)) - length (now (bytes .entry))) 0 ⌝ }
+{
+    let d = bytes.len();
+    buffers::copy(bytes, &mut part[..d]);
+    buffers::set_all(&mut part[d..], 0);
+}
+
+// Writes data into the data places, in word order, and 0 into the check places, group by group.
 fn spread_data(m: usize, w: usize, c: usize, bytes: &[u8], word: &mut [u8])
     requires { ⌜ Good m w c ⌝ }
     requires { ⌜ length (now word) ≡ placeCount m w ⌝ }
@@ -63,15 +84,14 @@ fn spread_data(m: usize, w: usize, c: usize, bytes: &[u8], word: &mut [u8])
     ensures { λ _. ⌜ now (word .exit) ≡ placedOf m w c (now (bytes .entry)) ⌝ }
 {
     let mut i: usize = 0;
-    let mut p: usize = 0;
-    while p < word.len() {
-        if is_check(m, w, c, p) {
-            word[p] = 0;
-        } else {
-            word[p] = bytes[i];
-            i += 1;
-        }
-        p += 1;
+    let mut g: usize = 0;
+    while g < m {
+        let a = g * w;
+        let e = a + w;
+        let n = i + data_in(m, w, c, g);
+        spread_part(&bytes[i..n], &mut word[a..e]);
+        i = n;
+        g += 1;
     }
 }
 
@@ -85,20 +105,28 @@ pub fn place(m: usize, w: usize, c: usize, bytes: &[u8], word: &mut [u8])
     spread_data(m, w, c, bytes, word);
 }
 
-// Writes the mark of each place.
+// Marks the places of a part from d on.
+fn mark_part(d: usize, part: &mut [u8])
+    requires { ⌜ d ≤ length (now part) ⌝ }
+    ensures { λ _. ⌜ now (part .exit) ≡ replicate d 0 ++ replicate (length (now (part .entry)) - d) 1 ⌝ }
+{
+    buffers::set_all(&mut part[..d], 0);
+    buffers::set_all(&mut part[d..], 1);
+}
+
+// Writes the mark of each place, group by group.
 fn write_marks(m: usize, w: usize, c: usize, marks: &mut [u8])
     requires { ⌜ Good m w c ⌝ }
     requires { ⌜ length (now marks) ≡ placeCount m w ⌝ }
     ensures { λ _. ⌜ now (marks .exit) ≡ checkMarks m w c ⌝ }
 {
-    let mut p: usize = 0;
-    while p < marks.len() {
-        if is_check(m, w, c, p) {
-            marks[p] = 1;
-        } else {
-            marks[p] = 0;
-        }
-        p += 1;
+    let mut g: usize = 0;
+    while g < m {
+        let a = g * w;
+        let e = a + w;
+        let d = data_in(m, w, c, g);
+        mark_part(d, &mut marks[a..e]);
+        g += 1;
     }
 }
 

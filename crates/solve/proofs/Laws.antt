@@ -2,20 +2,25 @@
 use mathlib.Core.Path.{_≡_, refl, sym, ap, ap₂, _∙_}
 use mathlib.Core.Bool.{cond}
 use mathlib.Core.List.{List, [], _∷_, _++_, append-assoc, append-nil}
-use Prim.Native.Nat.{ℕ, zero, suc, _+_, _-_, _*_, _≤_, _<_}
+use Prim.Native.Nat.{ℕ, zero, suc, _+_, _-_, _*_, _^_, _≤_, _<_}
+use native.Mathlib.Nat.{mod-eq-of-lt}
+use lib.Pow.{pow-pos}
 use native.Mathlib.Numerals.{add-one}
 use native.Mathlib.Omega.{arith}
 use borrow.Author.Tests.{eq-eqb, ne-eqb, lt-ltb, le-ltb}
 use lib.Dec.{eqb}
-use lib.ListN.{length, getD, take, drop, set, drop-of-length-le}
+use lib.ListN.{length, getD, take, drop, set, drop-of-length-le, List·getD-eq-default}
 use lib.Bits.{bitXor}
 use lib.Seq.{drop-cons, take-suc-set, drop-set-lt, take-all, set-getD, ext-getD, getD-set-same, getD-set-other}
-use Rattle.binary_field.specs.XorLaws.{⊕-bits}
+use Rattle.binary_field.specs.Xor.{_⊕_}
+use Rattle.binary_field.specs.XorLaws.{⊕-bits, ⊕-zero-r}
+use Rattle.binary_field.specs.ProductLaws.{zero-product, one-product}
+use Rattle.binary_field.specs.PowerLaws.{one-power}
 use Rattle.binary_field.specs.Product.{product}
-use native.Mathlib.Decide.{ℕ-discrete}
+use native.Mathlib.Decide.{ℕ-discrete, decLt}
 use Rattle.binary_field.specs.Inverse.{inverse}
 use Rattle.code.specs.Stretch.{stretch, withStretch}
-use Rattle.solve.specs.Elimination.{row, entry, scaled, added, exchanged, normalized, clearedRow, cleared, pivotFrom, pivot, eliminateColumn, eliminatedTo}
+use Rattle.solve.specs.Elimination.{row, entry, scaled, added, exchanged, normalized, clearedRow, cleared, pivotFrom, pivot, eliminateColumn, eliminatedTo, eliminated}
 use Rattle.solve.specs.RowsLaws.{length-scaled, length-added, cleared-pivot}
 use Rattle.solve.specs.Flat.{rowsOf}
 use Rattle.solve.specs.FlatLaws.{row-of, entry-of, row-long, rows-with}
@@ -45,6 +50,19 @@ module _ (k m : ℕ) where
   pub scaled-end : (f : ℕ) (x : List ℕ) (c : ℕ) → length x ≤ c → take c x ++ scaled k m f (drop c x) ≡ x
   unfolding scaled
   scaled-end f x c h = rw (drop-of-length-le x, take-all, append-nil)
+
+  -- ---- by 0 and by 1
+  pub added-zero : (xs ys : List ℕ) → length ys ≡ length xs → added k m 0 xs ys ≡ xs
+  unfolding added scaled
+  added-zero [] [] e = refl
+  added-zero [] (y ∷ ys) e = absurd (omega arith)
+  added-zero (x ∷ xs) [] e = refl
+  added-zero (x ∷ xs) (y ∷ ys) e = ap₂ _∷_ (ap (λ p. x ⊕ p) (zero-product k m y) ∙ ⊕-zero-r x) (added-zero xs ys (omega arith))
+
+  pub scaled-one : 0 < k → (xs : List ℕ) → ((c : ℕ) → getD xs c 0 < 2 ^ k) → scaled k m 1 xs ≡ xs
+  unfolding scaled
+  scaled-one pos [] h = refl
+  scaled-one pos (x ∷ xs) h = ap₂ _∷_ (one-product k m pos x ∙ mod-eq-of-lt (h 0)) (scaled-one pos xs (λ c. h (suc c)))
 
   -- ---- over the rows
   module _ (M : List (List ℕ)) (j : ℕ) where
@@ -107,23 +125,69 @@ module _ (M : List (List ℕ)) (j t i : ℕ) where
   search-end h = let e : t - i ≡ 0 = omega arith in rw e
 
 -- ---- a row of those that lie one after another, worked on in its place
-module _ (k m : ℕ) (x : List ℕ) (long : length x ≡ 20) (i : ℕ) (h : i < 4) (part : List ℕ) where
-  own : length (stretch 5 i x) ≡ 5
+module _ (k m : ℕ) (x : List ℕ) (long : length x ≡ 64) (i : ℕ) (h : i < 4) (part : List ℕ) where
+  own : length (stretch 16 i x) ≡ 16
   own = ap length (sym (row-of x i h)) ∙ row-long x long i h
 
-  pub normalize-row : (f : ℕ) → part ≡ scaled k m f (stretch 5 i x) → f ≡ inverse k m (getD x (i * 5 + i) 0)
-      → rowsOf (withStretch 5 i x part) ≡ normalized k m (rowsOf x) i
+  pub normalize-row : (f : ℕ) → part ≡ scaled k m f (stretch 16 i x) → f ≡ inverse k m (getD x (i * 16 + i) 0)
+      → rowsOf (withStretch 16 i x part) ≡ normalized k m (rowsOf x) i
   unfolding normalized
   normalize-row f e q =
-      rows-with x long i h part (ap length e ∙ length-scaled k m f (stretch 5 i x) ∙ own)
+      rows-with x long i h part (ap length e ∙ length-scaled k m f (stretch 16 i x) ∙ own)
       ∙ ap (set (rowsOf x) i) (e ∙ ap₂ (scaled k m) (q ∙ ap (inverse k m) (sym (entry-of x i i h (omega arith)))) (sym (row-of x i h)))
 
-  pub clear-part : (j : ℕ) → j < 4 → (i ≡ j → ⊥) → part ≡ added k m (getD x (i * 5 + j) 0) (stretch 5 i x) (row (rowsOf x) j)
-      → rowsOf (withStretch 5 i x part) ≡ clearedRow k m (rowsOf x) j i
+  pub clear-part : (j : ℕ) → j < 4 → (i ≡ j → ⊥) → part ≡ added k m (getD x (i * 16 + j) 0) (stretch 16 i x) (row (rowsOf x) j)
+      → rowsOf (withStretch 16 i x part) ≡ clearedRow k m (rowsOf x) j i
   clear-part j l n e =
-      rows-with x long i h part (ap length e ∙ length-added k m _ (stretch 5 i x) (row (rowsOf x) j) (row-long x long j l ∙ sym own) ∙ own)
+      rows-with x long i h part (ap length e ∙ length-added k m _ (stretch 16 i x) (row (rowsOf x) j) (row-long x long j l ∙ sym own) ∙ own)
       ∙ ap (set (rowsOf x) i) (e ∙ ap₂ (λ f r. added k m f r (row (rowsOf x) j)) (sym (entry-of x i j h (omega arith))) (sym (row-of x i h)))
       ∙ row-add k m (rowsOf x) j i n
+
+-- ---- a pivot of 1
+module _ (k m : ℕ) (pos : 0 < k) (M : List (List ℕ)) where
+  pub normalized-one : (i : ℕ) → ((c : ℕ) → getD (row M i) c 0 < 2 ^ k) → entry M i i ≡ 1 → M ≡ normalized k m M i
+  unfolding normalized inverse
+  normalized-one i small e =
+      sym
+      (ap (set M i)
+      (ap (λ f. scaled k m f (row M i)) (ap (inverse k m) e ∙ one-power k m pos (2 ^ k - 2)) ∙ scaled-one k m pos (row M i) small)
+      ∙ set-getD M i [])
+
+  -- one equation whose coefficient is 1
+  pub eliminated-one : ((c : ℕ) → getD (row M 0) c 0 < 2 ^ k) → entry M 0 0 ≡ 1 → M ≡ eliminated k m M 1
+  unfolding eliminated eliminatedTo pivot
+  eliminated-one small e =
+      cleared-first ∙ ap (λ A. cleared k m A 0 1) (normalized-one 0 small e) ∙ column-found k m M 0 1 0 M first (omega arith) (exchanged-same k m M 0)
+    where
+      first : 0 ≡ pivot M 0 1
+      first = search-found M 0 1 0 (omega arith) (λ z. let q : _≡_ {A = ℕ} 0 1 = sym z ∙ e in omega arith)
+
+      cleared-first : M ≡ cleared k m M 0 1
+      cleared-first = row-skip k m M 0 0 refl ∙ clear-next k m M 0 M 0 (clear-none k m M 0)
+
+-- ---- a row that stays as it is
+module _ (k m : ℕ) (x : List ℕ) (long : length x ≡ 64) (i : ℕ) (h : i < 4) where
+  -- an entry of 0 adds nothing
+  pub clear-zero : (j : ℕ) → j < 4 → getD x (i * 16 + j) 0 ≡ 0 → rowsOf x ≡ clearedRow k m (rowsOf x) j i
+  clear-zero j l z = elim (ℕ-discrete i j) [
+    | yes e ↦ row-skip k m (rowsOf x) j i e
+    | no n ↦ sym
+        (ap (set (rowsOf x) i)
+        (ap (λ f. added k m f (row (rowsOf x) i) (row (rowsOf x) j)) (entry-of x i j h (omega arith) ∙ z)
+        ∙ added-zero k m (row (rowsOf x) i) (row (rowsOf x) j) (row-long x long j l ∙ sym (row-long x long i h)))
+        ∙ set-getD (rowsOf x) i [])
+        ∙ row-add k m (rowsOf x) j i n
+  ]
+
+  -- an entry of 1 stays
+  pub normalize-one : 0 < k → ((c : ℕ) → getD x c 0 < 2 ^ k) → getD x (i * 16 + i) 0 ≡ 1 → rowsOf x ≡ normalized k m (rowsOf x) i
+  normalize-one pos small e = normalized-one k m pos (rowsOf x) i row-small (entry-of x i i h (omega arith) ∙ e)
+    where
+      row-small : (c : ℕ) → getD (row (rowsOf x) i) c 0 < 2 ^ k
+      row-small c = elim (decLt c 16) [
+        | yes l ↦ (rw (entry-of x i c h l) (small (i * 16 + c)))
+        | no n ↦ (let q : length (row (rowsOf x) i) ≤ c = (let s = row-long x long i h in omega arith) in rw (List·getD-eq-default (row (rowsOf x) i) 0 q) (pow-pos k))
+      ]
 
 -- ---- rows written one after another
 pub rows-more : (M N : List (List ℕ)) (i : ℕ) (r : List ℕ) → i < length M → ((e : ℕ) → e < i → row M e ≡ row N e) → r ≡ row N i

@@ -1,66 +1,61 @@
-// Gauss-Jordan elimination over the field of bytes: up to four equations, with the right side in the fifth column.
-// The rows come and go by value; between, they lie one after another in twenty lent bytes, so that each step changes them in place.
-// p and l are the two tables of gf256, laid out once a call and lent to every step.
+// Gauss-Jordan elimination over the field of bytes: up to four equations, with the right side in the fifth column; the columns after it are
+// there because a row of sixteen bytes is one step of the vector unit.
+// The rows come and go by value; between, they lie one after another in 64 lent bytes, so that each step changes them in place.
 ghost use mathlib.Core.Path.{_≡_};
 ghost use Prim.Native.Nat.{_≤_, _<_, min};
 ghost use lib.ListN.{length, set};
-ghost use Rattle.gf256.specs.Tables.{powers, logs};
 ghost use Rattle.solve.specs.Elimination.{row, scaled, added, exchanged, normalized, clearedRow, cleared, pivot, eliminateColumn, eliminated};
 ghost use Rattle.solve.specs.Flat.{rowsOf};
 
 // A row times f.
-fn scale(p: &[u8; 256], l: &[u8; 256], row: &mut [u8], f: u8)
-    requires { ⌜ now p ≡ powers ⌝ }
-    requires { ⌜ now l ≡ logs ⌝ }
+fn scale(row: &mut [u8], f: u8)
     ensures { λ _. ⌜ now (row .exit) ≡ scaled 8 285 f (now (row .entry)) ⌝ }
 {
     let mut c: usize = 0;
     while c < row.len() {
-        row[c] = gf256::product_in(p, l, f, row[c]);
+        row[c] = gf256::shifted_product(row[c], f);
         c += 1;
     }
 }
 
 // Adds f times the row b to a row that is as long.
-fn add(p: &[u8; 256], l: &[u8; 256], row: &mut [u8], b: &[u8], f: u8)
-    requires { ⌜ now p ≡ powers ⌝ }
-    requires { ⌜ now l ≡ logs ⌝ }
+fn add(row: &mut [u8], b: &[u8], f: u8)
     requires { ⌜ length (now b) ≡ length (now row) ⌝ }
     ensures { λ _. ⌜ now (row .exit) ≡ added 8 285 f (now (row .entry)) (now (b .entry)) ⌝ }
 {
     let mut c: usize = 0;
     while c < row.len() {
-        row[c] = row[c] ^ gf256::product_in(p, l, f, b[c]);
+        row[c] = row[c] ^ gf256::shifted_product(b[c], f);
         c += 1;
     }
 }
 
 // A copy of row i.
-fn row_at(x: &[u8], i: usize) -> [u8; 5]
-    requires { ⌜ (length (now x) ≡ 20) × (i < 4) ⌝ }
+fn row_at(x: &[u8], i: usize) -> [u8; 16]
+    requires { ⌜ (length (now x) ≡ 64) × (i < 4) ⌝ }
     ensures { λ r. ⌜ r ≡ row (rowsOf (now (x .entry))) i ⌝ }
 {
-    let a = i * 5;
-    let e = a + 5;
-    let mut copy = [0u8; 5];
+    let a = i * 16;
+    let e = a + 16;
+    let mut copy = [0u8; 16];
     buffers::copy(&x[a..e], &mut copy);
     copy
 }
 
 // Writes row i.
 fn put_row(x: &mut [u8], i: usize, row: &[u8])
-    requires { ⌜ (length (now x) ≡ 20) × (i < 4) ⌝ }
-    requires { ⌜ length (now row) ≡ 5 ⌝ }
+    requires { ⌜ (length (now x) ≡ 64) × (i < 4) ⌝ }
+    requires { ⌜ length (now row) ≡ 16 ⌝ }
     ensures { λ _. ⌜ rowsOf (now (x .exit)) ≡ set (rowsOf (now (x .entry))) i (now (row .entry)) ⌝ }
 {
-    let a = i * 5;
-    let e = a + 5;
+    let a = i * 16;
+    let e = a + 16;
     buffers::copy(row, &mut x[a..e]);
 }
 
 // The rows i and j exchanged.
 fn exchange(x: &mut [u8], i: usize, j: usize)
-    requires { ⌜ length (now x) ≡ 20 ⌝ }
+    requires { ⌜ length (now x) ≡ 64 ⌝ }
     requires { ⌜ (i < 4) × (j < 4) ⌝ }
     ensures { λ _. ⌜ rowsOf (now (x .exit)) ≡ exchanged (rowsOf (now (x .entry))) i j ⌝ }
 {
@@ -73,60 +68,61 @@ fn exchange(x: &mut [u8], i: usize, j: usize)
     put_row(x, j, &a);
 }
 
-// Row j times the inverse of its entry in column j.
-fn normalize(p: &[u8; 256], l: &[u8; 256], x: &mut [u8], j: usize)
-    requires { ⌜ now p ≡ powers ⌝ }
-    requires { ⌜ now l ≡ logs ⌝ }
-    requires { ⌜ (length (now x) ≡ 20) × (j < 4) ⌝ }
+// Row j times the inverse of its entry in column j; an entry of 1 leaves the row as it is.
+fn normalize(x: &mut [u8], j: usize)
+    requires { ⌜ (length (now x) ≡ 64) × (j < 4) ⌝ }
     ensures { λ _. ⌜ rowsOf (now (x .exit)) ≡ normalized 8 285 (rowsOf (now (x .entry))) j ⌝ }
 {
-    let a = j * 5;
-    let e = a + 5;
-    let f = gf256::inverse_in(p, l, x[a + j]);
-    scale(p, l, &mut x[a..e], f);
+    let a = j * 16;
+    let e = a + 16;
+    let d = x[a + j];
+    if d == 1 {
+        return;
+    }
+    let f = gf256::inverse(d);
+    scale(&mut x[a..e], f);
 }
 
-// Row i, if it is not j, plus its entry in column j times row j, which is b.
-fn clear_row(p: &[u8; 256], l: &[u8; 256], x: &mut [u8], b: &[u8], j: usize, i: usize)
-    requires { ⌜ now p ≡ powers ⌝ }
-    requires { ⌜ now l ≡ logs ⌝ }
-    requires { ⌜ (length (now x) ≡ 20) × (j < 4) × (i < 4) ⌝ }
+// Row i, if it is not j, plus its entry in column j times row j, which is b; an entry of 0 leaves the row as it is.
+fn clear_row(x: &mut [u8], b: &[u8], j: usize, i: usize)
+    requires { ⌜ (length (now x) ≡ 64) × (j < 4) × (i < 4) ⌝ }
     requires { ⌜ now b ≡ row (rowsOf (now x)) j ⌝ }
     ensures { λ _. ⌜ rowsOf (now (x .exit)) ≡ clearedRow 8 285 (rowsOf (now (x .entry))) j i ⌝ }
 {
     if i == j {
         return;
     }
-    let a = i * 5;
-    let e = a + 5;
+    let a = i * 16;
+    let e = a + 16;
     let f = x[a + j];
-    add(p, l, &mut x[a..e], b, f);
+    if f == 0 {
+        return;
+    }
+    add(&mut x[a..e], b, f);
 }
 
 // Each row below t but j so cleared.
-fn clear(p: &[u8; 256], l: &[u8; 256], x: &mut [u8], j: usize, t: usize)
-    requires { ⌜ now p ≡ powers ⌝ }
-    requires { ⌜ now l ≡ logs ⌝ }
-    requires { ⌜ (length (now x) ≡ 20) × (j < 4) × (t ≤ 4) ⌝ }
+fn clear(x: &mut [u8], j: usize, t: usize)
+    requires { ⌜ (length (now x) ≡ 64) × (j < 4) × (t ≤ 4) ⌝ }
     ensures { λ _. ⌜ rowsOf (now (x .exit)) ≡ cleared 8 285 (rowsOf (now (x .entry))) j t ⌝ }
 {
     let b = row_at(x, j);
     let mut i: usize = 0;
     while i < t {
-        clear_row(p, l, x, &b, j, i);
+        clear_row(x, &b, j, i);
         i += 1;
     }
 }
 
 // The first row from j on and below t whose entry in column j is not 0; t if there is none.
 fn pivot(x: &[u8], j: usize, t: usize) -> usize
-    requires { ⌜ length (now x) ≡ 20 ⌝ }
+    requires { ⌜ length (now x) ≡ 64 ⌝ }
     requires { ⌜ (j < 4) × (j ≤ t) × (t ≤ 4) ⌝ }
     ensures { λ r. ⌜ r ≡ pivot (rowsOf (now (x .entry))) j t ⌝ }
 {
     let mut i = j;
     while i < t {
-        if x[i * 5 + j] != 0 {
+        if x[i * 16 + j] != 0 {
             return i;
         }
         i += 1;
@@ -135,10 +131,8 @@ fn pivot(x: &[u8], j: usize, t: usize) -> usize
 }
 
 // Column j made the column j of the identity, if it has a pivot.
-fn eliminate_column(p: &[u8; 256], l: &[u8; 256], x: &mut [u8], j: usize, t: usize)
-    requires { ⌜ now p ≡ powers ⌝ }
-    requires { ⌜ now l ≡ logs ⌝ }
-    requires { ⌜ (length (now x) ≡ 20) × (j < t) × (t ≤ 4) ⌝ }
+fn eliminate_column(x: &mut [u8], j: usize, t: usize)
+    requires { ⌜ (length (now x) ≡ 64) × (j < t) × (t ≤ 4) ⌝ }
     ensures { λ _. ⌜ rowsOf (now (x .exit)) ≡ eliminateColumn 8 285 (rowsOf (now (x .entry))) j t ⌝ }
 {
     let i = pivot(x, j, t);
@@ -146,27 +140,25 @@ fn eliminate_column(p: &[u8; 256], l: &[u8; 256], x: &mut [u8], j: usize, t: usi
         return;
     }
     exchange(x, j, i);
-    normalize(p, l, x, j);
-    clear(p, l, x, j, t);
+    normalize(x, j);
+    clear(x, j, t);
 }
 
 // The columns below t in turn.
-fn eliminate_columns(p: &[u8; 256], l: &[u8; 256], x: &mut [u8], t: usize)
-    requires { ⌜ now p ≡ powers ⌝ }
-    requires { ⌜ now l ≡ logs ⌝ }
-    requires { ⌜ (length (now x) ≡ 20) × (t ≤ 4) ⌝ }
+fn eliminate_columns(x: &mut [u8], t: usize)
+    requires { ⌜ (length (now x) ≡ 64) × (t ≤ 4) ⌝ }
     ensures { λ _. ⌜ rowsOf (now (x .exit)) ≡ eliminated 8 285 (rowsOf (now (x .entry))) t ⌝ }
 {
     let mut j: usize = 0;
     while j < t {
-        eliminate_column(p, l, x, j, t);
+        eliminate_column(x, j, t);
         j += 1;
     }
 }
 
 // Lays the rows out one after another.
-fn lay(rows: [[u8; 5]; 4], x: &mut [u8])
-    requires { ⌜ length (now x) ≡ 20 ⌝ }
+fn lay(rows: [[u8; 16]; 4], x: &mut [u8])
+    requires { ⌜ length (now x) ≡ 64 ⌝ }
     ensures { λ _. ⌜ rowsOf (now (x .exit)) ≡ rows ⌝ }
 {
     let mut i: usize = 0;
@@ -178,11 +170,11 @@ fn lay(rows: [[u8; 5]; 4], x: &mut [u8])
 }
 
 // The rows that lie one after another.
-fn rows_at(x: &[u8]) -> [[u8; 5]; 4]
-    requires { ⌜ length (now x) ≡ 20 ⌝ }
+fn rows_at(x: &[u8]) -> [[u8; 16]; 4]
+    requires { ⌜ length (now x) ≡ 64 ⌝ }
     ensures { λ r. ⌜ r ≡ rowsOf (now (x .entry)) ⌝ }
 {
-    let mut rows = [[0u8; 5]; 4];
+    let mut rows = [[0u8; 16]; 4];
     let mut i: usize = 0;
     while i < 4 {
         let row = row_at(x, i);
@@ -198,15 +190,18 @@ fn at_most_4(t: usize) -> usize
     if t < 4 { t } else { 4 }
 }
 
-// The first t rows and columns made the identity, as far as there are pivots; t above 4 counts as 4.
-pub fn eliminate(rows: [[u8; 5]; 4], t: usize) -> [[u8; 5]; 4]
+// The first t rows and columns made the identity, as far as there are pivots; t above 4 counts as 4. One equation whose coefficient is 1 is solved.
+pub fn eliminate(rows: [[u8; 16]; 4], t: usize) -> [[u8; 16]; 4]
     ensures { λ r. ⌜ r ≡ eliminated 8 285 rows (min t 4) ⌝ }
 {
-    let p = gf256::tables::powers();
-    let l = gf256::tables::logs();
     let n = at_most_4(t);
-    let mut x = [0u8; 20];
+    if n == 1 {
+        if rows[0][0] == 1 {
+            return rows;
+        }
+    }
+    let mut x = [0u8; 64];
     lay(rows, &mut x);
-    eliminate_columns(&p, &l, &mut x, n);
+    eliminate_columns(&mut x, n);
     rows_at(&x)
 }

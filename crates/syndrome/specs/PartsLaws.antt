@@ -22,6 +22,9 @@ use Rattle.groups.specs.Lent.{Lent}
 use Rattle.groups.specs.LentLaws.{part-stretch, part-length}
 use Rattle.coefficients.specs.Rows.{powerRows, firstRows, secondRows, noRow}
 use Rattle.coefficients.specs.RowsLaws.{power-at, first-at, second-at}
+use Rattle.coefficients.specs.Padded.{Padded}
+use Rattle.coefficients.specs.PaddedLaws.{padded-group}
+use Rattle.syndrome.specs.Across.{plainSums}
 
 -- a test that would show what is not so
 pub is-false : (b : Bool) → (T b → ⊥) → b ≡ false
@@ -38,12 +41,22 @@ inner-group part row h narrow same =
     (λ j l. ap₂ (times bytes) (ap (λ n. getD part n 0) (sym (own-place (length part) j))) (same j (omega arith)))
 
 -- the factor 2^g of a group stands before its sum
-twisted-group : (E : Edition) (w c g : ℕ) (part : List ℕ)
-    → groupSum E w part 0 (twisted E c g) ≡ times E (raised E 2 g) (groupSum E w part 0 (λ j. raised E (coefficient E c j) (E .small)))
+pub twisted-group : (E : Edition) (w c g : ℕ) (part : List ℕ)
+    → times E (raised E 2 g) (groupSum E w part 0 (λ j. raised E (coefficient E c j) (E .small))) ≡ groupSum E w part 0 (twisted E c g)
 unfolding groupSum twisted
 twisted-group E w c g part =
-    sum-ext w _ _ (λ j _. product-left-comm (E .bits) (E .poly) (getD part (0 * w + j) 0) (raised E 2 g) (raised E (coefficient E c j) (E .small)))
-    ∙ sum-scale (E .bits) (E .poly) w (raised E 2 g) _
+    sym
+    (sum-ext w _ _ (λ j _. product-left-comm (E .bits) (E .poly) (getD part (0 * w + j) 0) (raised E 2 g) (raised E (coefficient E c j) (E .small)))
+    ∙ sum-scale (E .bits) (E .poly) w (raised E 2 g) _)
+
+-- a stretch that is padded
+module _ {part x : List ℕ} (P : Padded part x) (narrow : length part ≤ 16) (c : ℕ) where
+  pub padded-local : isLocal bytes (length x) c x 0 ≡ isLocal bytes (length part) c part 0
+  unfolding isLocal
+  padded-local i = allBelow c (λ e. eqb (padded-group P narrow (λ j. raised bytes (bytes .locator j) e) i) 0)
+
+  pub padded-plain : plainSums c x ≡ plainSums c part
+  padded-plain = ap₂ (λ a b. record { first = a; second = b }) (padded-group P narrow (coefficient bytes c)) (padded-group P narrow (λ j. raised bytes (coefficient bytes c j) 16))
 
 module _ (part : List ℕ) (narrow : length part ≤ 16) where
   pub power-group : (e : ℕ) → e < 4 → innerProduct 8 285 (length part) part (getD powerRows e noRow) ≡ localSum bytes (length part) part 0 e
@@ -56,12 +69,9 @@ module _ (part : List ℕ) (narrow : length part ≤ 16) where
     pub first-group : innerProduct 8 285 (length part) part (getD firstRows (c - 1) noRow) ≡ groupSum bytes (length part) part 0 (coefficient bytes c)
     first-group = inner-group part _ _ narrow (λ j l. first-at (c - 1) j (omega arith) l ∙ ap (λ n. coefficient bytes n j) same-count)
 
-    pub second-group : (g : ℕ) → times bytes (raised bytes 2 g) (innerProduct 8 285 (length part) part (getD secondRows (c - 1) noRow))
-        ≡ groupSum bytes (length part) part 0 (twisted bytes c g)
-    second-group g =
-        ap (times bytes (raised bytes 2 g))
-        (inner-group part _ _ narrow (λ j l. second-at (c - 1) j (omega arith) l ∙ ap (λ n. raised bytes (coefficient bytes n j) 16) same-count))
-        ∙ sym (twisted-group bytes (length part) c g part)
+    pub second-group : innerProduct 8 285 (length part) part (getD secondRows (c - 1) noRow)
+        ≡ groupSum bytes (length part) part 0 (λ j. raised bytes (coefficient bytes c j) 16)
+    second-group = inner-group part _ _ narrow (λ j l. second-at (c - 1) j (omega arith) l ∙ ap (λ n. raised bytes (coefficient bytes n j) 16) same-count)
 
 -- ---- all groups
 pub word-none : (w : ℕ) (word : List ℕ) (h : ℕ → ℕ → ℕ) → wordSum bytes 0 w word h ≡ 0

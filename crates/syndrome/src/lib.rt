@@ -5,8 +5,8 @@ ghost use Prim.Native.Nat.{_*_, _≤_, _<_};
 ghost use lib.ListN.{length};
 ghost use Rattle.shape.specs.Shapes.{Good};
 ghost use Rattle.byte_edition.specs.Edition.{bytes};
-ghost use Rattle.code.specs.Word.{groupSum, coefficient, twisted, isLocal};
-ghost use Rattle.syndrome.specs.Across.{acrossOf, noSums};
+ghost use Rattle.code.specs.Word.{isLocal};
+ghost use Rattle.syndrome.specs.Across.{plainSums, groupSums, acrossOf, noSums};
 ghost use Rattle.syndrome.specs.Tests.{brokenGroup, testedOf, notTested};
 
 // What the two equations across sum up to.
@@ -22,7 +22,23 @@ pub struct Tested {
     pub group: usize,
 }
 
-// Whether the first c local sums of one group's stretch are zero; false for more than 16 places or c above 4.
+// Whether the first c local sums of at most sixteen places are zero.
+fn zero_sums(part: &[u8], c: usize) -> bool
+    requires { ⌜ (length (now part) ≤ 16) × (c ≤ 4) ⌝ }
+    ensures { λ r. ⌜ r ≡ isLocal bytes (length (now (part .entry))) c (now (part .entry)) 0 ⌝ }
+{
+    let mut e: usize = 0;
+    while e < c {
+        if coefficients::power_sum(part, e) != 0 {
+            return false;
+        }
+        e += 1;
+    }
+    true
+}
+
+// Whether the first c local sums of one group's stretch are zero; false for more than 16 places or c above 4. A shorter stretch is padded, since
+// sums over sixteen places are fast.
 pub fn local_zero(part: &[u8], c: usize) -> bool
     ensures { λ r. ⌜ (length (now (part .entry)) ≤ 16 → c ≤ 4 → r ≡ isLocal bytes (length (now (part .entry))) c (now (part .entry)) 0) ⌝ }
     ensures { λ r. ⌜ ((length (now (part .entry)) ≤ 16 → c ≤ 4 → ⊥) → r ≡ false) ⌝ }
@@ -33,14 +49,11 @@ pub fn local_zero(part: &[u8], c: usize) -> bool
     if 16 < part.len() {
         return false;
     }
-    let mut e: usize = 0;
-    while e < c {
-        if coefficients::power_sum(part, e) != 0 {
-            return false;
-        }
-        e += 1;
+    if part.len() == 16 {
+        return zero_sums(part, c);
     }
-    true
+    let x = coefficients::padded(part);
+    zero_sums(&x, c)
 }
 
 // Whether a stretch has at most 16 places and c is from 1 to 4.
@@ -57,35 +70,52 @@ fn in_range(places: usize, c: usize) -> bool
     places <= 16
 }
 
-// One group's part of the first sum across, from its stretch; 0 out of range.
-pub fn group_first(part: &[u8], c: usize) -> u8
-    ensures { λ r. ⌜ (length (now (part .entry)) ≤ 16 → 1 ≤ c → c ≤ 4 → r ≡ groupSum bytes (length (now (part .entry))) (now (part .entry)) 0 (coefficient bytes c)) ⌝ }
-    ensures { λ r. ⌜ ((length (now (part .entry)) ≤ 16 → 1 ≤ c → c ≤ 4 → ⊥) → r ≡ 0) ⌝ }
+// The inner products of a stretch with the coefficients of the two sums across, without the factor of its group.
+fn plain_sums(part: &[u8], c: usize) -> Sums
+    requires { ⌜ (length (now part) ≤ 16) × (1 ≤ c) × (c ≤ 4) ⌝ }
+    ensures { λ r. ⌜ r ≡ plainSums c (now (part .entry)) ⌝ }
 {
-    if !in_range(part.len(), c) {
-        return 0;
-    }
-    coefficients::first_sum(part, c - 1)
+    let first = coefficients::first_sum(part, c - 1);
+    let second = coefficients::second_sum(part, c - 1);
+    Sums { first, second }
 }
 
-// The part of group g of the second sum across, from its stretch: 2^g stands before the group's sum. 0 out of range.
-pub fn group_second(part: &[u8], c: usize, g: usize) -> u8
-    ensures { λ r. ⌜ (length (now (part .entry)) ≤ 16 → 1 ≤ c → c ≤ 4 → g < 15 → r ≡ groupSum bytes (length (now (part .entry))) (now (part .entry)) 0 (twisted bytes c g)) ⌝ }
-    ensures { λ r. ⌜ ((length (now (part .entry)) ≤ 16 → 1 ≤ c → c ≤ 4 → g < 15 → ⊥) → r ≡ 0) ⌝ }
+// The same; a stretch of fewer than sixteen places is padded.
+fn padded_sums(part: &[u8], c: usize) -> Sums
+    requires { ⌜ (length (now part) ≤ 16) × (1 ≤ c) × (c ≤ 4) ⌝ }
+    ensures { λ r. ⌜ r ≡ plainSums c (now (part .entry)) ⌝ }
 {
+    if part.len() == 16 {
+        return plain_sums(part, c);
+    }
+    let x = coefficients::padded(part);
+    plain_sums(&x, c)
+}
+
+// The part of group g of the two sums across, from its stretch: in the second 2^g stands before the group's sum. 0 out of range.
+pub fn group_sums(part: &[u8], c: usize, g: usize) -> Sums
+    ensures { λ r. ⌜ (length (now (part .entry)) ≤ 16 → 1 ≤ c → c ≤ 4 → g < 15 → r ≡ groupSums c g (now (part .entry))) ⌝ }
+    ensures { λ r. ⌜ ((length (now (part .entry)) ≤ 16 → 1 ≤ c → c ≤ 4 → g < 15 → ⊥) → r ≡ noSums) ⌝ }
+{
+    let none = Sums {
+        first: 0,
+        second: 0,
+    };
     if !in_range(part.len(), c) {
-        return 0;
+        return none;
     }
     if 14 < g {
-        return 0;
+        return none;
     }
-    gf256::shifted_product(
-        gf256::power_of_two(g),
-        coefficients::second_sum(part, c - 1),
-    )
+    let s = padded_sums(part, c);
+    let second = gf256::shifted_product(gf256::power_of_two(g), s.second);
+    Sums {
+        first: s.first,
+        second,
+    }
 }
 
-// The two sums across, of a good shape and a word of its length; 0 for others.
+// The two sums across, of a good shape and a word of its length; 0 for others. The factor 2^g is doubled from group to group.
 pub fn across(m: usize, w: usize, c: usize, word: &[u8]) -> Sums
     ensures { λ r. ⌜ (Good m w c → length (now (word .entry)) ≡ m * w → r ≡ acrossOf m w c (now (word .entry))) ⌝ }
     ensures { λ r. ⌜ ((Good m w c → length (now (word .entry)) ≡ m * w → ⊥) → r ≡ noSums) ⌝ }
@@ -95,13 +125,15 @@ pub fn across(m: usize, w: usize, c: usize, word: &[u8]) -> Sums
     if shape::word_refusal(m, w, c, word.len()) != 0 {
         return Sums { first, second };
     }
+    let mut factor: u8 = 1;
     let mut g: usize = 0;
     while g < m {
         let a = g * w;
         let e = a + w;
-        let part = &word[a..e];
-        first = first ^ group_first(part, c);
-        second = second ^ group_second(part, c, g);
+        let s = padded_sums(&word[a..e], c);
+        first = first ^ s.first;
+        second = second ^ gf256::shifted_product(factor, s.second);
+        factor = gf256::double(factor);
         g += 1;
     }
     Sums { first, second }

@@ -4,17 +4,15 @@ use lib.ListN.{length, set, length-set}
 use Rattle.binary_field.specs.Xor.{_⊕_}
 use Rattle.binary_field.specs.XorLaws.{⊕-bits}
 use Prim.Native.Nat.{_≤_}
+use Rattle.syndrome.specs.declared.Sums.{Sums}
 use Rattle.edit.specs.Rows.{tailMarks}
 use Rattle.edit.proofs.Laws.{filled, refilled}
 use borrow.Author.Needs.{needs}
 use Rattle.edit.proofs.refill.Statement.{statement}
 use Rattle.edit.proofs.refill.Tie as tie
 
-group-first-requires : tie.Need-group-first-requires
-group-first-requires c κs = search needs
-
-group-second-requires : tie.Need-group-second-requires
-group-second-requires c κs = search needs
+group-sums-requires : tie.Need-group-sums-requires
+group-sums-requires c κs = search needs
 
 slice-write-part : tie.Need-slice-write-part
 slice-write-part c = search needs
@@ -37,40 +35,36 @@ part-fill-end c = search needs
 fill-requires : tie.Need-fill-requires
 fill-requires c κs = search needs
 
-group-first-requires-2 : tie.Need-group-first-requires-2
-group-first-requires-2 c κs = search needs
-
-group-second-requires-2 : tie.Need-group-second-requires-2
-group-second-requires-2 c κs = search needs
+group-sums-requires-2 : tie.Need-group-sums-requires-2
+group-sums-requires-2 c κs = search needs
 
 same-length : tie.Need-same-length
 same-length c =
-    let f = c .before .before .before .before .before .before in
-    let a = f .before .before .before .before .before .before .before .before .before .args in
+    let f = c .before .before .before .before .before .before .before .before in
+    let a = f .before .before .before .before .before .before .before .args in
     f .fill .ensures .size ∙ length-set (a .part .now) (a .j) (a .byte)
 
 returns : tie.Need-returns
 unfolding tailMarks
 returns c =
-    let f = c .before .before .before .before .before .before in
+    let q = c .before .before .before .before in
+    let f = q .before .before .before .before in
     let t = f .before .before .before .before in
-    let s = t .before .before .before .before .before in
+    let s = t .before .before .before in
     let a = s .args in
     let n : length (f .fill .last .0) ≤ 16 = omega (arith, f .fill .ensures .size, length-set (a .part .now) (a .j) (a .byte)) in
+    let old = t .group-sums .ensures .0 (omega arith) (omega arith) (omega arith) (omega arith) in
+    let new = q .group-sums2 .ensures .0 n (omega arith) (omega arith) (omega arith) in
     refilled _ (a .c) (a .g) (a .j) (a .byte) (a .part .now) (f .fill .last .0) _ (s .pre .0 .0) (s .pre .0 .1) (s .pre .1 .0 .0) (s .pre .1 .0 .1) refl
     (filled (a .c) (a .j) (a .byte) (a .part .now) (f .fill .last .0) (omega arith) (f .fill .ensures))
-    (⊕-bits _ _ ∙ ap₂ _⊕_ (t .before .before .group-first .ensures .0 (omega arith) (omega arith) (omega arith))
-    (c .before .before .group-first2 .ensures .0 n (omega arith) (omega arith)))
-    (⊕-bits _ _
-    ∙ ap₂ _⊕_ (t .group-second .ensures .0 (omega arith) (omega arith) (omega arith) (omega arith))
-    (c .group-second2 .ensures .0 n (omega arith) (omega arith) (omega arith)))
+    (⊕-bits _ _ ∙ ap₂ _⊕_ (ap (λ (x : Sums). x .first) old) (ap (λ (x : Sums). x .first) new))
+    (⊕-bits _ _ ∙ ap₂ _⊕_ (ap (λ (x : Sums). x .second) old) (ap (λ (x : Sums). x .second) new))
 
 pub refill-spec : {M : Type 1} → statement M
 refill-spec =
     tie.close
     (tie.spec
-    group-first-requires
-    group-second-requires
+    group-sums-requires
     slice-write-part
     add-e
     sub-a
@@ -78,7 +72,6 @@ refill-spec =
     part-fill-start
     part-fill-end
     fill-requires
-    group-first-requires-2
-    group-second-requires-2
+    group-sums-requires-2
     same-length
     returns)

@@ -42,14 +42,14 @@ array-read-t36 : tie.Need-array-read-t36
 array-read-t36 c = search needs
 
 -- the entries of a row at four positions below 16
-at-four : (powers at : List ℕ) (s i : ℕ) → i < 4 → getD at i 0 < 16
-    → getD (getD powers (getD at 0 0 % 16) 0 ∷ getD powers (getD at 1 0 % 16) 0 ∷ getD powers (getD at 2 0 % 16) 0 ∷ getD powers (getD at 3 0 % 16) 0 ∷ s ∷ []) i 0
+at-four : (powers at rest : List ℕ) (i : ℕ) → i < 4 → getD at i 0 < 16
+    → getD (getD powers (getD at 0 0 % 16) 0 ∷ getD powers (getD at 1 0 % 16) 0 ∷ getD powers (getD at 2 0 % 16) 0 ∷ getD powers (getD at 3 0 % 16) 0 ∷ rest) i 0
     ≡ getD powers (getD at i 0) 0
-at-four powers at s zero l h = ap (λ p. getD powers p 0) (mod-eq-of-lt h)
-at-four powers at s (suc zero) l h = ap (λ p. getD powers p 0) (mod-eq-of-lt h)
-at-four powers at s (suc (suc zero)) l h = ap (λ p. getD powers p 0) (mod-eq-of-lt h)
-at-four powers at s (suc (suc (suc zero))) l h = ap (λ p. getD powers p 0) (mod-eq-of-lt h)
-at-four powers at s (suc (suc (suc (suc i)))) l h = absurd (omega arith)
+at-four powers at rest zero l h = ap (λ p. getD powers p 0) (mod-eq-of-lt h)
+at-four powers at rest (suc zero) l h = ap (λ p. getD powers p 0) (mod-eq-of-lt h)
+at-four powers at rest (suc (suc zero)) l h = ap (λ p. getD powers p 0) (mod-eq-of-lt h)
+at-four powers at rest (suc (suc (suc zero))) l h = ap (λ p. getD powers p 0) (mod-eq-of-lt h)
+at-four powers at rest (suc (suc (suc (suc i)))) l h = absurd (omega arith)
 
 returns : tie.Need-returns
 returns c =
@@ -57,7 +57,7 @@ returns c =
     let r : c .before .power-row .result ≡ getD powerRows (a .args .e) noRow = c .before .power-row .ensures in record {
       left = λ i l.
           let h = a .pre .3 i l in
-          at-four (c .before .power-row .result) (a .args .t2) _ i (omega arith) (omega arith)
+          at-four (c .before .power-row .result) (a .args .t2) (c .power-sum .result ∷ 0 ∷ 0 ∷ 0 ∷ 0 ∷ 0 ∷ 0 ∷ 0 ∷ 0 ∷ 0 ∷ 0 ∷ 0 ∷ []) i (omega arith) (omega arith)
           ∙ rw r (power-at (a .args .e) (getD (a .args .t2) i 0) (omega arith) (omega arith));
       right = c .power-sum .ensures ∙ syndrome (a .args .part .now) (a .args .e) (omega arith) (omega arith);
     }

@@ -1,62 +1,51 @@
-use mathlib.Core.Path.{_≡_, refl}
-use mathlib.Core.List.{[]}
-use Prim.Native.Nat.{ℕ, _≤_, _<_, _-_}
+use mathlib.Core.Path.{_∙_}
 use native.Mathlib.Omega.{arith}
-use lib.ListN.{length, length-set}
+use Rattle.code.specs.Edition.{raised}
+use Rattle.byte_edition.specs.Edition.{bytes}
+use Rattle.coefficients.specs.PaddedLaws.{padded-group}
 use borrow.Author.Needs.{needs}
-use Rattle.solve.specs.Elimination.{row}
-use Rattle.fill.specs.EquationsLaws.{Equation}
-use Rattle.fill.proofs.Laws.{each-set}
 use Rattle.fill.proofs.equations.Statement.{statement}
 use Rattle.fill.proofs.equations.Tie as tie
+use Rattle.fill.proofs.equations.Reads as reads
+use Rattle.fill.proofs.equations.Lts as lts
+use Rattle.coefficients.proofs.padded.Reads as padded-reads
+use Rattle.fill.proofs.equations_of.Reads as equations-of-reads
 
-abbrev Inv-loop : tie.InvT-loop
-Inv-loop part at t rows₀ e₀ rows e = (e ≤ t) × (length rows ≡ 4) × ((k : ℕ) → k < e → Equation part at t k (row rows k))
+equations-of-requires : tie.Need-equations-of-requires
+equations-of-requires c κs = search needs
 
-abbrev μ-loop : tie.MeasureT-loop
-μ-loop part at t rows₀ e₀ rows e = t - e
+returns : tie.Need-returns
+returns c = search needs
 
-loop-holds : tie.Need-loop-holds Inv-loop μ-loop
-loop-holds c = (omega arith, refl, λ k l. absurd (omega arith))
+padded-requires : tie.Need-padded-requires
+padded-requires c κs = search needs
 
-equation-requires : tie.Need-equation-requires Inv-loop μ-loop
-equation-requires c κs = search needs
+slice-aggregate-equations-of : tie.Need-slice-aggregate-equations-of
+slice-aggregate-equations-of c = search needs
 
-mul-rows : tie.Need-mul-rows Inv-loop μ-loop
-mul-rows c = omega arith
+equations-of-requires-2 : tie.Need-equations-of-requires-2
+equations-of-requires-2 c κs =
+    let p = c .before in
+    let s = p .before .before .before in
+    let size = p .padded .ensures .size in
+    (omega arith, omega arith, λ i l. let h = s .pre .2 i l in omega arith)
 
-array-set-from-rows : tie.Need-array-set-from-rows Inv-loop μ-loop
-array-set-from-rows c = omega arith
-
-add-e : tie.Need-add-e Inv-loop μ-loop
-add-e c = omega arith
-
-loop-less : tie.Need-loop-less Inv-loop μ-loop
-loop-less c = omega arith
-
-loop-again : tie.Need-loop-again Inv-loop μ-loop
-loop-again c =
-    let s = c .before .before in
-    let a = s .before .before .args in (
-      omega arith,
-      simp length-set (omega arith),
-      each-set (Equation (a .part .now) (a .at) (a .t)) (s .loop .rows) (s .loop .e) (c .equation .result) [] (omega arith) (s .loop .inv .2) (c .equation .ensures),
-    )
-
-returns : tie.Need-returns Inv-loop μ-loop
-returns c = λ k l. c .before .loop .inv .2 k (omega arith)
+returns-2 : tie.Need-returns-2
+returns-2 c e l =
+    let p = c .before .before in
+    let s = p .before .before .before in
+    let q = c .equations-of2 .ensures e l in record {
+      left = q .left;
+      right = q .right ∙ padded-group (p .padded .ensures) (omega arith) (λ j. raised bytes (bytes .locator j) e);
+    }
 
 pub equations-spec : {M : Type 1} → statement M
 equations-spec =
     tie.close
     (tie.spec
-    Inv-loop
-    μ-loop
-    loop-holds
-    equation-requires
-    mul-rows
-    array-set-from-rows
-    add-e
-    loop-less
-    loop-again
-    returns)
+    equations-of-requires
+    returns
+    padded-requires
+    slice-aggregate-equations-of
+    equations-of-requires-2
+    returns-2)

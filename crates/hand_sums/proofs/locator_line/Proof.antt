@@ -4,7 +4,7 @@ use Rattle.hand_sums.proofs.locator_line.Statement.{statement}
 use Rattle.hand_sums.proofs.locator_line.Tie as tie
 use Rattle.hand_sums.proofs.locator_line.Reads as reads
 use Rattle.hand_sums.proofs.locator_line.Lts as lts
-use Rattle.gf256.proofs.tables.locator.Reads as locator-reads
+use Rattle.gf256.proofs.locators.locator.Reads as locator-reads
 use Rattle.hand_sums.proofs.number.Reads as number-reads
 use Rattle.io.proofs.write_all.Reads as write-all-reads
 

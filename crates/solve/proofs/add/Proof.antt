@@ -1,23 +1,23 @@
 use mathlib.Core.Path.{_≡_}
 use mathlib.Core.List.{List, _++_}
-use Prim.Native.Nat.{ℕ, _≤_, _<_, _-_}
+use Prim.Native.Nat.{ℕ, _≤_, _-_}
 use native.Mathlib.Omega.{arith}
 use lib.ListN.{length, getD, take, drop, length-set}
 use borrow.Author.Needs.{needs}
-use Rattle.gf256.specs.TablesLaws.{tables-product}
+use Rattle.binary_field.specs.ProductLaws.{product-comm}
 use Rattle.solve.specs.Elimination.{added}
 use Rattle.solve.proofs.Laws.{added-step, added-end}
 use Rattle.solve.proofs.add.Statement.{statement}
 use Rattle.solve.proofs.add.Tie as tie
 use Rattle.solve.proofs.add.Reads as reads
 use Rattle.solve.proofs.add.Lts as lts
-use Rattle.gf256.proofs.product_in.Reads as product-in-reads
+use Rattle.gf256.proofs.shifted_product.Reads as shifted-product-reads
 
 abbrev Inv-loop : tie.InvT-loop
-Inv-loop p l row₀ b f c₀ row c = (c ≤ length row₀) × (length row ≡ length row₀) × (take c row ++ added 8 285 f (drop c row) (drop c b) ≡ added 8 285 f row₀ b)
+Inv-loop row₀ b f c₀ row c = (c ≤ length row₀) × (length row ≡ length row₀) × (take c row ++ added 8 285 f (drop c row) (drop c b) ≡ added 8 285 f row₀ b)
 
 abbrev μ-loop : tie.MeasureT-loop
-μ-loop p l row₀ b f c₀ row c = length row₀ - c
+μ-loop row₀ b f c₀ row c = length row₀ - c
 
 loop-holds : tie.Need-loop-holds Inv-loop μ-loop
 loop-holds c = search needs
@@ -25,11 +25,11 @@ loop-holds c = search needs
 slice-read-row : tie.Need-slice-read-row Inv-loop μ-loop
 slice-read-row c = omega arith
 
-shared-slice-read-product-in : tie.Need-shared-slice-read-product-in Inv-loop μ-loop
-shared-slice-read-product-in c = omega arith
+shared-slice-read-shifted-product : tie.Need-shared-slice-read-shifted-product Inv-loop μ-loop
+shared-slice-read-shifted-product c = omega arith
 
-product-in-requires : tie.Need-product-in-requires Inv-loop μ-loop
-product-in-requires c κs = search needs
+shifted-product-requires : tie.Need-shifted-product-requires Inv-loop μ-loop
+shifted-product-requires c κs = search needs
 
 slice-write-row : tie.Need-slice-write-row Inv-loop μ-loop
 slice-write-row c = omega arith
@@ -47,9 +47,7 @@ loop-again c =
     let x : List ℕ = s .loop .row in
     let i : ℕ = s .loop .c in
     let y : List ℕ = a .b .now in
-    let b : getD y i 0 < 256 = c .before .shared-slice-known2 .given i .fits in
-    let q = s .before .before .before .pre in
-    (omega arith, simp length-set (omega arith), cc (added-step 8 285 (a .f) x y i (c .product-in .result) (omega arith) (omega arith) (cc (tables-product (a .f) (getD y i 0) (omega arith) b))))
+    (omega arith, simp length-set (omega arith), cc (added-step 8 285 (a .f) x y i (c .shifted-product .result) (omega arith) (omega arith) (cc (product-comm 8 285 (getD y i 0) (a .f)))))
 
 same-length : tie.Need-same-length Inv-loop μ-loop
 same-length c = omega arith
@@ -68,8 +66,8 @@ add-spec =
     μ-loop
     loop-holds
     slice-read-row
-    shared-slice-read-product-in
-    product-in-requires
+    shared-slice-read-shifted-product
+    shifted-product-requires
     slice-write-row
     add-c
     loop-less

@@ -14,10 +14,10 @@ use Rattle.solve.proofs.clear_row.Reads as clear-row-reads
 use Rattle.solve.proofs.row_at.Reads as row-at-reads
 
 abbrev Inv-loop : tie.InvT-loop
-Inv-loop p l x₀ j t b i₀ x i = (i ≤ t) × (length x ≡ 20) × (rowsOf x ≡ cleared 8 285 (rowsOf x₀) j i)
+Inv-loop x₀ j t b i₀ x i = (i ≤ t) × (length x ≡ 64) × (rowsOf x ≡ cleared 8 285 (rowsOf x₀) j i)
 
 abbrev μ-loop : tie.MeasureT-loop
-μ-loop p l x₀ j t b i₀ x i = t - i
+μ-loop x₀ j t b i₀ x i = t - i
 
 row-at-requires : tie.Need-row-at-requires Inv-loop μ-loop
 row-at-requires c κs = search needs
@@ -33,7 +33,7 @@ clear-row-requires c κs =
     let s = c .before .before .before in
     let r = s .before in
     let a = r .before .before .before in
-    (a .pre .0, (a .pre .1 .0, ((omega arith, omega arith, omega arith), r .row-at .ensures ∙ clear-pivot 8 285 (rowsOf (a .args .x .now)) (a .args .j) (rowsOf (s .loop .x)) (s .loop .i) (s .loop .inv .2))))
+    ((omega arith, omega arith, omega arith), (r .row-at .ensures ∙ clear-pivot 8 285 (rowsOf (a .args .x .now)) (a .args .j) (rowsOf (s .loop .x)) (s .loop .i) (s .loop .inv .2)))
 
 add-i : tie.Need-add-i Inv-loop μ-loop
 add-i c = omega arith

@@ -1,4 +1,4 @@
-use mathlib.Core.Path.{_≡_, sym, ap, _∙_}
+use mathlib.Core.Path.{sym, ap, _∙_}
 use mathlib.Core.List.{List}
 use Prim.Native.Nat.{ℕ}
 use native.Mathlib.Omega.{arith}
@@ -7,7 +7,7 @@ use Rattle.code.specs.StretchLaws.{stretch-length}
 use Rattle.groups.specs.LentLaws.{stretch-lent, with-lent}
 use Rattle.solve.specs.Flat.{rowsOf}
 use Rattle.solve.specs.FlatLaws.{row-long}
-use Rattle.solve.proofs.Laws.{row-skip, clear-part}
+use Rattle.solve.proofs.Laws.{row-skip, clear-part, clear-zero}
 use borrow.Author.Needs.{needs}
 use Rattle.solve.proofs.clear_row.Statement.{statement}
 use Rattle.solve.proofs.clear_row.Tie as tie
@@ -30,6 +30,11 @@ add-f c = search needs
 slice-read-f : tie.Need-slice-read-f
 slice-read-f c = search needs
 
+returns-2 : tie.Need-returns-2
+returns-2 c =
+    let a = c .before .before .before .before .before in
+    clear-zero 8 285 (a .args .x .now) (omega arith) (a .args .i) (omega arith) (a .args .j) (omega arith) (c .if2 .taken)
+
 sub-add : tie.Need-sub-add
 sub-add c = search needs
 
@@ -41,22 +46,23 @@ part-add-end c = search needs
 
 add-requires : tie.Need-add-requires
 add-requires c κs =
-    let a = c .before .before .before .before .before in
+    let a = c .before .before .before .before .before .before in
     let x : List ℕ = a .args .x .now in
-    (a .pre .0, (a .pre .1 .0, ap length (a .pre .1 .1 .1) ∙ row-long x (omega arith) (a .args .j) (omega arith) ∙ sym (ap length (stretch-lent 5 (a .args .i) x) ∙ stretch-length 5 (a .args .i) x (omega arith))))
+    ap length (a .pre .1) ∙ row-long x (omega arith) (a .args .j) (omega arith)
+    ∙ sym (ap length (stretch-lent 16 (a .args .i) x) ∙ stretch-length 16 (a .args .i) x (omega arith))
 
 same-length : tie.Need-same-length
 same-length c = search needs
 
-returns-2 : tie.Need-returns-2
-returns-2 c =
+returns-3 : tie.Need-returns-3
+returns-3 c =
     let s = c .before .before in
-    let t = s .before .before .before in
+    let t = s .before .before .before .before in
     let a = t .before .before .before in
     let x : List ℕ = a .args .x .now in
     let i : ℕ = a .args .i in
-    ap rowsOf (with-lent 5 i x (s .add .last .1 .1 .0))
-    ∙ clear-part 8 285 x (omega arith) i (omega arith) _ (a .args .j) (omega arith) (t .if1 .left) (rw (stretch-lent 5 i x, a .pre .1 .1 .1) at (s .add .ensures))
+    ap rowsOf (with-lent 16 i x (s .add .last .0))
+    ∙ clear-part 8 285 x (omega arith) i (omega arith) _ (a .args .j) (omega arith) (t .if1 .left) (rw (stretch-lent 16 i x, a .pre .1) at (s .add .ensures))
 
 pub clear-row-spec : {M : Type 1} → statement M
 clear-row-spec =
@@ -67,9 +73,10 @@ clear-row-spec =
     add-e
     add-f
     slice-read-f
+    returns-2
     sub-add
     part-add-start
     part-add-end
     add-requires
     same-length
-    returns-2)
+    returns-3)

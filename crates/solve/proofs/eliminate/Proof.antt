@@ -1,26 +1,37 @@
-use mathlib.Core.Path.{ap₂, _∙_}
-use Rattle.solve.specs.Elimination.{eliminated}
+use mathlib.Core.Path.{_≡_, sym, ap, ap₂, _∙_}
+use Prim.Native.Nat.{min}
 use native.Mathlib.Omega.{arith}
+use lib.Dec.{lit<}
+use mir.Syntax.{w8}
+use Rattle.solve.specs.Elimination.{eliminated}
+use Rattle.solve.proofs.Arrays.{array-system}
+use Rattle.solve.proofs.Laws.{eliminated-one}
 use borrow.Author.Needs.{needs}
 use Rattle.solve.proofs.eliminate.Statement.{statement}
 use Rattle.solve.proofs.eliminate.Tie as tie
 use Rattle.solve.proofs.eliminate.Reads as reads
 use Rattle.solve.proofs.eliminate.Lts as lts
-use Rattle.gf256.proofs.tables.logs.Reads as logs-reads
-use Rattle.gf256.proofs.tables.powers.Reads as powers-reads
 use Rattle.solve.proofs.at_most_4.Reads as at-most-4-reads
 use Rattle.solve.proofs.eliminate_columns.Reads as eliminate-columns-reads
 use Rattle.solve.proofs.lay.Reads as lay-reads
 use Rattle.solve.proofs.rows_at.Reads as rows-at-reads
 
-powers-requires : tie.Need-powers-requires
-powers-requires c κs = search needs
-
-logs-requires : tie.Need-logs-requires
-logs-requires c κs = search needs
-
 at-most-4-requires : tie.Need-at-most-4-requires
 at-most-4-requires c κs = search needs
+
+index-1-if2 : tie.Need-index-1-if2
+index-1-if2 c = search needs
+
+index-2-if2 : tie.Need-index-2-if2
+index-2-if2 c = search needs
+
+returns : tie.Need-returns
+returns c =
+    let n = c .before .before .before in
+    let s = n .before in
+    let small = array-system w8 16 4 (s .args .t1) _ (s .good .0) 1 (omega arith) .small 0 (omega arith) in
+    let e : 1 ≡ min (s .args .t) 4 = sym (c .before .before .if1 .taken) ∙ n .at-most-4 .ensures in
+    eliminated-one 8 285 (lit< tt) (s .args .t1) small (c .if2 .taken) ∙ ap (eliminated 8 285 (s .args .t1)) e
 
 slice-aggregate-lay : tie.Need-slice-aggregate-lay
 slice-aggregate-lay c = search needs
@@ -32,11 +43,7 @@ slice-aggregate-eliminate-columns : tie.Need-slice-aggregate-eliminate-columns
 slice-aggregate-eliminate-columns c = search needs
 
 eliminate-columns-requires : tie.Need-eliminate-columns-requires
-eliminate-columns-requires c κs =
-    let l = c .before .before .before .before in
-    let n = l .before .before in
-    let four = n .at-most-4 .ensures in
-    (n .before .before .powers .ensures, (n .before .logs .ensures, (search needs, omega arith)))
+eliminate-columns-requires c κs = search needs
 
 slice-aggregate-rows-at : tie.Need-slice-aggregate-rows-at
 slice-aggregate-rows-at c = search needs
@@ -44,23 +51,24 @@ slice-aggregate-rows-at c = search needs
 rows-at-requires : tie.Need-rows-at-requires
 rows-at-requires c κs = search needs
 
-returns : tie.Need-returns
-returns c =
+returns-2 : tie.Need-returns-2
+returns-2 c =
     let k = c .before .before .before in
-    let l = k .before .before .before .before .before in
-    c .rows-at .ensures ∙ k .eliminate-columns .ensures ∙ ap₂ (eliminated 8 285) (l .lay .ensures) (l .before .before .at-most-4 .ensures)
+    let l = k .before .before .before in
+    c .rows-at .ensures ∙ k .eliminate-columns .ensures ∙ ap₂ (eliminated 8 285) (l .lay .ensures) (l .before .before .before .at-most-4 .ensures)
 
 pub eliminate-spec : {M : Type 1} → statement M
 eliminate-spec =
     tie.close
     (tie.spec
-    powers-requires
-    logs-requires
     at-most-4-requires
+    index-1-if2
+    index-2-if2
+    returns
     slice-aggregate-lay
     lay-requires
     slice-aggregate-eliminate-columns
     eliminate-columns-requires
     slice-aggregate-rows-at
     rows-at-requires
-    returns)
+    returns-2)

@@ -29,12 +29,10 @@ exchange-requires : tie.Need-exchange-requires
 exchange-requires c κs = search needs
 
 normalize-requires : tie.Need-normalize-requires
-normalize-requires c κs =
-    let a = c .before .before .before .before .before .before .before .before .before in (a .pre .0, (a .pre .1 .0, (search needs, omega arith)))
+normalize-requires c κs = search needs
 
 clear-requires : tie.Need-clear-requires
-clear-requires c κs =
-    let a = c .before .before .before .before .before .before .before .before .before .before .before .before .before in (a .pre .0, (a .pre .1 .0, (search needs, omega arith, omega arith)))
+clear-requires c κs = search needs
 
 same-length-2 : tie.Need-same-length-2
 same-length-2 c = search needs

@@ -13,17 +13,17 @@ use Rattle.solve.proofs.eliminate_columns.Lts as lts
 use Rattle.solve.proofs.eliminate_column.Reads as eliminate-column-reads
 
 abbrev Inv-loop : tie.InvT-loop
-Inv-loop p l x₀ t j₀ x j = (j ≤ t) × (length x ≡ 20) × (rowsOf x ≡ eliminatedTo 8 285 (rowsOf x₀) t j)
+Inv-loop x₀ t j₀ x j = (j ≤ t) × (length x ≡ 64) × (rowsOf x ≡ eliminatedTo 8 285 (rowsOf x₀) t j)
 
 abbrev μ-loop : tie.MeasureT-loop
-μ-loop p l x₀ t j₀ x j = t - j
+μ-loop x₀ t j₀ x j = t - j
 
 loop-holds : tie.Need-loop-holds Inv-loop μ-loop
 loop-holds c = (omega arith, omega arith, eliminate-none 8 285 _ _)
 
 eliminate-column-requires : tie.Need-eliminate-column-requires Inv-loop μ-loop
 eliminate-column-requires c κs =
-    let a = c .before .before .before .before in (a .pre .0, (a .pre .1 .0, (omega arith, omega arith, omega arith)))
+    (omega arith, omega arith, omega arith)
 
 add-j : tie.Need-add-j Inv-loop μ-loop
 add-j c = omega arith

@@ -17,7 +17,7 @@ use Rattle.solve.proofs.lay.Lts as lts
 use Rattle.solve.proofs.put_row.Reads as put-row-reads
 
 abbrev Inv-loop : tie.InvT-loop
-Inv-loop x₀ rows i₀ x i = (i ≤ 4) × (length x ≡ 20) × ((e : ℕ) → e < i → row (rowsOf x) e ≡ row rows e)
+Inv-loop x₀ rows i₀ x i = (i ≤ 4) × (length x ≡ 64) × ((e : ℕ) → e < i → row (rowsOf x) e ≡ row rows e)
 
 abbrev μ-loop : tie.MeasureT-loop
 μ-loop x₀ rows i₀ x i = 4 - i
@@ -34,12 +34,12 @@ array-copy-out-row c = omega arith
 slice-aggregate-put-row : tie.Need-slice-aggregate-put-row Inv-loop μ-loop
 slice-aggregate-put-row c =
     let s = c .before .before .before .before in
-    sym (array-rows w8 5 4 (s .before .before .args .t1) _ (s .before .before .good .0) .1 (s .loop .i) (omega arith))
+    sym (array-rows w8 16 4 (s .before .before .args .t1) _ (s .before .before .good .0) .1 (s .loop .i) (omega arith))
 
 put-row-requires : tie.Need-put-row-requires Inv-loop μ-loop
 put-row-requires c κs =
     let s = c .before .before .before .before in
-    ((omega arith, omega arith), array-rows w8 5 4 (s .before .before .args .t1) _ (s .before .before .good .0) .1 (s .loop .i) (omega arith))
+    ((omega arith, omega arith), array-rows w8 16 4 (s .before .before .args .t1) _ (s .before .before .good .0) .1 (s .loop .i) (omega arith))
 
 add-i : tie.Need-add-i Inv-loop μ-loop
 add-i c = omega arith
@@ -59,7 +59,7 @@ same-length c = omega arith
 returns : tie.Need-returns Inv-loop μ-loop
 returns c =
     let s = c .before in
-    rows-all (rowsOf (s .loop .x)) _ (rows-length (s .loop .x)) (array-rows w8 5 4 (s .before .before .args .t1) _ (s .before .before .good .0) .0) (λ e b. s .loop .inv .2 e (omega arith))
+    rows-all (rowsOf (s .loop .x)) _ (rows-length (s .loop .x)) (array-rows w8 16 4 (s .before .before .args .t1) _ (s .before .before .good .0) .0) (λ e b. s .loop .inv .2 e (omega arith))
 
 pub lay-spec : {M : Type 1} → statement M
 lay-spec =

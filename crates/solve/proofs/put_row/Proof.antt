@@ -42,9 +42,9 @@ returns c =
     let a = s .before .before .before .before .args in
     let x : List ℕ = a .x .now in
     let y : List ℕ = s .copy .last .1 .0 in
-    let l : length (stretch 5 (a .i) x) ≡ 5 = stretch-length 5 (a .i) x (omega arith) in
-    let e : y ≡ a .row .now = s .copy .ensures .0 (omega (arith, ap length (stretch-lent 5 (a .i) x))) in
-    ap rowsOf (with-lent 5 (a .i) x y) ∙ rows-with x (omega arith) (a .i) (omega arith) y (ap length e ∙ (omega arith)) ∙ ap (set (rowsOf x) (a .i)) e
+    let l : length (stretch 16 (a .i) x) ≡ 16 = stretch-length 16 (a .i) x (omega arith) in
+    let e : y ≡ a .row .now = s .copy .ensures .0 (omega (arith, ap length (stretch-lent 16 (a .i) x))) in
+    ap rowsOf (with-lent 16 (a .i) x y) ∙ rows-with x (omega arith) (a .i) (omega arith) y (ap length e ∙ (omega arith)) ∙ ap (set (rowsOf x) (a .i)) e
 
 pub put-row-spec : {M : Type 1} → statement M
 put-row-spec =

@@ -39,8 +39,8 @@ returns : tie.Need-returns
 returns c =
     let a = c .before .before .before .before .before .args in
     let x : List ℕ = a .x .now in
-    let l : length (stretch 5 (a .i) x) ≡ 5 = stretch-length 5 (a .i) x (omega arith) in
-    c .before .copy2 .ensures .0 (ap length (stretch-lent 5 (a .i) x) ∙ l) ∙ stretch-lent 5 (a .i) x ∙ sym (row-of x (a .i) (omega arith))
+    let l : length (stretch 16 (a .i) x) ≡ 16 = stretch-length 16 (a .i) x (omega arith) in
+    c .before .copy2 .ensures .0 (ap length (stretch-lent 16 (a .i) x) ∙ l) ∙ stretch-lent 16 (a .i) x ∙ sym (row-of x (a .i) (omega arith))
 
 pub row-at-spec : {M : Type 1} → statement M
 row-at-spec =

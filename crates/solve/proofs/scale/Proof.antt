@@ -1,32 +1,32 @@
 use mathlib.Core.Path.{_≡_}
 use mathlib.Core.List.{List, _++_}
-use Prim.Native.Nat.{ℕ, _≤_, _<_, _-_}
+use Prim.Native.Nat.{ℕ, _≤_, _-_}
 use native.Mathlib.Omega.{arith}
 use lib.ListN.{length, getD, take, drop, length-set}
 use borrow.Author.Needs.{needs}
-use Rattle.gf256.specs.TablesLaws.{tables-product}
+use Rattle.binary_field.specs.ProductLaws.{product-comm}
 use Rattle.solve.specs.Elimination.{scaled}
 use Rattle.solve.proofs.Laws.{scaled-step, scaled-end}
 use Rattle.solve.proofs.scale.Statement.{statement}
 use Rattle.solve.proofs.scale.Tie as tie
 use Rattle.solve.proofs.scale.Reads as reads
 use Rattle.solve.proofs.scale.Lts as lts
-use Rattle.gf256.proofs.product_in.Reads as product-in-reads
+use Rattle.gf256.proofs.shifted_product.Reads as shifted-product-reads
 
 abbrev Inv-loop : tie.InvT-loop
-Inv-loop p l row₀ f c₀ row c = (c ≤ length row₀) × (length row ≡ length row₀) × (take c row ++ scaled 8 285 f (drop c row) ≡ scaled 8 285 f row₀)
+Inv-loop row₀ f c₀ row c = (c ≤ length row₀) × (length row ≡ length row₀) × (take c row ++ scaled 8 285 f (drop c row) ≡ scaled 8 285 f row₀)
 
 abbrev μ-loop : tie.MeasureT-loop
-μ-loop p l row₀ f c₀ row c = length row₀ - c
+μ-loop row₀ f c₀ row c = length row₀ - c
 
 loop-holds : tie.Need-loop-holds Inv-loop μ-loop
 loop-holds c = search needs
 
-slice-read-product-in : tie.Need-slice-read-product-in Inv-loop μ-loop
-slice-read-product-in c = omega arith
+slice-read-shifted-product : tie.Need-slice-read-shifted-product Inv-loop μ-loop
+slice-read-shifted-product c = omega arith
 
-product-in-requires : tie.Need-product-in-requires Inv-loop μ-loop
-product-in-requires c κs = search needs
+shifted-product-requires : tie.Need-shifted-product-requires Inv-loop μ-loop
+shifted-product-requires c κs = search needs
 
 slice-write-row : tie.Need-slice-write-row Inv-loop μ-loop
 slice-write-row c = omega arith
@@ -43,9 +43,7 @@ loop-again c =
     let a = s .before .before .args in
     let x : List ℕ = s .loop .row in
     let i : ℕ = s .loop .c in
-    let b : getD x i 0 < 256 = c .before .slice-known2 .given i .fits in
-    let q = s .before .before .pre in
-    (omega arith, simp length-set (omega arith), cc (scaled-step 8 285 (a .f) x i (c .product-in .result) (omega arith) (cc (tables-product (a .f) (getD x i 0) (omega arith) b))))
+    (omega arith, simp length-set (omega arith), cc (scaled-step 8 285 (a .f) x i (c .shifted-product .result) (omega arith) (cc (product-comm 8 285 (getD x i 0) (a .f)))))
 
 same-length : tie.Need-same-length Inv-loop μ-loop
 same-length c = omega arith
@@ -62,8 +60,8 @@ scale-spec =
     Inv-loop
     μ-loop
     loop-holds
-    slice-read-product-in
-    product-in-requires
+    slice-read-shifted-product
+    shifted-product-requires
     slice-write-row
     add-c
     loop-less

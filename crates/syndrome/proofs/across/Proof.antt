@@ -1,24 +1,30 @@
 use mathlib.Core.Path.{_≡_, refl, sym, ap, ap₂, _∙_}
-use Prim.Native.Nat.{_-_, _≤_}
+use Prim.Native.Nat.{ℕ, _+_, _-_, _*_, _≤_}
 use native.Mathlib.Omega.{arith}
+use native.Mathlib.Numerals.{add-one}
+use mathlib.Core.List.{List}
 use borrow.Author.Needs.{needs}
-use lib.ListN.{length}
+use lib.ListN.{length, take, drop}
 use Rattle.shape.specs.Laws.{word-of-good}
+use Rattle.binary_field.specs.Product.{double, product}
+use Rattle.binary_field.specs.Power.{power}
+use Rattle.binary_field.specs.PowerLaws.{power-zero}
+use Rattle.gf256.specs.BytesLaws.{power-next}
 use Rattle.byte_edition.specs.Edition.{bytes}
 use Rattle.code.specs.Word.{coefficient, twisted, firstAcross, secondAcross}
 use Rattle.groups.specs.Lent.{Lent}
 use Rattle.groups.specs.LentLaws.{lent, end-fits, part-narrow}
 use Rattle.syndrome.specs.Across.{acrossOf}
-use Rattle.syndrome.specs.PartsLaws.{word-none, sum-turn}
+use Rattle.syndrome.specs.PartsLaws.{word-none, sum-turn, twisted-group}
 use Rattle.syndrome.proofs.across.Statement.{statement}
 use Rattle.syndrome.proofs.across.Tie as tie
 
 abbrev Inv-loop : tie.InvT-loop
-Inv-loop m w c word first₀ second₀ g₀ first second g =
-    Lent m w c word × (g ≤ m) × (first ≡ firstAcross bytes g w c word) × (second ≡ secondAcross bytes g w c word)
+Inv-loop m w c word first₀ second₀ factor₀ g₀ first second factor g =
+    Lent m w c word × (g ≤ m) × (first ≡ firstAcross bytes g w c word) × (second ≡ secondAcross bytes g w c word) × (factor ≡ power 8 285 2 g)
 
 abbrev μ-loop : tie.MeasureT-loop
-μ-loop m w c word first₀ second₀ g₀ first second g = m - g
+μ-loop m w c word first₀ second₀ factor₀ g₀ first second factor g = m - g
 
 word-refusal-requires : tie.Need-word-refusal-requires Inv-loop μ-loop
 word-refusal-requires c κs = search needs
@@ -35,6 +41,7 @@ loop-holds c =
       omega arith,
       sym (word-none (a .w) (a .word .now) (λ _. coefficient bytes (a .c))),
       sym (word-none (a .w) (a .word .now) (twisted bytes (a .c))),
+      sym (power-zero 8 285 2),
     )
 
 mul-a : tie.Need-mul-a Inv-loop μ-loop
@@ -43,20 +50,27 @@ mul-a c = omega (arith, end-fits (c .before .loop .inv .0) (c .before .loop .g) 
 add-e : tie.Need-add-e Inv-loop μ-loop
 add-e c = omega (arith, end-fits (c .before .loop .inv .0) (c .before .loop .g) (c .loop-test .taken))
 
-sub-part : tie.Need-sub-part Inv-loop μ-loop
-sub-part c = search needs
+sub-padded-sums : tie.Need-sub-padded-sums Inv-loop μ-loop
+sub-padded-sums c = search needs
 
-part-part-start : tie.Need-part-part-start Inv-loop μ-loop
-part-part-start c = search needs
+part-padded-sums-start : tie.Need-part-padded-sums-start Inv-loop μ-loop
+part-padded-sums-start c = search needs
 
-part-part-end : tie.Need-part-part-end Inv-loop μ-loop
-part-part-end c = omega (arith, end-fits (c .before .loop .inv .0) (c .before .loop .g) (c .loop-test .taken))
+part-padded-sums-end : tie.Need-part-padded-sums-end Inv-loop μ-loop
+part-padded-sums-end c = omega (arith, end-fits (c .before .loop .inv .0) (c .before .loop .g) (c .loop-test .taken))
 
-group-first-requires : tie.Need-group-first-requires Inv-loop μ-loop
-group-first-requires c κs = search needs
+padded-sums-requires : tie.Need-padded-sums-requires Inv-loop μ-loop
+padded-sums-requires c κs =
+    let t = c .before in
+    let s = t .before in
+    let L = s .loop .inv .0 in
+    (part-narrow L (s .loop .g) (t .loop-test .taken) refl, L .good .checked, L .good .few-checks)
 
-group-second-requires : tie.Need-group-second-requires Inv-loop μ-loop
-group-second-requires c κs = search needs
+shifted-product-requires : tie.Need-shifted-product-requires Inv-loop μ-loop
+shifted-product-requires c κs = search needs
+
+double-requires : tie.Need-double-requires Inv-loop μ-loop
+double-requires c κs = search needs
 
 add-g : tie.Need-add-g Inv-loop μ-loop
 add-g c = omega arith
@@ -66,18 +80,21 @@ loop-less c = omega arith
 
 loop-again : tie.Need-loop-again Inv-loop μ-loop
 loop-again c =
-    let t = c .before .before .before in
+    let q = c .before .before .before in
+    let t = q .before .before in
     let s = t .before in
     let a = s .before .before .before .before .args in
     let L = s .loop .inv .0 in
     let l = t .loop-test .taken in
-    let n = part-narrow L (s .loop .g) l refl in (
+    let g : ℕ = s .loop .g in
+    let p : List ℕ = take (g * a .w + a .w - g * a .w) (drop (g * a .w) (a .word .now)) in (
       L,
       omega arith,
-      sum-turn L (s .loop .g) l refl (λ _. coefficient bytes (a .c)) _ _ (s .loop .inv .2)
-          (c .before .group-first .ensures .0 n (L .good .checked) (L .good .few-checks)),
-      sum-turn L (s .loop .g) l refl (twisted bytes (a .c)) _ _ (s .loop .inv .3)
-          (c .group-second .ensures .0 n (L .good .checked) (L .good .few-checks) (omega arith)),
+      sum-turn L g l refl (λ _. coefficient bytes (a .c)) _ _ (s .loop .inv .2) (ap (λ s. s .first) (q .padded-sums .ensures)),
+      sum-turn L g l refl (twisted bytes (a .c)) _ _ (s .loop .inv .3)
+          (c .before .shifted-product .ensures ∙ ap₂ (product 8 285) (s .loop .inv .4) (ap (λ s. s .second) (q .padded-sums .ensures))
+          ∙ twisted-group bytes (length p) (a .c) g p),
+      c .double .ensures ∙ ap (double 8 285) (s .loop .inv .4) ∙ sym (power-next g) ∙ ap (power 8 285 2) (sym (add-one g)),
     )
 
 returns-2 : tie.Need-returns-2 Inv-loop μ-loop
@@ -101,11 +118,12 @@ across-spec =
     loop-holds
     mul-a
     add-e
-    sub-part
-    part-part-start
-    part-part-end
-    group-first-requires
-    group-second-requires
+    sub-padded-sums
+    part-padded-sums-start
+    part-padded-sums-end
+    padded-sums-requires
+    shifted-product-requires
+    double-requires
     add-g
     loop-less
     loop-again

@@ -1,83 +1,50 @@
-use mathlib.Core.Path.{_≡_, refl, sym, _∙_}
-use Prim.Native.Nat.{ℕ, _-_, _<_, _≤_}
+use mathlib.Core.Path.{refl, _∙_}
 use native.Mathlib.Omega.{arith}
-use borrow.Author.Count.{below-none, below-more}
+use Rattle.syndrome.specs.PartsLaws.{padded-local}
 use borrow.Author.Needs.{needs}
-use lib.Ieee.Bits.{is-true}
-use lib.ListN.{length}
-use Rattle.byte_edition.specs.Edition.{bytes}
-use Rattle.code.specs.Word.{localSum}
-use Rattle.code.specs.WordLaws.{local-zero, zero-local}
-use Rattle.syndrome.specs.PartsLaws.{is-false, power-group}
 use Rattle.syndrome.proofs.local_zero.Statement.{statement}
 use Rattle.syndrome.proofs.local_zero.Tie as tie
+use Rattle.syndrome.proofs.local_zero.Reads as reads
+use Rattle.syndrome.proofs.local_zero.Lts as lts
+use Rattle.coefficients.proofs.padded.Reads as padded-reads
+use Rattle.syndrome.proofs.zero_sums.Reads as zero-sums-reads
 
-abbrev Inv-loop : tie.InvT-loop
-Inv-loop part c e₀ e = (e ≤ c) × (length part ≤ 16) × (c ≤ 4) × ((k : ℕ) → k < e → localSum bytes (length part) part 0 k ≡ 0)
-
-abbrev μ-loop : tie.MeasureT-loop
-μ-loop part c e₀ e = c - e
-
-returns : tie.Need-returns Inv-loop μ-loop
+returns : tie.Need-returns
 returns c = (λ _ few. absurd (omega arith), λ _. refl)
 
-returns-2 : tie.Need-returns-2 Inv-loop μ-loop
+returns-2 : tie.Need-returns-2
 returns-2 c = (λ narrow _. absurd (omega arith), λ _. refl)
 
-loop-holds : tie.Need-loop-holds Inv-loop μ-loop
-loop-holds c = (omega arith, omega arith, omega arith, below-none _)
+zero-sums-requires : tie.Need-zero-sums-requires
+zero-sums-requires c κs = search needs
 
-power-sum-requires : tie.Need-power-sum-requires Inv-loop μ-loop
-power-sum-requires c κs = search needs
+returns-3 : tie.Need-returns-3
+returns-3 c = (λ _ _. c .zero-sums .ensures, λ n. absurd (n (omega arith) (omega arith)))
 
-returns-3 : tie.Need-returns-3 Inv-loop μ-loop
-returns-3 c =
-    let s = c .before .before .before in
-    let a = s .before .before .before .before .args in
-    let p = a .part .now in
-    let narrow = s .loop .inv .1 in
-    let z = power-group p narrow (s .loop .e) (omega arith) in
-    let e : c .before .power-sum .result ≡ localSum bytes (length p) p 0 (s .loop .e) = cc in
-    (λ _ _. sym (is-false _ (λ t. c .if3 .taken (e ∙ local-zero bytes (length p) (a .c) p 0 t (s .loop .e) (omega arith)))), λ _. refl)
+padded-requires : tie.Need-padded-requires
+padded-requires c κs = search needs
 
-add-e : tie.Need-add-e Inv-loop μ-loop
-add-e c = omega arith
+slice-aggregate-zero-sums : tie.Need-slice-aggregate-zero-sums
+slice-aggregate-zero-sums c = search needs
 
-loop-less : tie.Need-loop-less Inv-loop μ-loop
-loop-less c = omega arith
+zero-sums-requires-2 : tie.Need-zero-sums-requires-2
+zero-sums-requires-2 c κs = search needs
 
-loop-again : tie.Need-loop-again Inv-loop μ-loop
-loop-again c =
-    let s = c .before .before .before in
-    let p = s .before .before .before .before .args .part .now in
-    let z = power-group p (s .loop .inv .1) (s .loop .e) (omega arith) in (
-      omega arith,
-      omega arith,
-      omega arith,
-      below-more (λ k. localSum bytes (length p) p 0 k ≡ 0) (s .loop .e) (s .loop .inv .3) (cc),
-    )
-
-returns-4 : tie.Need-returns-4 Inv-loop μ-loop
+returns-4 : tie.Need-returns-4
 returns-4 c =
-    let s = c .before in
-    let a = s .before .before .before .before .args in
-    let p = a .part .now in (
-      λ _ _. sym (is-true _ (zero-local bytes (length p) (a .c) p 0 (λ k l. s .loop .inv .3 k (omega arith)))),
-      λ n. absurd (n (s .loop .inv .1) (s .loop .inv .2)),
-    )
+    let p = c .before .before in
+    let a = p .before .before .before .before .before .args in
+    (λ narrow _. c .zero-sums2 .ensures ∙ padded-local (p .padded .ensures) narrow (a .c), λ n. absurd (n (omega arith) (omega arith)))
 
 pub local-zero-spec : {M : Type 1} → statement M
 local-zero-spec =
     tie.close
     (tie.spec
-    Inv-loop
-    μ-loop
     returns
     returns-2
-    loop-holds
-    power-sum-requires
+    zero-sums-requires
     returns-3
-    add-e
-    loop-less
-    loop-again
+    padded-requires
+    slice-aggregate-zero-sums
+    zero-sums-requires-2
     returns-4)

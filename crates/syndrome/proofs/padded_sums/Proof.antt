@@ -1,0 +1,42 @@
+use mathlib.Core.Path.{_∙_}
+use native.Mathlib.Omega.{arith}
+use Rattle.syndrome.specs.PartsLaws.{padded-plain}
+use borrow.Author.Needs.{needs}
+use Rattle.syndrome.proofs.padded_sums.Statement.{statement}
+use Rattle.syndrome.proofs.padded_sums.Tie as tie
+use Rattle.syndrome.proofs.padded_sums.Reads as reads
+use Rattle.syndrome.proofs.padded_sums.Lts as lts
+use Rattle.coefficients.proofs.padded.Reads as padded-reads
+use Rattle.syndrome.proofs.plain_sums.Reads as plain-sums-reads
+
+plain-sums-requires : tie.Need-plain-sums-requires
+plain-sums-requires c κs = search needs
+
+returns : tie.Need-returns
+returns c = search needs
+
+padded-requires : tie.Need-padded-requires
+padded-requires c κs = search needs
+
+slice-aggregate-plain-sums : tie.Need-slice-aggregate-plain-sums
+slice-aggregate-plain-sums c = search needs
+
+plain-sums-requires-2 : tie.Need-plain-sums-requires-2
+plain-sums-requires-2 c κs = search needs
+
+returns-2 : tie.Need-returns-2
+returns-2 c =
+    let p = c .before .before in
+    let a = p .before .before .before .args in
+    c .plain-sums2 .ensures ∙ padded-plain (p .padded .ensures) (omega arith) (a .c)
+
+pub padded-sums-spec : {M : Type 1} → statement M
+padded-sums-spec =
+    tie.close
+    (tie.spec
+    plain-sums-requires
+    returns
+    padded-requires
+    slice-aggregate-plain-sums
+    plain-sums-requires-2
+    returns-2)
