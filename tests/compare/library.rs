@@ -1,7 +1,7 @@
 //! The library through its exported functions, with the record of a desk laid out as in the header.
 
 mod c {
-    use super::{Answer, Desk, Gather, Profile};
+    use super::{Answer, Change, Desk, Gather, Lookup, Profile};
     extern "C" {
         pub fn axlebloom_describe(m: usize, w: usize, c: usize) -> u8;
         pub fn axlebloom_places(m: usize, w: usize, c: usize) -> usize;
@@ -25,6 +25,8 @@ mod c {
         pub fn axlebloom_gather_begin(gather: *mut Gather, m: usize, w: usize, c: usize) -> u8;
         pub fn axlebloom_gather_take(gather: *mut Gather, first: usize, x: *const u8, n: usize) -> u8;
         pub fn axlebloom_gather_finish(gather: *mut Gather, x: *mut u8, n: usize) -> Answer;
+        pub fn axlebloom_lookup(text: *const u8, capacity: usize, size: usize, name: *const u8, n: usize) -> Lookup;
+        pub fn axlebloom_put(m: usize, w: usize, c: usize, name: *const u8, n: usize, e: usize, text: *mut u8, capacity: usize, size: usize) -> Change;
     }
 }
 
@@ -183,4 +185,35 @@ pub fn take(gather: &mut Gather, first: usize, x: &[u8]) -> u8 {
 
 pub fn finish(gather: &mut Gather, x: &mut [u8]) -> Mended {
     mended(unsafe { c::axlebloom_gather_finish(gather, x.as_mut_ptr(), x.len()) })
+}
+
+#[repr(C)]
+pub struct Lookup {
+    number: u8,
+    m: u8,
+    w: u8,
+    c: u8,
+    revision: u16,
+}
+
+#[repr(C)]
+pub struct Change {
+    number: u8,
+    revision: u16,
+    size: usize,
+}
+
+/// Revision and shape, or the number of a refusal, with which all else must be 0.
+pub fn lookup(buffer: &[u8], size: usize, name: &[u8]) -> Result<(u64, u64, u64, u64), u8> {
+    let a = unsafe { c::axlebloom_lookup(buffer.as_ptr(), buffer.len(), size, name.as_ptr(), name.len()) };
+    assert!(a.number == 0 || (a.revision, a.m, a.w, a.c) == (0, 0, 0, 0));
+    if a.number == 0 { Ok((a.revision.into(), a.m.into(), a.w.into(), a.c.into())) } else { Err(a.number) }
+}
+
+/// The new length and the revision, or the number of a refusal, with which all else must be 0.
+pub fn put(s: Shape, name: &[u8], expected: usize, buffer: &mut [u8], size: usize) -> Result<(usize, u64), u8> {
+    let (text, capacity) = (buffer.as_mut_ptr(), buffer.len());
+    let a = unsafe { c::axlebloom_put(s.0, s.1, s.2, name.as_ptr(), name.len(), expected, text, capacity, size) };
+    assert!(a.number == 0 || (a.revision, a.size) == (0, 0));
+    if a.number == 0 { Ok((a.size, a.revision.into())) } else { Err(a.number) }
 }

@@ -4,6 +4,7 @@
 //!   desks     long lists of calls on a desk, with every byte of it compared after every call
 //!   sessions  lines of text, through the program as a process
 //!   gathers   words cut and brought in any order, with odd calls and changed records between, every byte compared; and beside Recover
+//!   catalogues  lookups and puts on a text, near its longest and damaged, with every byte of the buffer compared
 //!
 //! Arguments: SEED COUNT [KIND [INDEX]]: all patterns and so many cases of each other kind, or so many of one kind, from that index on.
 //! A case depends on nothing but the seed, its kind and its index. For millions: tests/compare/many SEED COUNT, which builds all that is
@@ -11,6 +12,7 @@
 //! A mismatch prints the smallest case that was found to show it, and the command that repeats the case it was found from.
 
 mod calls;
+mod catalogues;
 mod desks;
 mod edits;
 mod gathers;
@@ -25,6 +27,7 @@ mod services;
 mod sessions;
 mod shrink;
 
+use catalogues::Catalogues;
 use desks::History;
 use gathers::Gathering;
 use random::Random;
@@ -58,7 +61,7 @@ fn wanted() -> Option<Wanted> {
     Some(Wanted { seed: number(0)??, count: number(1)??, kind, from: number(3).unwrap_or(Some(0))? })
 }
 
-const KINDS: [&str; 5] = ["patterns", "services", "desks", "sessions", "gathers"];
+const KINDS: [&str; 6] = ["patterns", "services", "desks", "sessions", "gathers", "catalogues"];
 
 /// Shows the smallest case and ends.
 fn mismatch<C: Case>(kind: &str, wanted: &Wanted, index: u64, case: C) -> ! {
@@ -99,21 +102,23 @@ fn patterns(wanted: &Wanted) -> Tally {
 }
 
 /// One line for each number: how often each kind of case met it.
-fn print_table(tallies: &[Tally; 5]) {
-    println!("number {}", KINDS.map(|kind| format!("{kind:>10}")).concat());
-    for number in (0..=15).chain([22, 23, 24, 25, 28, 29, 30, 31]) {
-        println!("{number:>6} {}", tallies.each_ref().map(|tally| format!("{:>10}", tally.numbers[number])).concat());
+fn print_table(tallies: &[Tally; 6]) {
+    println!("number {}", KINDS.map(|kind| format!("{kind:>11}")).concat());
+    for number in (0..=25).chain([28, 29, 30, 31]) {
+        println!("{number:>6} {}", tallies.each_ref().map(|tally| format!("{:>11}", tally.numbers[number])).concat());
     }
 }
 
 /// Numbers that calls and lines can give and that never came.
-fn never_met(tallies: &[Tally; 5]) -> Vec<String> {
+fn never_met(tallies: &[Tally; 6]) -> Vec<String> {
     let calls = |number: usize| tallies[..3].iter().map(|tally| tally.numbers[number]).sum::<u64>();
     let by_calls = (0..=13).chain([25, 28, 29, 30, 31]).filter(|&number| calls(number) == 0).map(|number| format!("{number} by a call"));
     let by_lines = [0, 1, 2, 3, 4, 5, 8, 9, 14, 15, 29].into_iter().filter(|&number| tallies[3].numbers[number] == 0);
     let gathered = [0, 1, 2, 3, 4, 5, 6, 8, 9, 22, 23, 24].into_iter().filter(|&number| tallies[4].numbers[number] == 0);
     let by_gathers = gathered.map(|number| format!("{number} by a gather"));
-    by_calls.chain(by_gathers).chain(by_lines.map(|number| format!("{number} by a line"))).collect()
+    let by_catalogues = (0..=4).chain(16..=21).chain([29]).filter(|&number| tallies[5].numbers[number] == 0);
+    let by_catalogues = by_catalogues.map(|number| format!("{number} by a catalogue"));
+    by_calls.chain(by_gathers).chain(by_lines.map(|number| format!("{number} by a line"))).chain(by_catalogues).collect()
 }
 
 /// Fewer cases need not meet every number.
@@ -131,6 +136,7 @@ fn main() {
         random_cases::<History>("desks", &wanted),
         random_cases::<Session>("sessions", &wanted),
         random_cases::<Gathering>("gathers", &wanted),
+        random_cases::<Catalogues>("catalogues", &wanted),
     ];
     let cases: Vec<String> = KINDS.iter().zip(&tallies).map(|(kind, tally)| format!("{kind} {}", tally.cases)).collect();
     println!("compared from seed {}, all alike: {}; how often each number was answered:", wanted.seed, cases.join(", "));

@@ -914,3 +914,81 @@ pub fn session(mut input: impl Read, mut output: impl Write) -> io::Result<()> {
     }
     output.flush()
 }
+
+// ------------------------------------------------------------- named shapes
+
+/// What a name stands for: its revision, m, w and c.
+pub type Named = (u64, u64, u64, u64);
+
+/// The catalogue as a map, which sorts by the bytes of the names.
+pub type Catalogue = std::collections::BTreeMap<Vec<u8>, Named>;
+
+/// The longest text.
+pub const LONGEST_CATALOGUE: usize = 4096;
+
+pub fn is_good_name(name: &[u8]) -> bool {
+    let allowed = b"abcdefghijklmnopqrstuvwxyz0123456789-";
+    (1..=16).contains(&name.len()) && name.iter().all(|byte| allowed.contains(byte))
+}
+
+/// The text of a catalogue, made with the formatter of the language.
+pub fn catalogue_text(catalogue: &Catalogue) -> Vec<u8> {
+    let mut text = b"shapes\t1\n".to_vec();
+    for (name, (revision, m, w, c)) in catalogue {
+        text.extend_from_slice(name);
+        text.extend_from_slice(format!("\t{revision}\t{m}\t{w}\t{c}\n").as_bytes());
+    }
+    text
+}
+
+/// The catalogue of a text: whatever its lines may mean is read into a map,
+/// and the map's own text must then be the text that was read.
+pub fn catalogue(text: &[u8]) -> Option<Catalogue> {
+    let mut read = Catalogue::new();
+    for line in text.split(|&byte| byte == b'\n').skip(1).filter(|line| !line.is_empty()) {
+        let fields: Vec<&[u8]> = line.split(|&byte| byte == b'\t').collect();
+        let figure = |i: usize| -> Option<u64> { std::str::from_utf8(fields.get(i)?).ok()?.parse().ok() };
+        let (revision, m, w, c) = (figure(1)?, figure(2)?, figure(3)?, figure(4)?);
+        if !is_good_name(fields[0]) || !(1..=65535).contains(&revision) || describe(m, w, c).is_err() {
+            return None;
+        }
+        read.insert(fields[0].to_vec(), (revision, m, w, c));
+    }
+    (catalogue_text(&read) == text).then_some(read)
+}
+
+/// The catalogue in a lent buffer with its length, or 16; then 17.
+fn lent_catalogue(buffer: &[u8], size: usize, name: &[u8]) -> Result<Catalogue, u8> {
+    let text = buffer.get(..size).filter(|text| text.len() <= LONGEST_CATALOGUE).ok_or(16)?;
+    let read = catalogue(text).ok_or(16)?;
+    if is_good_name(name) { Ok(read) } else { Err(17) }
+}
+
+/// Lookup: revision and shape, or 16, 17, 18.
+pub fn lookup(buffer: &[u8], size: usize, name: &[u8]) -> Result<Named, u8> {
+    lent_catalogue(buffer, size, name)?.get(name).copied().ok_or(18)
+}
+
+/// Put: the new length and revision, or 1 to 4, 29, 16, 17, 19, 20, 21.
+pub fn put(shape: (u64, u64, u64), name: &[u8], expected: u64, buffer: &mut [u8], size: usize) -> Result<(usize, u64), u8> {
+    let (m, w, c) = shape;
+    describe(m, w, c)?;
+    if is_retired(c) {
+        return Err(29);
+    }
+    let mut read = lent_catalogue(buffer, size, name)?;
+    let stored = read.get(name).map_or(0, |named| named.0);
+    if stored != expected {
+        return Err(19);
+    }
+    if stored == 65535 {
+        return Err(20);
+    }
+    read.insert(name.to_vec(), (stored + 1, m, w, c));
+    let text = catalogue_text(&read);
+    if text.len() > LONGEST_CATALOGUE || text.len() > buffer.len() {
+        return Err(21);
+    }
+    buffer[..text.len()].copy_from_slice(&text);
+    Ok((text.len(), stored + 1))
+}

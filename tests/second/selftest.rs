@@ -824,6 +824,30 @@ fn edits(t: &mut Tally, random: &mut Random) {
     t.ok(edit(2, 3, 1, &mut word, 1, 1) == (0, 0) && word == [1, 1, 0, 78, 206, 128], "the byte that stands there");
 }
 
+/// The catalogue: puts and lookups done by hand, and texts that are none.
+fn catalogues(t: &mut Tally) {
+    let mut buffer = [0xEE; 60];
+    buffer[..9].copy_from_slice(b"shapes\t1\n");
+    t.ok(put((2, 3, 1), b"rack", 0, &mut buffer, 9) == Ok((22, 1)), "put: the first");
+    t.ok(put((4, 8, 2), b"desk-box", 0, &mut buffer, 22) == Ok((39, 1)), "put: before it");
+    t.ok(put((15, 16, 3), b"rack", 1, &mut buffer, 39) == Ok((41, 2)), "put: again");
+    t.ok(&buffer[..41] == b"shapes\t1\ndesk-box\t1\t4\t8\t2\nrack\t2\t15\t16\t3\n", "put: the text");
+    t.ok(buffer[41..].iter().all(|&byte| byte == 0xEE), "put: bytes past the text");
+    t.ok(lookup(&buffer, 41, b"rack") == Ok((2, 15, 16, 3)), "lookup");
+    t.ok(lookup(&buffer, 41, b"rac") == Err(18), "lookup: 18");
+    t.ok(lookup(&buffer, 41, b"Rack") == Err(17), "lookup: 17");
+    t.ok(lookup(&buffer, 40, b"Rack") == Err(16), "lookup: 16 before 17");
+    t.ok(put((3, 6, 4), b"Rack", 1, &mut buffer, 40) == Err(29), "put: 29 before 16");
+    t.ok(put((2, 3, 1), b"net", 1, &mut buffer, 41) == Err(19), "put: 19 of a new name");
+    t.ok(put((2, 3, 1), b"a-long-name-0123", 0, &mut buffer, 41) == Err(21), "put: 21 by the buffer");
+    let texts: [&[u8]; 9] = [
+        b"", b"shapes\t1", b"shapes\t1\n\n", b"shapes\t1\na\t01\t2\t3\t1\n", b"shapes\t1\na\t1\t2\t3\t1", b"shapes\t1\na\t0\t2\t3\t1\n",
+        b"shapes\t1\nb\t1\t2\t3\t1\na\t1\t2\t3\t1\n", b"shapes\t1\na\t1\t2\t3\t1\na\t1\t2\t3\t1\n", b"shapes\t1\na\t+1\t2\t3\t1\n",
+    ];
+    t.ok(texts.iter().all(|text| catalogue(text).is_none()), "texts that are none");
+    t.ok(catalogue(b"shapes\t1\nold\t65535\t3\t6\t4\n").is_some(), "a text with a retired shape");
+}
+
 fn main() -> ExitCode {
     let t = &mut Tally { passed: 0, failed: 0 };
     let random = &mut Random(0x9E3779B97F4A7C15);
@@ -850,6 +874,7 @@ fn main() -> ExitCode {
     profiles(t, random);
     gathers(t);
     edits(t, random);
+    catalogues(t);
     desk_handles(t);
     desk_serves(t);
     desk_losses(t);

@@ -5,7 +5,7 @@ ghost use mathlib.Core.Path.{_≡_};
 ghost use Rattle.shape.specs.Answers.{answerNumber};
 ghost use Rattle.c_answers.specs.Mends.{mendingMended};
 
-// What Check, Repair, Recover and Serve give to C: the number, 0 for done, and the group that a 9 carries; 0 with any other number.
+// What Check, Repair, Recover, Serve, Edit and a gather's Finish give to C: the number, 0 for done, and the group that a 9 carries; 0 with any other number.
 #[repr(C)]
 pub struct Mended {
     pub number: u8,

@@ -4,10 +4,10 @@ use mathlib.Core.List.{List, [], _∷_}
 use Prim.Native.Nat.{ℕ}
 use Rattle.shape.specs.Shapes.{shapeRefusalIn, retiredRefusal, saleRefusalIn, wordRefusalIn, bufferRefusalIn}
 use Rattle.encode.specs.Service.{encodeRefusalIn}
-use Rattle.text.specs.Decimal.{decimal, digitsAfter, numberOf}
-use Rattle.text.specs.Fields.{fields, same, meaning}
+use Rattle.text.specs.Decimal.{digitsOf, decimal, digitsAfter, numberOf}
+use Rattle.text.specs.Fields.{parts, fields, same, meaning}
 use Rattle.text.specs.Records.{nameKind, lineName, contents, allUnder, lineKind, lineBytes, lineMarks}
-use Rattle.text.specs.Lines.{cells, lineOf, okLine, refusedLine, wordLine}
+use Rattle.text.specs.Lines.{cellsOf, cells, lineWith, lineOf, okLine, refusedLine, wordLine}
 use Rattle.text.specs.Input.{lines}
 use Rattle.session.specs.Turn.{turn, refusedTurn, recoveredTurn, shapeTurn, dataTurn, wordTurn, recordTurn, turnOf}
 use Rattle.stream.specs.Session.{answers, joined, sessionOf}
@@ -28,20 +28,20 @@ fourth = 119 ∷ 111 ∷ 114 ∷ 100 ∷ 9 ∷ 45 ∷ 9 ∷ 45 ∷ 9 ∷ 45 ∷ 
 
 -- ---- the turn of each line
 first-turn : turnOf first 0 0 0 ≡ turn (okLine 6 2) 2 3 1
-unfolding turnOf recordTurn lineKind nameKind lineName contents fields same meaning numberOf digitsAfter allUnder lineBytes lineMarks shapeTurn shapeRefusalIn
+unfolding turnOf recordTurn lineKind nameKind lineName contents parts same meaning numberOf digitsAfter allUnder lineBytes lineMarks shapeTurn shapeRefusalIn
 first-turn = refl
 
 second-turn : turnOf second 2 3 1 ≡ turn (wordLine (1 ∷ 1 ∷ 0 ∷ 78 ∷ 206 ∷ 128 ∷ [])) 2 3 1
-unfolding turnOf recordTurn lineKind nameKind lineName contents fields same meaning numberOf digitsAfter allUnder lineBytes lineMarks dataTurn encodeRefusalIn
+unfolding turnOf recordTurn lineKind nameKind lineName contents parts same meaning numberOf digitsAfter allUnder lineBytes lineMarks dataTurn encodeRefusalIn
     saleRefusalIn retiredRefusal bufferRefusalIn wordRefusalIn shapeRefusalIn
 second-turn = ap (λ word. turn (wordLine word) 2 3 1) encoded-second
 
 third-turn : turnOf third 2 3 1 ≡ turn (wordLine (1 ∷ 1 ∷ 0 ∷ 78 ∷ 206 ∷ 128 ∷ [])) 2 3 1
-unfolding turnOf recordTurn lineKind nameKind lineName contents fields same meaning numberOf digitsAfter allUnder lineBytes lineMarks wordTurn
+unfolding turnOf recordTurn lineKind nameKind lineName contents parts same meaning numberOf digitsAfter allUnder lineBytes lineMarks wordTurn
 third-turn = ap (λ o. recoveredTurn o 2 3 1) two-lost
 
 fourth-turn : turnOf fourth 2 3 1 ≡ refusedTurn 8 2 3 1
-unfolding turnOf recordTurn lineKind nameKind lineName contents fields same meaning numberOf digitsAfter allUnder lineBytes lineMarks wordTurn
+unfolding turnOf recordTurn lineKind nameKind lineName contents parts same meaning numberOf digitsAfter allUnder lineBytes lineMarks wordTurn
 fourth-turn = ap (λ o. recoveredTurn o 2 3 1) five-lost-again
 
 -- ---- and the whole
@@ -55,5 +55,5 @@ unfolding answers
 paper-answers = rw (first-turn, second-turn, third-turn, fourth-turn)
 
 pub paper-session : sessionOf paperInput ≡ paperOutput
-unfolding sessionOf joined okLine wordLine refusedLine lineOf cells decimal
+unfolding sessionOf joined okLine wordLine refusedLine lineWith cellsOf digitsOf
 paper-session = ap (λ ls. joined (answers ls 0 0 0)) paper-lines ∙ ap joined paper-answers

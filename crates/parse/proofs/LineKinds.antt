@@ -9,14 +9,14 @@ use borrow.Author.Tests.{le-leb}
 use lib.Dec.{eqb}
 use lib.ListN.{length, take, drop, replicate, length-map, length-replicate}
 use lib.Seq.{sets, sets-eq}
-use Rattle.text.specs.FieldLaws.{toTab, endOf, take-field, valuesFrom, values-few}
+use Rattle.text.specs.FieldLaws.{toTab, endOf, take-part, valuesFrom, values-few}
 use Rattle.text.specs.Records.{nameKind, lineName, contents, boundOf, allUnder, lineKind, lineBytes, lineMarks}
 use Rattle.text.specs.RecordLaws.{name-first, contents-later}
 use Rattle.text.specs.Padded.{padded}
 use Rattle.parse.specs.declared.Record.{Record}
 use Rattle.parse.specs.Held.{Holds}
 
-first-end : (line : List ℕ) → endOf 0 line ≡ length (toTab line)
+first-end : (line : List ℕ) → endOf 9 0 line ≡ length (toTab line)
 unfolding endOf
 first-end line = zero-add (length (toTab line))
 
@@ -32,12 +32,12 @@ written n vs l =
     ∙ ap (λ k. vs ++ drop k (replicate n 0)) (zero-add (length vs)) ∙ ap (λ z. vs ++ z) (drop-zeros (length vs) n)
 
 -- a line of at most 1,024 bytes whose first field ends at e
-module _ (line : List ℕ) (short : length line ≤ 1024) (e : ℕ) (is : e ≡ endOf 0 line) where
+module _ (line : List ℕ) (short : length line ≤ 1024) (e : ℕ) (is : e ≡ endOf 9 0 line) where
   at-values : valuesFrom e line ≡ contents line
   at-values = ap (λ i. valuesFrom i line) (is ∙ first-end line) ∙ sym (contents-later line)
 
   at-name : take e line ≡ lineName line
-  at-name = ap (λ i. take i line) (is ∙ first-end line) ∙ take-field line ∙ sym (name-first line)
+  at-name = ap (λ i. take i line) (is ∙ first-end line) ∙ take-part 9 line ∙ sym (name-first line)
 
   module _ (kind : ℕ) (name : kind ≡ nameKind (take e line)) where
     kind-at : lineKind line ≡ cond (allUnder (boundOf kind) (valuesFrom e line) && (not (eqb kind 1) || eqb (length (valuesFrom e line)) 3)) kind 0

@@ -6,10 +6,8 @@ ghost use Prim.Native.Nat.{_<_, _≤_, _%_, _/_};
 ghost use lib.Dec.{eqb};
 ghost use lib.ListN.{length, drop};
 ghost use lib.Seq.{sets};
-ghost use Rattle.text.specs.Decimal.{digitsAfter, numberOf};
-ghost use Rattle.text.specs.DecimalLaws.{digitAfter};
-ghost use Rattle.text.specs.Fields.{same, meaning};
-ghost use Rattle.text.specs.FieldLaws.{toTab, endOf, valuesFrom};
+ghost use Rattle.text.specs.Fields.{meaning};
+ghost use Rattle.text.specs.FieldLaws.{toTab, valuesFrom};
 ghost use Rattle.text.specs.Records.{nameKind, boundOf, allUnder, lineKind};
 ghost use Rattle.parse.specs.Held.{Holds};
 
@@ -22,52 +20,6 @@ pub struct Record {
     pub marks: [u8; 1024],
 }
 
-// The number a with one digit more, or 257 if x is no digit or the number is above 255.
-fn digit_after(a: u16, x: u8) -> u16
-    requires { ⌜ a < 256 ⌝ }
-    ensures { λ r. ⌜ r ≡ digitAfter a x ⌝ }
-{
-    if x < 48 {
-        return 257;
-    }
-    if 57 < x {
-        return 257;
-    }
-    let n = 10 * a + (x as u16 - 48);
-    if n < 256 { n } else { 257 }
-}
-
-// The number that some digits make, or 257.
-fn digits(field: &[u8]) -> u16
-    ensures { λ r. ⌜ r ≡ digitsAfter 0 (now (field .entry)) ⌝ }
-{
-    let mut a: u16 = 0;
-    let mut i: usize = 0;
-    while i < field.len() {
-        a = digit_after(a, field[i]);
-        if 255 < a {
-            return 257;
-        }
-        i += 1;
-    }
-    a
-}
-
-// The number that a field is, or 257.
-fn number(field: &[u8]) -> u16
-    ensures { λ r. ⌜ r ≡ numberOf (now (field .entry)) ⌝ }
-{
-    if field.len() == 0 {
-        return 257;
-    }
-    if 1 < field.len() {
-        if field[0] == 48 {
-            return 257;
-        }
-    }
-    digits(field)
-}
-
 // What a field means: a number, 256 for a lost place, or 257.
 fn meaning(field: &[u8]) -> u16
     ensures { λ r. ⌜ r ≡ meaning (now (field .entry)) ⌝ }
@@ -77,53 +29,20 @@ fn meaning(field: &[u8]) -> u16
             return 256;
         }
     }
-    number(field)
-}
-
-// The place of the first tab from a place on, or the line's length.
-fn field_end(line: &[u8], from: usize) -> usize
-    requires { ⌜ from ≤ length (now line) ⌝ }
-    ensures { λ r. ⌜ r ≡ endOf from (now (line .entry)) ⌝ }
-    ensures { λ r. ⌜ (from ≤ r) × (r ≤ length (now (line .entry))) ⌝ }
-{
-    let mut i = from;
-    while i < line.len() {
-        if line[i] == 9 {
-            return i;
-        }
-        i += 1;
-    }
-    i
-}
-
-// Whether two texts are the same.
-fn is_name(name: &[u8], wanted: &[u8]) -> bool
-    ensures { λ r. ⌜ r ≡ same (now (name .entry)) (now (wanted .entry)) ⌝ }
-{
-    if name.len() != wanted.len() {
-        return false;
-    }
-    let mut i: usize = 0;
-    while i < name.len() {
-        if name[i] != wanted[i] {
-            return false;
-        }
-        i += 1;
-    }
-    true
+    fields::number(field, 256) as u16
 }
 
 // The kind of record that a name stands for, or 0.
 fn name_kind(name: &[u8]) -> u8
     ensures { λ r. ⌜ r ≡ nameKind (now (name .entry)) ⌝ }
 {
-    if is_name(name, b"shape") {
+    if fields::is_same(name, b"shape") {
         return 1;
     }
-    if is_name(name, b"data") {
+    if fields::is_same(name, b"data") {
         return 2;
     }
-    if is_name(name, b"word") { 3 } else { 0 }
+    if fields::is_same(name, b"word") { 3 } else { 0 }
 }
 
 // What the field that starts at a place means.
@@ -131,7 +50,7 @@ fn value_at(line: &[u8], from: usize) -> u16
     requires { ⌜ from ≤ length (now line) ⌝ }
     ensures { λ r. ⌜ r ≡ meaning (toTab (drop from (now (line .entry)))) ⌝ }
 {
-    let e = field_end(line, from);
+    let e = fields::part_end(line, from, b'\t');
     meaning(&line[from..e])
 }
 
@@ -145,7 +64,7 @@ fn all_under(line: &[u8], from: usize, bound: u16) -> bool
         if bound <= value_at(line, at + 1) {
             return false;
         }
-        at = field_end(line, at + 1);
+        at = fields::part_end(line, at + 1, b'\t');
     }
     true
 }
@@ -166,7 +85,7 @@ fn write_values(line: &[u8], from: usize, bytes: &mut [u8], marks: &mut [u8]) ->
         bytes[count] = (v % 256) as u8;
         marks[count] = (v / 256) as u8;
         count += 1;
-        at = field_end(line, at + 1);
+        at = fields::part_end(line, at + 1, b'\t');
     }
     count
 }
@@ -203,7 +122,7 @@ pub fn parse(line: &[u8]) -> Record
             marks,
         };
     }
-    let e = field_end(line, 0);
+    let e = fields::part_end(line, 0, b'\t');
     let kind = name_kind(&line[..e]);
     if !all_under(line, e, bound_of(kind)) {
         return Record {

@@ -1,4 +1,2 @@
-pub mod Written
-pub mod WrittenLaws
 pub mod CellsLaws
 pub mod Holds

@@ -1,53 +1,16 @@
 // Output lines.
 ghost use mathlib.Core.Path.{_≡_};
-ghost use mathlib.Core.List.{[], _∷_};
+ghost use mathlib.Core.List.{[]};
 ghost use Prim.Native.Nat.{_+_, _*_, _≤_, _<_};
 ghost use lib.ListN.{length};
-ghost use Rattle.text.specs.Decimal.{decimal};
 ghost use Rattle.text.specs.Lines.{cells, lineOf, okLine, refusedLine, contradictoryLine, wordLine};
-ghost use Rattle.print.specs.Written.{written};
+ghost use Rattle.text.specs.Written.{written};
 ghost use Rattle.print.specs.Holds.{Holds};
 
 // An output line with its line feed, at the start of a row of bytes with zeros after it.
 pub struct Line {
     pub bytes: [u8; 1024],
     pub length: usize,
-}
-
-// Writes a text at the start of a buffer, and gives the position after it.
-fn put_name(out: &mut [u8], name: &[u8]) -> usize
-    requires { ⌜ length (now name) ≤ length (now out) ⌝ }
-    ensures next { λ r. ⌜ r ≡ length (now (name .entry)) ⌝ }
-    ensures out { λ _. ⌜ now (out .exit) ≡ written (now (out .entry)) 0 (now (name .entry)) ⌝ }
-{
-    let mut i: usize = 0;
-    while i < name.len() {
-        out[i] = name[i];
-        i += 1;
-    }
-    i
-}
-
-// Writes a tab and a number at a position, and gives the position after them.
-fn put_number(out: &mut [u8], at: usize, x: u8) -> usize
-    requires { ⌜ at + 4 ≤ length (now out) ⌝ }
-    ensures next { λ r. ⌜ r ≡ at + length (9 ∷ decimal x) ⌝ }
-    ensures out { λ _. ⌜ now (out .exit) ≡ written (now (out .entry)) at (9 ∷ decimal x) ⌝ }
-{
-    out[at] = b'\t';
-    if x < 10 {
-        out[at + 1] = b'0' + x;
-        return at + 2;
-    }
-    if x < 100 {
-        out[at + 1] = b'0' + x / 10;
-        out[at + 2] = b'0' + x % 10;
-        return at + 3;
-    }
-    out[at + 1] = b'0' + x / 100;
-    out[at + 2] = b'0' + x / 10 % 10;
-    out[at + 3] = b'0' + x % 10;
-    at + 4
 }
 
 // Writes numbers from a position on, each after a tab, and gives the position after them.
@@ -59,7 +22,7 @@ fn put_numbers(out: &mut [u8], at: usize, numbers: &[u8]) -> usize
     let mut next = at;
     let mut i: usize = 0;
     while i < numbers.len() {
-        next = put_number(out, next, numbers[i]);
+        next = cells::put_number(out, next, numbers[i] as u32);
         i += 1;
     }
     next
@@ -72,7 +35,7 @@ fn put_line(out: &mut [u8], name: &[u8], numbers: &[u8]) -> usize
     ensures most { λ r. ⌜ r ≤ length (now (out .entry)) ⌝ }
     ensures out { λ _. ⌜ now (out .exit) ≡ written (now (out .entry)) 0 (lineOf (now (name .entry)) (now (numbers .entry))) ⌝ }
 {
-    let at = put_name(out, name);
+    let at = cells::put_text(out, 0, name);
     let end = put_numbers(out, at, numbers);
     out[end] = b'\n';
     end + 1

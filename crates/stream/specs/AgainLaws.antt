@@ -21,8 +21,8 @@ use Rattle.encode.specs.Service.{encodedWord, encodeRefusal}
 use Rattle.encode.specs.Laws.{good-of-encode, encoded}
 use Rattle.text.specs.Records.{wordName, contents, lineKind, lineBytes, lineMarks}
 use Rattle.text.specs.RecordLaws.{name-first, line-values, word-named}
-use Rattle.text.specs.FieldLaws.{toTab, take-field}
-use Rattle.text.specs.Lines.{cells, lineOf, okLine, refusedLine, contradictoryLine, wordLine}
+use Rattle.text.specs.FieldLaws.{toTab, take-part}
+use Rattle.text.specs.Lines.{cells, lineWith, lineOf, okLine, refusedLine, contradictoryLine, wordLine}
 use Rattle.text.specs.ReadBackLaws.{line-parts, word-back, bytes-back, marks-back}
 use Rattle.session.specs.Turn.{Turn, turn, wordTurn, recordTurn, turnOf}
 use Rattle.stream.specs.NoneLostLaws.{codeword-stays}
@@ -75,7 +75,7 @@ starts body output k e =
     let n = word-named body k in
     let v = line-values body in
     let l = ap length n in
-    let t : take (length (toTab body)) body ≡ wordName = take-field body ∙ sym (name-first body) ∙ n in
+    let t : take (length (toTab body)) body ≡ wordName = take-part 9 body ∙ sym (name-first body) ∙ n in
     let z : length (toTab body) ≡ 4 = ap length (sym (name-first body) ∙ n) in
     ap (λ xs. getD xs 0 0) e ∙ List·getD-append body (10 ∷ []) 0 0 (omega arith)
     ∙ sym (getD-take (length (toTab body)) body 0 0 (omega arith)) ∙ ap (λ xs. getD xs 0 0) t
@@ -87,11 +87,11 @@ Back m w c t = (body : List ℕ) → t .output ≡ body ++ (10 ∷ []) → lineK
 word-back-again : {m w c : ℕ} (word : List ℕ) → Good m w c × Codeword bytes m w c word → Back m w c (turn (wordLine word) m w c)
 unfolding wordLine
 word-back-again {m} {w} {c} word p body e k =
-    let b : body ≡ wordName ++ cells word = append-cancel-right body (wordName ++ cells word) (10 ∷ []) (sym e ∙ line-parts wordName word) in
+    let b : body ≡ wordName ++ cells word = append-cancel-right body (wordName ++ cells word) (10 ∷ []) (sym e ∙ line-parts 2 wordName word) in
     ap (λ l. turnOf l m w c) b ∙ codeword-again (p .0) word (p .1)
 
 pub word-again : (line : List ℕ) (m w c : ℕ) → Back m w c (turnOf line m w c)
-unfolding okLine refusedLine contradictoryLine lineOf
+unfolding okLine refusedLine contradictoryLine lineWith
 word-again line m w c =
     turn-cases (Back m w c) line m w c
     (λ r _ _ body e k. let z : _≡_ {A = ℕ} 114 119 = starts body (refusedLine r) k e in absurd (omega arith))

@@ -10,7 +10,7 @@ use Rattle.code.specs.Contradiction.{isBroken, contradictingGroup}
 use Rattle.recover.specs.Service.{recoverOf}
 use Rattle.text.specs.DecimalLaws.{without}
 use Rattle.text.specs.Records.{lineBytes, lineMarks}
-use Rattle.text.specs.Lines.{lineOf, refusedName, okLine, refusedLine, contradictoryLine, wordLine}
+use Rattle.text.specs.Lines.{lineWith, lineOf, refusedName, okLine, refusedLine, contradictoryLine, wordLine}
 use Rattle.text.specs.ReadBack.{Bytes}
 use Rattle.text.specs.ReadBackLaws.{numbers-same}
 use Rattle.session.specs.Turn.{turnOf}
@@ -35,7 +35,7 @@ group-most m w c word marks e =
     subst (λ x. x ≤ 15) (sym n) (omega arith)
 
 pub no-plain-nine : (line : List ℕ) (m w c : ℕ) → (turnOf line m w c) .output ≡ refusedLine 9 → ⊥
-unfolding lineOf okLine refusedLine contradictoryLine wordLine without
+unfolding lineWith okLine refusedLine contradictoryLine wordLine without
 no-plain-nine line m w c =
     turn-cases (λ t. t .output ≡ refusedLine 9 → ⊥) line m w c
     (λ r l n e. n (ap (λ xs. getD xs 0 0) (numbers-same refusedName (r ∷ []) (9 ∷ []) tt (one-byte r (omega arith)) (one-byte 9 (omega arith)) e)))

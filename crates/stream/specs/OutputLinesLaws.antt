@@ -91,7 +91,7 @@ module _ (P : Turn → Type 0) (line : List ℕ) (m w c : ℕ)
       go false false false false = mends (eqb (out .number) 9) refl
 
 printed : (name numbers : List ℕ) → T (without 10 name) → IsLine (lineOf name numbers)
-printed name numbers t = record { body = name ++ cells numbers; clean = one-line name numbers t; ends = line-parts name numbers }
+printed name numbers t = record { body = name ++ cells numbers; clean = one-line 2 name numbers t; ends = line-parts 2 name numbers }
 
 pub one-feed : (line : List ℕ) (m w c : ℕ) → IsLine ((turnOf line m w c) .output)
 unfolding okLine refusedLine contradictoryLine wordLine without

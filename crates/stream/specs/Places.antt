@@ -3,7 +3,7 @@ use mathlib.Core.Path.{_≡_}
 use mathlib.Core.List.{List}
 use Prim.Native.Nat.{ℕ, _+_, _*_, _≤_}
 use lib.ListN.{length, take}
-use Rattle.print.specs.Written.{written}
+use Rattle.text.specs.Written.{written}
 use Rattle.session.specs.Turn.{Turn, turnOf}
 use Rattle.stream.specs.declared.Place.{Place}
 use Rattle.stream.specs.Points.{Point, next, after, said, adds, kept}

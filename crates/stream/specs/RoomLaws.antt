@@ -21,15 +21,15 @@ use Rattle.encode.specs.Laws.{good-of-encode}
 use Rattle.recover.specs.Service.{unlessBefore, recoverRefusal, recoverOf, recoverIn}
 use Rattle.text.specs.Records.{wordName, contents, lineKind, lineBytes, lineMarks}
 use Rattle.text.specs.RecordLaws.{line-values, data-named}
-use Rattle.text.specs.Lines.{lineOf, refusedName, okLine, refusedLine, contradictoryLine, wordLine}
-use Rattle.print.specs.CellsLaws.{cells-most}
+use Rattle.text.specs.Lines.{lineWith, lineOf, refusedName, okLine, refusedLine, contradictoryLine, wordLine}
+use Rattle.text.specs.ReadBackLaws.{cells-most}
 use Rattle.session.specs.Turn.{Turn, turn, turnUnless, refusedTurn, contradictoryTurn, shapeTurn, dataTurn, wordTurn, recordTurn, turnOf}
 use Rattle.session.specs.ContradictionLaws.{nine-accepted}
 
 -- ---- the length of a printed line
 line-size : (name numbers : List ℕ) → length (lineOf name numbers) ≤ length name + 4 * length numbers + 1
-unfolding lineOf
-line-size name numbers = simp length-append (omega (arith, cells-most numbers))
+unfolding lineWith
+line-size name numbers = simp length-append (omega (arith, cells-most 2 numbers))
 
 refused-size : (r : ℕ) → length (refusedLine r) ≤ 12
 unfolding refusedLine

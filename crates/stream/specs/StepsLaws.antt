@@ -9,8 +9,8 @@ use native.Mathlib.Omega.{arith}
 use borrow.Author.Tests.{ne-eqb}
 use lib.ListN.{length, getD, take, set, length-append}
 use lib.Seq.{take-all, take-suc, take-suc-set, take-append-le, length-take-le, take-at}
-use Rattle.print.specs.Written.{written}
-use Rattle.print.specs.WrittenLaws.{written-nothing, written-on, length-written}
+use Rattle.text.specs.Written.{written}
+use Rattle.text.specs.WrittenLaws.{written-nothing, written-on, length-written}
 use Rattle.session.specs.Turn.{Turn}
 use Rattle.session.specs.declared.Reply.{Reply}
 use Rattle.session.specs.Replies.{Replies}

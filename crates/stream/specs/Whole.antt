@@ -3,7 +3,7 @@ use mathlib.Core.Path.{_≡_}
 use mathlib.Core.List.{List, [], _∷_, _++_}
 use Prim.Native.Nat.{ℕ}
 use lib.ListN.{length, take}
-use Rattle.print.specs.Written.{written}
+use Rattle.text.specs.Written.{written}
 use Rattle.stream.specs.declared.State.{State}
 use Rattle.stream.specs.declared.Step.{Step}
 use Rattle.stream.specs.States.{pointOf}

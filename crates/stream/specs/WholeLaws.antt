@@ -10,8 +10,8 @@ use lib.Seq.{take-at}
 use Rattle.text.specs.Input.{lines}
 use Rattle.text.specs.InputLaws.{lines-feed, lines-last}
 use Rattle.text.specs.DecimalLaws.{without}
-use Rattle.text.specs.ReadBackLaws.{without-append}
-use Rattle.print.specs.Written.{written}
+use Rattle.text.specs.DecimalLaws.{without-append}
+use Rattle.text.specs.Written.{written}
 use Rattle.stream.specs.declared.State.{State}
 use Rattle.stream.specs.States.{pointOf}
 use Rattle.stream.specs.Session.{answers, joined, sessionOf}

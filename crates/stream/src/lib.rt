@@ -2,7 +2,7 @@
 ghost use mathlib.Core.Path.{_≡_};
 ghost use Prim.Native.Nat.{_+_, _*_, _≤_, min};
 ghost use lib.ListN.{length, take};
-ghost use Rattle.print.specs.Written.{written};
+ghost use Rattle.text.specs.Written.{written};
 ghost use Rattle.stream.specs.Points.{clear, after, adds, closing, kept};
 ghost use Rattle.stream.specs.States.{pointOf};
 ghost use Rattle.stream.specs.Places.{pointAt, turnOn, endedBy, Taken, Passed};

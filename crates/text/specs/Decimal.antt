@@ -1,30 +1,34 @@
--- Numbers as text. "Numbers are decimal 0 to 255 without sign or leading zero." Text is a list of bytes in ASCII.
+-- Numbers as text: "decimal [..] without sign or leading zero", below any bound. Text is a list of bytes in ASCII.
 use mathlib.Core.Bool.{Bool, cond, _&&_}
-use mathlib.Core.List.{List, [], _∷_}
-use Prim.Native.Nat.{ℕ, _+_, _-_, _*_, _/_, _%_}
+use mathlib.Core.List.{List, [], _∷_, _++_}
+use Prim.Native.Nat.{ℕ, zero, suc, _+_, _-_, _*_, _/_, _%_}
 use lib.Dec.{eqb, leb, ltb}
 
--- the digits of a number below 1,000; the digit d is the byte 48 + d
-unfoldable pub decimal : ℕ → List ℕ
-decimal n =
-    cond (ltb n 10) ((48 + n) ∷ [])
-    (cond (ltb n 100) ((48 + n / 10) ∷ (48 + n % 10) ∷ []) ((48 + n / 100) ∷ (48 + n / 10 % 10) ∷ (48 + n % 10) ∷ []))
+-- the digits of a number that has at most so many digits after its first one; the digit d is the byte 48 + d
+unfoldable pub digitsOf : ℕ → ℕ → List ℕ
+digitsOf zero n = (48 + n) ∷ []
+digitsOf (suc more) n = cond (ltb n 10) ((48 + n) ∷ []) (digitsOf more (n / 10) ++ ((48 + n % 10) ∷ []))
+
+-- the digits of a number below 1,000
+abbrev pub decimal : ℕ → List ℕ
+decimal = digitsOf 2
 
 -- the bytes of the digits 0 to 9
 abbrev pub isDigit : ℕ → Bool
 isDigit x = leb 48 x && ltb x 58
 
--- what a field means that is neither a number nor a lost place
-abbrev pub unreadable : ℕ
-unreadable = 257
+-- what a text means that is no number below the bound
+abbrev pub unreadable : ℕ → ℕ
+unreadable bound = bound + 1
 
--- the number that these digits make after the number a, where it is at most 255
-unfoldable pub digitsAfter : ℕ → List ℕ → ℕ
-digitsAfter a [] = a
-digitsAfter a (x ∷ xs) = cond (isDigit x && ltb (10 * a + (x - 48)) 256) (digitsAfter (10 * a + (x - 48)) xs) unreadable
+-- the number that these digits make after the number a, where it is below the bound
+unfoldable pub digitsAfter : ℕ → ℕ → List ℕ → ℕ
+digitsAfter bound a [] = a
+digitsAfter bound a (x ∷ xs) =
+    cond (isDigit x && ltb (10 * a + (x - 48)) bound) (digitsAfter bound (10 * a + (x - 48)) xs) (unreadable bound)
 
--- the number that a text is: some digits, of which the first of several is not 0
-unfoldable pub numberOf : List ℕ → ℕ
-numberOf [] = unreadable
-numberOf (x ∷ []) = digitsAfter 0 (x ∷ [])
-numberOf (x ∷ y ∷ ys) = cond (eqb x 48) unreadable (digitsAfter 0 (x ∷ y ∷ ys))
+-- the number below the bound that a text is: some digits, of which the first of several is not 0
+unfoldable pub numberOf : ℕ → List ℕ → ℕ
+numberOf bound [] = unreadable bound
+numberOf bound (x ∷ []) = digitsAfter bound 0 (x ∷ [])
+numberOf bound (x ∷ y ∷ ys) = cond (eqb x 48) (unreadable bound) (digitsAfter bound 0 (x ∷ y ∷ ys))

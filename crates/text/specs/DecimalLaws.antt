@@ -1,210 +1,259 @@
--- Numbers and their text: what digits make, one at a time, and that each number below 256 has one text.
+-- Numbers and their text: what digits make, one at a time, and that each number below a bound has one text.
 use mathlib.Core.Path.{_≡_, refl, sym, ap, _∙_}
 use mathlib.Core.Bool.{Bool, true, false, cond, not, _&&_}
 use mathlib.Core.List.{List, [], _∷_, _++_, append-assoc, append-nil}
-use Prim.Native.Nat.{ℕ, _+_, _-_, _*_, _/_, _%_, _≤_, _<_}
+use Prim.Native.Nat.{ℕ, zero, suc, _+_, _-_, _*_, _/_, _%_, _^_, _≤_, _<_}
 use native.Mathlib.Omega.{arith}
 use native.Mathlib.Decide.{decLt}
-use borrow.Author.Tests.{lt-ltb, le-ltb, leb-true, ltb-true, eqb-false, eq-eqb, ne-eqb}
-use lib.Dec.{T, eqb, leb, ltb, eqb→eq, leb→le, not-T}
-use lib.ListN.{length, getD}
-use Rattle.text.specs.Decimal.{decimal, isDigit, unreadable, digitsAfter, numberOf}
-use Rattle.counting.specs.Test.{both, allBelow}
-use Rattle.counting.specs.TestLaws.{both-l, both-r, both-intro, all-at}
+use borrow.Author.Tests.{lt-ltb, le-ltb, leb-true, ltb-true, eqb-false, eq-eqb, ne-eqb, le-leb}
+use lib.Dec.{T, eqb, leb, ltb, eqb→eq, not-T}
+use lib.ListN.{length, getD, length-append, List·getD-append}
+use Rattle.text.specs.Decimal.{digitsOf, isDigit, unreadable, digitsAfter, numberOf}
+use Rattle.counting.specs.Test.{both}
+use Rattle.counting.specs.TestLaws.{both-l, both-r, both-intro}
 
--- the number a with one digit more, where it is at most 255
-unfoldable pub digitAfter : ℕ → ℕ → ℕ
-digitAfter a x = cond (isDigit x && ltb (10 * a + (x - 48)) 256) (10 * a + (x - 48)) unreadable
+-- ---- the digits of a number
 
-pub digit-again : (a x : ℕ) (xs : List ℕ) → digitAfter a x < 256 → digitsAfter a (x ∷ xs) ≡ digitsAfter (digitAfter a x) xs
+pub digits-one : (t n : ℕ) → n < 10 → digitsOf t n ≡ (48 + n) ∷ []
+unfolding digitsOf
+digits-one zero n l = refl
+digits-one (suc t) n l = rw (lt-ltb n 10 l)
+
+pub digits-split : (t n : ℕ) → 10 ≤ n → digitsOf (suc t) n ≡ digitsOf t (n / 10) ++ ((48 + n % 10) ∷ [])
+unfolding digitsOf
+digits-split t n l = rw (le-ltb n 10 l)
+
+-- more room for digits changes nothing
+pub digits-enough : (s t n : ℕ) → n < 10 ^ suc s → n < 10 ^ suc t → digitsOf s n ≡ digitsOf t n
+digits-enough zero t n l h = digits-one zero n l ∙ sym (digits-one t n l)
+digits-enough (suc s) zero n l h = digits-one (suc s) n h ∙ sym (digits-one zero n h)
+digits-enough (suc s) (suc t) n l h = elim (decLt n 10) [
+  | yes k ↦ digits-one (suc s) n k ∙ sym (digits-one (suc t) n k)
+  | no k ↦ (
+      digits-split s n (omega arith) ∙ ap (λ d. d ++ ((48 + n % 10) ∷ [])) (digits-enough s t (n / 10) (omega arith) (omega arith))
+      ∙ sym (digits-split t n (omega arith))
+      )
+]
+
+pub digits-shift : (t n : ℕ) → 10 ≤ n → n < 10 ^ suc t → digitsOf t n ≡ digitsOf t (n / 10) ++ ((48 + n % 10) ∷ [])
+digits-shift zero n l h = absurd (omega arith)
+digits-shift (suc t) n l h =
+    digits-split t n l ∙ ap (λ d. d ++ ((48 + n % 10) ∷ [])) (digits-enough t (suc t) (n / 10) (omega arith) (omega arith))
+
+pub digits-most : (t n : ℕ) → length (digitsOf t n) ≤ suc t
+unfolding digitsOf
+digits-most zero n = omega arith
+digits-most (suc t) n = elim (decLt n 10) [
+  | yes h ↦ rw (digits-one (suc t) n h) (omega arith)
+  | no h ↦ (let i = digits-most t (n / 10) in rw (digits-split t n (omega arith), length-append) (omega arith))
+]
+
+pub digits-some : (t n : ℕ) → 0 < length (digitsOf t n)
+unfolding digitsOf
+digits-some zero n = omega arith
+digits-some (suc t) n = elim (decLt n 10) [
+  | yes h ↦ rw (digits-one (suc t) n h) (omega arith)
+  | no h ↦ rw (digits-split t n (omega arith), length-append) (omega arith)
+]
+
+-- ---- reading, one digit at a time
+
+-- the number a with one digit more, where it is below the bound
+unfoldable pub digitAfter : ℕ → ℕ → ℕ → ℕ
+digitAfter bound a x = cond (isDigit x && ltb (10 * a + (x - 48)) bound) (10 * a + (x - 48)) (unreadable bound)
+
+pub digit-again : (bound a x : ℕ) (xs : List ℕ) → digitAfter bound a x < bound
+    → digitsAfter bound a (x ∷ xs) ≡ digitsAfter bound (digitAfter bound a x) xs
 unfolding digitAfter digitsAfter
-digit-again a x xs = go (isDigit x && ltb (10 * a + (x - 48)) 256)
+digit-again bound a x xs = go (isDigit x && ltb (10 * a + (x - 48)) bound)
   where
-    go : (b : Bool) → cond b (10 * a + (x - 48)) 257 < 256 → cond b (digitsAfter (10 * a + (x - 48)) xs) 257 ≡ digitsAfter (cond b (10 * a + (x - 48)) 257) xs
+    go : (b : Bool) → cond b (10 * a + (x - 48)) (bound + 1) < bound
+        → cond b (digitsAfter bound (10 * a + (x - 48)) xs) (bound + 1) ≡ digitsAfter bound (cond b (10 * a + (x - 48)) (bound + 1)) xs
     go true l = refl
     go false l = absurd (omega arith)
 
-pub digit-stop : (a x : ℕ) (xs : List ℕ) → 256 ≤ digitAfter a x → digitsAfter a (x ∷ xs) ≡ unreadable
+pub digit-stop : (bound a x : ℕ) (xs : List ℕ) → bound ≤ digitAfter bound a x → digitsAfter bound a (x ∷ xs) ≡ unreadable bound
 unfolding digitAfter digitsAfter
-digit-stop a x xs = go (isDigit x) (ltb (10 * a + (x - 48)) 256) refl
+digit-stop bound a x xs = go (isDigit x) (ltb (10 * a + (x - 48)) bound) refl
   where
-    go : (d l : Bool) → ltb (10 * a + (x - 48)) 256 ≡ l → 256 ≤ cond (d && l) (10 * a + (x - 48)) 257 → cond (d && l) (digitsAfter (10 * a + (x - 48)) xs) 257 ≡ 257
-    go true true e l = let k = ltb-true (10 * a + (x - 48)) 256 e in absurd (omega arith)
+    go : (d l : Bool) → ltb (10 * a + (x - 48)) bound ≡ l → bound ≤ cond (d && l) (10 * a + (x - 48)) (bound + 1)
+        → cond (d && l) (digitsAfter bound (10 * a + (x - 48)) xs) (bound + 1) ≡ bound + 1
+    go true true e l = let k = ltb-true (10 * a + (x - 48)) bound e in absurd (omega arith)
     go true false e l = refl
     go false v e l = refl
 
 -- a number by the length of its text and its first byte
-pub number-none : (xs : List ℕ) → length xs ≡ 0 → numberOf xs ≡ unreadable
+pub number-none : (bound : ℕ) (xs : List ℕ) → length xs ≡ 0 → numberOf bound xs ≡ unreadable bound
 unfolding numberOf
-number-none [] e = refl
-number-none (x ∷ xs) e = absurd (omega arith)
+number-none bound [] e = refl
+number-none bound (x ∷ xs) e = absurd (omega arith)
 
-pub number-zero : (xs : List ℕ) → 1 < length xs → getD xs 0 0 ≡ 48 → numberOf xs ≡ unreadable
+pub number-zero : (bound : ℕ) (xs : List ℕ) → 1 < length xs → getD xs 0 0 ≡ 48 → numberOf bound xs ≡ unreadable bound
 unfolding numberOf
-number-zero [] l e = absurd (omega arith)
-number-zero (x ∷ []) l e = absurd (omega arith)
-number-zero (x ∷ y ∷ ys) l e = rw (eq-eqb x 48 e)
+number-zero bound [] l e = absurd (omega arith)
+number-zero bound (x ∷ []) l e = absurd (omega arith)
+number-zero bound (x ∷ y ∷ ys) l e = rw (eq-eqb x 48 e)
 
-pub number-digits : (xs : List ℕ) → (length xs ≡ 0 → ⊥) → (1 < length xs → getD xs 0 0 ≡ 48 → ⊥) → numberOf xs ≡ digitsAfter 0 xs
+pub number-digits : (bound : ℕ) (xs : List ℕ) → (length xs ≡ 0 → ⊥) → (1 < length xs → getD xs 0 0 ≡ 48 → ⊥)
+    → numberOf bound xs ≡ digitsAfter bound 0 xs
 unfolding numberOf
-number-digits [] n z = absurd (n refl)
-number-digits (x ∷ []) n z = refl
-number-digits (x ∷ y ∷ ys) n z = rw (ne-eqb x 48 (z (omega arith)))
+number-digits bound [] n z = absurd (n refl)
+number-digits bound (x ∷ []) n z = refl
+number-digits bound (x ∷ y ∷ ys) n z = rw (ne-eqb x 48 (z (omega arith)))
 
--- ---- every number below 256 and its text
+-- ---- a number's text is read as it
 
--- whether every byte of a text is a digit
-unfoldable pub allDigits : List ℕ → Bool
-allDigits [] = true
-allDigits (x ∷ xs) = both (isDigit x) (allDigits xs)
+-- one digit more behind a number that was read
+digits-snoc : (bound a : ℕ) (xs : List ℕ) (d : ℕ) → digitsAfter bound a xs < bound → d < 10 → 10 * digitsAfter bound a xs + d < bound
+    → digitsAfter bound a (xs ++ ((48 + d) ∷ [])) ≡ 10 * digitsAfter bound a xs + d
+unfolding digitsAfter
+digits-snoc bound a [] d l k h =
+    let e : 48 + d - 48 ≡ d = omega arith in
+    rw (le-leb 48 (48 + d) (omega arith), lt-ltb (48 + d) 58 (omega arith), e, lt-ltb (10 * a + d) bound h)
+digits-snoc bound a (x ∷ xs) d l k h =
+    go (isDigit x && ltb (10 * a + (x - 48)) bound) (digits-snoc bound (10 * a + (x - 48)) xs d) l h
+  where
+    v : ℕ
+    v = digitsAfter bound (10 * a + (x - 48)) xs
+
+    go : (b : Bool) → (v < bound → d < 10 → 10 * v + d < bound → digitsAfter bound (10 * a + (x - 48)) (xs ++ ((48 + d) ∷ [])) ≡ 10 * v + d)
+        → cond b v (bound + 1) < bound → 10 * cond b v (bound + 1) + d < bound
+        → cond b (digitsAfter bound (10 * a + (x - 48)) (xs ++ ((48 + d) ∷ []))) (bound + 1) ≡ 10 * cond b v (bound + 1) + d
+    go true i l h = i l k h
+    go false i l h = absurd (omega arith)
+
+digit-read-back : (bound n : ℕ) → n < 10 → n < bound → digitsAfter bound 0 ((48 + n) ∷ []) ≡ n
+unfolding digitsAfter
+digit-read-back bound n h l =
+    let e : 10 * 0 + (48 + n - 48) ≡ n = omega arith in
+    rw (le-leb 48 (48 + n) (omega arith), lt-ltb (48 + n) 58 (omega arith), e, lt-ltb n bound l)
+
+digits-read-back : (t bound n : ℕ) → n < 10 ^ suc t → n < bound → digitsAfter bound 0 (digitsOf t n) ≡ n
+digits-read-back zero bound n m l = rw (digits-one zero n m) (digit-read-back bound n m l)
+digits-read-back (suc t) bound n m l = elim (decLt n 10) [
+  | yes h ↦ rw (digits-one (suc t) n h) (digit-read-back bound n h l)
+  | no h ↦ (
+      let i = digits-read-back t bound (n / 10) (omega arith) (omega arith) in
+      rw (digits-split t n (omega arith))
+      (digits-snoc bound 0 (digitsOf t (n / 10)) (n % 10) (omega arith) (omega arith) (omega arith) ∙ omega arith)
+      )
+]
+
+-- no zero stands first in the text of a number above 0
+first-digit-some : (t n : ℕ) → n < 10 ^ suc t → 0 < n → getD (digitsOf t n) 0 0 ≡ 48 → ⊥
+first-digit-some zero n m p e = let z : 48 + n ≡ 48 = rw (digits-one zero n m) at e in omega arith
+first-digit-some (suc t) n m p e = elim (decLt n 10) [
+  | yes h ↦ (let z : 48 + n ≡ 48 = rw (digits-one (suc t) n h) at e in omega arith)
+  | no h ↦ first-digit-some t (n / 10) (omega arith) (omega arith)
+      (sym (List·getD-append (digitsOf t (n / 10)) ((48 + n % 10) ∷ []) 0 0 (digits-some t (n / 10))) ∙ rw (digits-split t n (omega arith)) at e)
+]
+
+pub number-of-digits : (t bound n : ℕ) → n < 10 ^ suc t → n < bound → numberOf bound (digitsOf t n) ≡ n
+number-of-digits t bound n m l =
+    number-digits bound (digitsOf t n) (λ e. let h = digits-some t n in omega arith) (λ k e. elim (decLt 0 n) [
+      | yes p ↦ first-digit-some t n m p e
+      | no p ↦ (let h = ap length (digits-one t n (omega arith)) in omega arith)
+    ])
+    ∙ digits-read-back t bound n m l
+
+-- ---- the bytes of a number's text
 
 -- whether a byte stands nowhere in a text
 unfoldable pub without : ℕ → List ℕ → Bool
 without y [] = true
 without y (x ∷ xs) = both (not (eqb x y)) (without y xs)
 
-abbrev isRead : ℕ → Bool
-isRead b = eqb (numberOf (decimal b)) b
+pub without-append : (y : ℕ) (xs ys : List ℕ) → T (without y xs) → T (without y ys) → T (without y (xs ++ ys))
+unfolding without
+without-append y [] ys s t = t
+without-append y (x ∷ xs) ys s t =
+    both-intro (not (eqb x y)) (without y (xs ++ ys)) (both-l (not (eqb x y)) (without y xs) s)
+    (without-append y xs ys (both-r (not (eqb x y)) (without y xs) s) t)
 
-abbrev isShort : ℕ → Bool
-isShort b = leb (length (decimal b)) 3
+without-one : (y d : ℕ) → y < 48 → T (without y ((48 + d) ∷ []))
+unfolding without
+without-one y d l = both-intro (not (eqb (48 + d) y)) true (not-T (eqb (48 + d) y) (λ q. let e = eqb→eq (48 + d) y q in omega arith)) tt
 
--- the text of b is read as b, and is at most three bytes, all of them digits
-textRight : ℕ → Bool
-textRight b = both (isRead b) (both (isShort b) (allDigits (decimal b)))
-
-text-rule : T (allBelow 256 textRight)
-unfolding textRight decimal numberOf digitsAfter allDigits
-text-rule = tt
-
-module _ (b : ℕ) (l : b < 256) where
-  text-at : T (both (isRead b) (both (isShort b) (allDigits (decimal b))))
-  unfolding textRight
-  text-at = all-at 256 textRight text-rule b l
-
-  shape-at : T (both (isShort b) (allDigits (decimal b)))
-  shape-at = both-r (isRead b) (both (isShort b) (allDigits (decimal b))) text-at
-
-  pub number-decimal : numberOf (decimal b) ≡ b
-  number-decimal = eqb→eq (numberOf (decimal b)) b (both-l (isRead b) (both (isShort b) (allDigits (decimal b))) text-at)
-
-  pub decimal-short : length (decimal b) ≤ 3
-  decimal-short = leb→le (length (decimal b)) 3 (both-l (isShort b) (allDigits (decimal b)) shape-at)
-
-  pub decimal-digits : T (allDigits (decimal b))
-  decimal-digits = both-r (isShort b) (allDigits (decimal b)) shape-at
-
--- a byte that is no digit, as 9, 10 and 45, stands in no text of digits
-pub digits-without : (y : ℕ) → isDigit y ≡ false → (xs : List ℕ) → T (allDigits xs) → T (without y xs)
-unfolding allDigits without
-digits-without y n [] t = tt
-digits-without y n (x ∷ xs) t =
-    both-intro (not (eqb x y)) (without y xs)
-    (not-T (eqb x y) (λ q. let z : isDigit x ≡ false = ap isDigit (eqb→eq x y q) ∙ n in rw z at (both-l (isDigit x) (allDigits xs) t)))
-    (digits-without y n xs (both-r (isDigit x) (allDigits xs) t))
-
--- nor does one below 48 in the text of any number
-below : (y a : ℕ) → y < a → T (not (eqb a y))
-below y a l = not-T (eqb a y) (λ q. let e = eqb→eq a y q in omega arith)
-
-pub decimal-without : (y x : ℕ) → y < 48 → T (without y (decimal x))
-unfolding decimal without
-decimal-without y x l = go (ltb x 10) (ltb x 100)
-  where
-    one : (a : ℕ) (rest : List ℕ) → T (without y rest) → T (without y ((48 + a) ∷ rest))
-    one a rest t = both-intro (not (eqb (48 + a) y)) (without y rest) (below y (48 + a) (omega arith)) t
-
-    two : (a b : ℕ) → T (without y ((48 + a) ∷ (48 + b) ∷ []))
-    two a b = one a ((48 + b) ∷ []) (one b [] tt)
-
-    go : (p q : Bool)
-        → T (without y (cond p ((48 + x) ∷ []) (cond q ((48 + x / 10) ∷ (48 + x % 10) ∷ []) ((48 + x / 100) ∷ (48 + x / 10 % 10) ∷ (48 + x % 10) ∷ []))))
-    go true q = one x [] tt
-    go false true = two (x / 10) (x % 10)
-    go false false = one (x / 100) ((48 + x / 10 % 10) ∷ (48 + x % 10) ∷ []) (two (x / 10 % 10) (x % 10))
+-- a byte below 48, as a tab and a line feed, stands in no number's text
+pub digits-without : (y t n : ℕ) → y < 48 → T (without y (digitsOf t n))
+unfolding digitsOf
+digits-without y zero n l = without-one y n l
+digits-without y (suc t) n l = elim (decLt n 10) [
+  | yes h ↦ rw (digits-one (suc t) n h) (without-one y n l)
+  | no h ↦ rw (digits-split t n (omega arith))
+      (without-append y (digitsOf t (n / 10)) ((48 + n % 10) ∷ []) (digits-without y t (n / 10) l) (without-one y (n % 10) l))
+]
 
 -- ---- only the text of a number is read as it
 
 -- what is known of a digit that was read
-digits-read : (a x : ℕ) (xs : List ℕ) → digitsAfter a (x ∷ xs) < 256
-    → (48 ≤ x) × (x < 58) × (10 * a + (x - 48) < 256) × (digitsAfter a (x ∷ xs) ≡ digitsAfter (10 * a + (x - 48)) xs)
+digits-read : (bound a x : ℕ) (xs : List ℕ) → digitsAfter bound a (x ∷ xs) < bound
+    → (48 ≤ x) × (x < 58) × (10 * a + (x - 48) < bound) × (digitsAfter bound a (x ∷ xs) ≡ digitsAfter bound (10 * a + (x - 48)) xs)
 unfolding digitsAfter
-digits-read a x xs = go (leb 48 x) (ltb x 58) (ltb n 256) refl refl refl
+digits-read bound a x xs = go (leb 48 x) (ltb x 58) (ltb n bound) refl refl refl
   where
     n : ℕ
     n = 10 * a + (x - 48)
 
-    go : (p q r : Bool) → leb 48 x ≡ p → ltb x 58 ≡ q → ltb n 256 ≡ r → cond ((p && q) && r) (digitsAfter n xs) 257 < 256
-        → (48 ≤ x) × (x < 58) × (n < 256) × (cond ((p && q) && r) (digitsAfter n xs) 257 ≡ digitsAfter n xs)
-    go true true true e f g h = (leb-true 48 x e, ltb-true x 58 f, ltb-true n 256 g, refl)
+    go : (p q r : Bool) → leb 48 x ≡ p → ltb x 58 ≡ q → ltb n bound ≡ r → cond ((p && q) && r) (digitsAfter bound n xs) (bound + 1) < bound
+        → (48 ≤ x) × (x < 58) × (n < bound) × (cond ((p && q) && r) (digitsAfter bound n xs) (bound + 1) ≡ digitsAfter bound n xs)
+    go true true true e f g h = (leb-true 48 x e, ltb-true x 58 f, ltb-true n bound g, refl)
     go true true false e f g h = absurd (omega arith)
     go true false r e f g h = absurd (omega arith)
     go false q r e f g h = absurd (omega arith)
 
-first-digit : (x : ℕ) → 48 ≤ x → x < 58 → decimal (10 * 0 + (x - 48)) ≡ x ∷ []
-unfolding decimal
-first-digit x l k = let e : 48 + (10 * 0 + (x - 48)) ≡ x = omega arith in rw (lt-ltb (10 * 0 + (x - 48)) 10 (omega arith), e)
+first-digit : (t x : ℕ) → 48 ≤ x → x < 58 → digitsOf t (10 * 0 + (x - 48)) ≡ x ∷ []
+first-digit t x l k = let e : 48 + (10 * 0 + (x - 48)) ≡ x = omega arith in rw (digits-one t (10 * 0 + (x - 48)) (omega arith), e)
 
-decimal-more : (a d : ℕ) → 0 < a → a < 100 → d < 10 → decimal (10 * a + d) ≡ decimal a ++ ((48 + d) ∷ [])
-unfolding decimal
-decimal-more a d p l k = elim (decLt a 10) [
-  | yes h ↦ rw (le-ltb n 10 (omega arith), lt-ltb n 100 (omega arith), lt-ltb a 10 h, tens, ones)
-  | no h ↦ rw (le-ltb n 10 (omega arith), le-ltb n 100 (omega arith), le-ltb a 10 (omega arith), lt-ltb a 100 l, hundreds, tens, ones)
-]
-  where
-    n : ℕ
-    n = 10 * a + d
+digits-more : (t a d : ℕ) → 0 < a → d < 10 → 10 * a + d < 10 ^ suc t → digitsOf t (10 * a + d) ≡ digitsOf t a ++ ((48 + d) ∷ [])
+digits-more t a d p k l =
+    let tens : (10 * a + d) / 10 ≡ a = omega arith in
+    let ones : (10 * a + d) % 10 ≡ d = omega arith in
+    digits-shift t (10 * a + d) (omega arith) l ∙ rw (tens, ones)
 
-    tens : n / 10 ≡ a
-    tens = omega arith
-
-    ones : n % 10 ≡ d
-    ones = omega arith
-
-    hundreds : n / 100 ≡ a / 10
-    hundreds = omega arith
-
-digits-decimal : (a : ℕ) (xs : List ℕ) → 0 < a → digitsAfter a xs < 256 → decimal (digitsAfter a xs) ≡ decimal a ++ xs
+digits-decimal : (t bound a : ℕ) (xs : List ℕ) → bound ≤ 10 ^ suc t → 0 < a → digitsAfter bound a xs < bound
+    → digitsOf t (digitsAfter bound a xs) ≡ digitsOf t a ++ xs
 unfolding digitsAfter
-digits-decimal a [] p h = sym (append-nil (decimal a))
-digits-decimal a (x ∷ xs) p h =
-    let r = digits-read a x xs h in
+digits-decimal t bound a [] m p h = sym (append-nil (digitsOf t a))
+digits-decimal t bound a (x ∷ xs) m p h =
+    let r = digits-read bound a x xs h in
     let d : 48 + (x - 48) ≡ x = omega arith in
-    let i = digits-decimal (10 * a + (x - 48)) xs (omega arith) (rw (r .3) at h) in
-    ap decimal (r .3) ∙ i ∙ rw (decimal-more a (x - 48) p (omega arith) (omega arith), d, append-assoc)
+    let i = digits-decimal t bound (10 * a + (x - 48)) xs m (omega arith) (rw (r .3) at h) in
+    ap (digitsOf t) (r .3) ∙ i ∙ rw (digits-more t a (x - 48) p (omega arith) (omega (arith, r .2)), d, append-assoc)
 
--- a field is read as a number below 256 only if it is the text of that number
-pub decimal-number : (xs : List ℕ) → numberOf xs < 256 → decimal (numberOf xs) ≡ xs
+-- a text is read as a number below the bound only if it is the text of that number
+pub digits-of-number : (t bound : ℕ) (xs : List ℕ) → bound ≤ 10 ^ suc t → numberOf bound xs < bound → digitsOf t (numberOf bound xs) ≡ xs
 unfolding numberOf digitsAfter
-decimal-number [] h = absurd (omega arith)
-decimal-number (x ∷ []) h =
-    let r = digits-read 0 x [] h in
-    ap decimal (r .3) ∙ first-digit x (r .0) (r .1)
-decimal-number (x ∷ y ∷ ys) h = go (eqb x 48) refl h
+digits-of-number t bound [] m h = absurd (omega arith)
+digits-of-number t bound (x ∷ []) m h =
+    let r = digits-read bound 0 x [] h in
+    ap (digitsOf t) (r .3) ∙ first-digit t x (r .0) (r .1)
+digits-of-number t bound (x ∷ y ∷ ys) m h = go (eqb x 48) refl h
   where
-    go : (b : Bool) → eqb x 48 ≡ b → cond b unreadable (digitsAfter 0 (x ∷ y ∷ ys)) < 256 → decimal (cond b unreadable (digitsAfter 0 (x ∷ y ∷ ys))) ≡ x ∷ y ∷ ys
+    go : (b : Bool) → eqb x 48 ≡ b → cond b (unreadable bound) (digitsAfter bound 0 (x ∷ y ∷ ys)) < bound
+        → digitsOf t (cond b (unreadable bound) (digitsAfter bound 0 (x ∷ y ∷ ys))) ≡ x ∷ y ∷ ys
     go true e h = absurd (omega arith)
     go false e h =
-        let r = digits-read 0 x (y ∷ ys) h in
+        let r = digits-read bound 0 x (y ∷ ys) h in
         let n = eqb-false x 48 e in
-        ap decimal (r .3) ∙ digits-decimal (10 * 0 + (x - 48)) (y ∷ ys) (omega arith) (rw (r .3) at h)
-        ∙ ap (λ f. f ++ (y ∷ ys)) (first-digit x (r .0) (r .1))
+        ap (digitsOf t) (r .3) ∙ digits-decimal t bound (10 * 0 + (x - 48)) (y ∷ ys) m (omega arith) (rw (r .3) at h)
+        ∙ ap (λ f. f ++ (y ∷ ys)) (first-digit t x (r .0) (r .1))
 
--- no text is read as 256
-digits-never : (a : ℕ) (xs : List ℕ) → a < 256 → digitsAfter a xs ≡ 256 → ⊥
+-- no text is read as the bound itself
+digits-never : (bound a : ℕ) (xs : List ℕ) → a < bound → digitsAfter bound a xs ≡ bound → ⊥
 unfolding digitsAfter
-digits-never a [] l e = absurd (omega arith)
-digits-never a (x ∷ xs) l e = elim (decLt (digitAfter a x) 256) [
-  | yes k ↦ digits-never (digitAfter a x) xs k (sym (digit-again a x xs k) ∙ e)
-  | no k ↦ (let z = digit-stop a x xs (omega arith) in absurd (omega arith))
+digits-never bound a [] l e = absurd (omega arith)
+digits-never bound a (x ∷ xs) l e = elim (decLt (digitAfter bound a x) bound) [
+  | yes k ↦ digits-never bound (digitAfter bound a x) xs k (sym (digit-again bound a x xs k) ∙ e)
+  | no k ↦ (let z = digit-stop bound a x xs (omega arith) in absurd (omega arith))
 ]
 
-pub number-never : (xs : List ℕ) → numberOf xs ≡ 256 → ⊥
+pub number-never : (bound : ℕ) → 0 < bound → (xs : List ℕ) → numberOf bound xs ≡ bound → ⊥
 unfolding numberOf
-number-never [] = omega arith
-number-never (x ∷ []) = digits-never 0 (x ∷ []) (omega arith)
-number-never (x ∷ y ∷ ys) = go (eqb x 48)
+number-never bound p [] e = omega arith
+number-never bound p (x ∷ []) e = digits-never bound 0 (x ∷ []) p e
+number-never bound p (x ∷ y ∷ ys) e = go (eqb x 48) e
   where
-    go : (b : Bool) → cond b unreadable (digitsAfter 0 (x ∷ y ∷ ys)) ≡ 256 → ⊥
-    go true = omega arith
-    go false = digits-never 0 (x ∷ y ∷ ys) (omega arith)
+    go : (b : Bool) → cond b (unreadable bound) (digitsAfter bound 0 (x ∷ y ∷ ys)) ≡ bound → ⊥
+    go true e = omega arith
+    go false e = digits-never bound 0 (x ∷ y ∷ ys) p e

@@ -1,4 +1,4 @@
--- The fields of a line, and what each means.
+-- The parts of a text, the fields of a line, and what each means.
 use mathlib.Core.Bool.{Bool, true, false, cond, _&&_}
 use mathlib.Core.List.{List, [], _∷_}
 use Prim.Native.Nat.{ℕ}
@@ -10,10 +10,14 @@ abbrev pub withFirst : ℕ → List (List ℕ) → List (List ℕ)
 withFirst x [] = (x ∷ []) ∷ []
 withFirst x (f ∷ fs) = (x ∷ f) ∷ fs
 
--- "fields parted by one tab", the byte 9; an empty line is one empty field
-unfoldable pub fields : List ℕ → List (List ℕ)
-fields [] = [] ∷ []
-fields (x ∷ xs) = cond (eqb x 9) ([] ∷ fields xs) (withFirst x (fields xs))
+-- the parts of a text between separators; an empty text is one empty part
+unfoldable pub parts : ℕ → List ℕ → List (List ℕ)
+parts sep [] = [] ∷ []
+parts sep (x ∷ xs) = cond (eqb x sep) ([] ∷ parts sep xs) (withFirst x (parts sep xs))
+
+-- "fields parted by one tab", the byte 9
+abbrev pub fields : List ℕ → List (List ℕ)
+fields = parts 9
 
 -- whether two texts are the same
 unfoldable pub same : List ℕ → List ℕ → Bool
@@ -28,4 +32,4 @@ lostPlace = 256
 
 -- "- is a lost place": 0 to 255 for a number, 256 for a lost place, 257 for a field that can't be read
 unfoldable pub meaning : List ℕ → ℕ
-meaning xs = cond (same xs (45 ∷ [])) lostPlace (numberOf xs)
+meaning xs = cond (same xs (45 ∷ [])) lostPlace (numberOf 256 xs)

@@ -4,6 +4,8 @@ pub mod Records
 pub mod Lines
 pub mod Input
 pub mod Padded
+pub mod Written
+pub mod WrittenLaws
 pub mod DecimalLaws
 pub mod FieldLaws
 pub mod RecordLaws

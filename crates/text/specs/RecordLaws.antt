@@ -9,15 +9,15 @@ use lib.Dec.{eqb, leb}
 use lib.ListN.{length, take, length-take}
 use Rattle.text.specs.Fields.{same}
 use Rattle.text.specs.Records.{shapeName, dataName, wordName, nameKind, lineName, contents, boundOf, allUnder, lineKind}
-use Rattle.text.specs.FieldLaws.{toTab, take-field, fields-split, valuesFrom, values-few, same-eq}
+use Rattle.text.specs.FieldLaws.{toTab, take-part, parts-split, partsFrom, valuesFrom, values-few, same-eq}
 
 pub name-first : (line : List ℕ) → lineName line ≡ toTab line
 unfolding lineName
-name-first line = rw (fields-split line)
+name-first line = rw (parts-split 9 line)
 
 pub contents-later : (line : List ℕ) → contents line ≡ valuesFrom (length (toTab line)) line
-unfolding contents valuesFrom
-contents-later line = rw (fields-split line)
+unfolding contents valuesFrom partsFrom
+contents-later line = rw (parts-split 9 line)
 
 pub kind-long : (line : List ℕ) → 1024 < length line → lineKind line ≡ 0
 unfolding lineKind
@@ -29,7 +29,7 @@ line-values line =
     let n = ap length (name-first line) in
     let v = ap length (contents-later line) in
     let f = values-few (length (toTab line)) line in
-    let t : length (take (length (toTab line)) line) ≡ length (toTab line) = ap length (take-field line) in
+    let t : length (take (length (toTab line)) line) ≡ length (toTab line) = ap length (take-part 9 line) in
     let s = length-take (length (toTab line)) line in
     omega arith
 

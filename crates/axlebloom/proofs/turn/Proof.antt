@@ -1,6 +1,6 @@
 use mathlib.Core.Path.{sym}
 use lib.Seq.{length-take-le}
-use Rattle.print.specs.WrittenLaws.{written-holds}
+use Rattle.text.specs.WrittenLaws.{written-holds}
 use borrow.Author.Needs.{needs}
 use Rattle.axlebloom.proofs.turn.Statement.{statement}
 use Rattle.axlebloom.proofs.turn.Tie as tie

@@ -39,23 +39,24 @@ use denote.Triple.Clauses.{ensured, lasts}
 use Rattle.shape.specs.declared.Mending.{Mending}
 use Rattle.gather_finish.specs.Finish.{finishOf, FinishGives}
 use Rattle.gather_record.specs.declared.Gather.{Gather}
-use Rattle.exports_gather.specs.Calls.{mendingMended, FinishesMended}
-use Rattle.exports_gather.specs.declared.Mended.{Mended}
-use Rattle.exports_gather.specs.CallsLaws.{mended-by}
+use Rattle.exports_gather.specs.Calls.{FinishesMended}
+use Rattle.c_answers.specs.Mends.{mendingMended}
+use Rattle.c_answers.specs.declared.Mended.{Mended}
+use Rattle.c_answers.specs.MendsLaws.{mended-by}
 use Rattle.desk_lent.proofs.Walks.{by-walk}
 use Rattle.gather_record.proofs.Gather as T
 use Rattle.shape.proofs.Mending as E
 use Rattle.shape.proofs.Mending.Laws as E′
-use Rattle.exports_gather.proofs.Mended as R
-use Rattle.exports_gather.proofs.Mended.Laws as R′
+use Rattle.c_answers.proofs.Mended as R
+use Rattle.c_answers.proofs.Mended.Laws as R′
 use Rattle.gather_lent.proofs.finish_at as finish
 use Rattle.gather_lent.proofs.finish_at.Symbol as finish-def
 use Rattle.gather_lent.proofs.finish_at.Symbol.{name as #gather-lent·finish-at}
 use Rattle.gather_lent.proofs.finish_at.Met as finish-thm
-use Rattle.exports_gather.proofs.mended_of as mended-of
-use Rattle.exports_gather.proofs.mended_of.Symbol as mended-of-def
-use Rattle.exports_gather.proofs.mended_of.Symbol.{name as #exports-gather·mended-of}
-use Rattle.exports_gather.proofs.mended_of.Met as mended-of-thm
+use Rattle.c_answers.proofs.mended_of as mended-of
+use Rattle.c_answers.proofs.mended_of.Symbol as mended-of-def
+use Rattle.c_answers.proofs.mended_of.Symbol.{name as #c-answers·mended-of}
+use Rattle.c_answers.proofs.mended_of.Met as mended-of-thm
 use Rattle.exports_gather.proofs.axlebloom_gather_finish.Key.{name as #exports-gather·axlebloom-gather-finish}
 use Rattle.exports_gather.proofs.axlebloom_gather_finish as axlebloom-gather-finish
 use Rattle.exports_gather.proofs.axlebloom_gather_finish.Statement as stated
@@ -106,7 +107,7 @@ module _ {M : Type 1} (𝓤 : URA M) (H : Heap 𝓤) (A : Atoms 𝓤) (W : Given
   goes-mends : (r : Mending) (v : Val) → ent 𝓤 (sem 𝓤 H A (E.the-row .own r (v ∷ []))) (Mends 𝓤 H A at-mem run .pre (to-mends r v))
   goes-mends r v = qed W (‵ (E.the-row .own r (v ∷ [])) ∷ []) ∵ nothing ! $ move ! (1 ∷ 0 ∷ []) $ join ! $ nothing ! $ join ! $ frame ! $ done !
 
-  module _ (C : Calls 𝓤 H) (Λ : Loops 𝓤 H) (fm : FmC 𝓤 H (W .laws) C) (known : Triple 𝓤 (C #gather-lent·finish-at) (Finish 𝓤 H A at-mem run)) (known-mends : Triple 𝓤 (C #exports-gather·mended-of) (Mends 𝓤 H A at-mem run)) where
+  module _ (C : Calls 𝓤 H) (Λ : Loops 𝓤 H) (fm : FmC 𝓤 H (W .laws) C) (known : Triple 𝓤 (C #gather-lent·finish-at) (Finish 𝓤 H A at-mem run)) (known-mends : Triple 𝓤 (C #c-answers·mended-of) (Mends 𝓤 H A at-mem run)) where
     walk : Room u8 (length ys) → ent 𝓤 (onEntry 𝓤 H A axlebloom-gather-finish.signature (κ, (κ′, tt)) (q, (q′, tt)) x at) (WpFn 𝓤 H C Λ code.function (vptr b o ∷ s ∷ []) Post)
     walk room =
         qed W ((‵ (flft κ q) ⊛ ‵ (flft κ′ q′) ⊛ ‵ ftrue) ∷ ‵ (owns (MutRef (named 0) κ T.the-row ∷ MutSlice (named 1) κ′ u8 ∷ []) x at) ∷ []) ∵ enter ! C Λ code.function (vptr b o ∷ s ∷ []) _ $
@@ -146,4 +147,4 @@ axlebloom-gather-finish-spec 𝓤 H 𝓜 𝓖 𝓡 =
     (λ κs. (mut-tells (named 0) (κs .0) T.the-row, (mut-slice-tells (named 1) (κs .1 .0) u8, tt)))
     (λ fm κs qs bounds a g are. walk 𝓤 H (𝓖 .A) W (𝓜 .mem) (𝓡 .run) (κs .0) (κs .1 .0) (qs .0) (qs .1 .0) (a .0 .ptr .0) (a .0 .ptr .1) (a .0 .name) (a .0 .now) (a .1 .0 .ptr .0) (a .1 .0 .ptr .1) (a .1 .0 .name) (a .1 .0 .now) (tables 𝓤 H 𝓜 𝓡 code.env .C) (tables 𝓤 H 𝓜 𝓡 code.env .Λ) fm
     (cited 𝓤 H (Finish 𝓤 H (𝓖 .A) (𝓜 .mem) (𝓡 .run)) 𝓜 𝓡 code.env #gather-lent·finish-at finish-def.routine code.calls-gather-lent·finish-at (finish-thm.met 𝓤 H 𝓜 𝓖 𝓡))
-    (cited 𝓤 H (Mends 𝓤 H (𝓖 .A) (𝓜 .mem) (𝓡 .run)) 𝓜 𝓡 code.env #exports-gather·mended-of mended-of-def.routine code.calls-exports-gather·mended-of (mended-of-thm.met 𝓤 H 𝓜 𝓖 𝓡)) (are .1 .0 .0 .1))
+    (cited 𝓤 H (Mends 𝓤 H (𝓖 .A) (𝓜 .mem) (𝓡 .run)) 𝓜 𝓡 code.env #c-answers·mended-of mended-of-def.routine code.calls-c-answers·mended-of (mended-of-thm.met 𝓤 H 𝓜 𝓖 𝓡)) (are .1 .0 .0 .1))

@@ -31,11 +31,11 @@ returns c =
     let e = c .before .value-at .ensures in
     cc (under-stop (a .line .now) (s .loop .at) (omega arith) (a .bound) (omega arith))
 
-add-field-end : tie.Need-add-field-end Inv-loop μ-loop
-add-field-end c = omega arith
+add-part-end : tie.Need-add-part-end Inv-loop μ-loop
+add-part-end c = omega arith
 
-field-end-requires : tie.Need-field-end-requires Inv-loop μ-loop
-field-end-requires c κs = omega arith
+part-end-requires : tie.Need-part-end-requires Inv-loop μ-loop
+part-end-requires c κs = omega arith
 
 loop-less : tie.Need-loop-less Inv-loop μ-loop
 loop-less c = omega arith
@@ -63,8 +63,8 @@ all-under-spec =
     add-value-at
     value-at-requires
     returns
-    add-field-end
-    field-end-requires
+    add-part-end
+    part-end-requires
     loop-less
     loop-again
     returns-2)

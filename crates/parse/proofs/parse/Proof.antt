@@ -11,13 +11,13 @@ use Rattle.parse.proofs.parse.Tie as tie
 returns : tie.Need-returns
 returns c = (sym (kind-long (c .before .before .args .line .now) (omega arith)), λ n. absurd (n refl))
 
-field-end-requires : tie.Need-field-end-requires
-field-end-requires c κs = search needs
+part-end-requires : tie.Need-part-end-requires
+part-end-requires c κs = search needs
 
 slice-aggregate-name-kind : tie.Need-slice-aggregate-name-kind
 slice-aggregate-name-kind c =
     let f = c .before in
-    sym (length-take-le (f .field-end .result) (f .before .before .before .args .line .now) (f .field-end .ensures .1 .1))
+    sym (length-take-le (f .part-end .result) (f .before .before .before .args .line .now) (omega arith))
 
 name-kind-requires : tie.Need-name-kind-requires
 name-kind-requires c κs = search needs
@@ -35,7 +35,7 @@ returns-2 c =
     let f = n .before .before in
     let over = sym (u .all-under .ensures) ∙ not-true (u .all-under .result) (c .if2 .taken) in
     let line = f .before .before .before .args .line .now in
-    (kind-over line (omega arith) (f .field-end .result) (f .field-end .ensures .0) (n .name-kind .result) (n .name-kind .ensures) (cc), λ n. absurd (n refl))
+    (kind-over line (omega arith) (f .part-end .result) (f .part-end .ensures .0) (n .name-kind .result) (n .name-kind .ensures) (cc), λ n. absurd (n refl))
 
 slice-aggregate-write-values : tie.Need-slice-aggregate-write-values
 slice-aggregate-write-values c = search needs
@@ -44,7 +44,7 @@ slice-aggregate-write-values-2 : tie.Need-slice-aggregate-write-values-2
 slice-aggregate-write-values-2 c = search needs
 
 write-values-requires : tie.Need-write-values-requires
-write-values-requires c κs = (c .before .before .before .before .before .before .before .field-end .ensures .1 .1, (omega arith, omega arith))
+write-values-requires c κs = (omega arith, (omega arith, omega arith))
 
 kind-with-requires : tie.Need-kind-with-requires
 kind-with-requires c κs = search needs
@@ -59,15 +59,15 @@ returns-3 c =
     let line = f .before .before .before .args .line .now in
     let v = w .write-values .ensures in
     let under = sym (u .all-under .ensures) ∙ not-false (u .all-under .result) (o .if2 .left) in
-    let k = kind-under line (omega arith) (f .field-end .result) (f .field-end .ensures .0) (n .name-kind .result) (n .name-kind .ensures) (cc) in
-    (cc, λ _. holds line (omega arith) (f .field-end .result) (f .field-end .ensures .0) _ (v .0) (v .1 .0) (v .1 .1))
+    let k = kind-under line (omega arith) (f .part-end .result) (f .part-end .ensures .0) (n .name-kind .result) (n .name-kind .ensures) (cc) in
+    (cc, λ _. holds line (omega arith) (f .part-end .result) (f .part-end .ensures .0) _ (v .0) (v .1 .0) (v .1 .1))
 
 pub parse-spec : {M : Type 1} → statement M
 parse-spec =
     tie.close
     (tie.spec
     returns
-    field-end-requires
+    part-end-requires
     slice-aggregate-name-kind
     name-kind-requires
     bound-of-requires

@@ -1,10 +1,10 @@
 use borrow.Author.Needs.{needs}
-use Rattle.text.specs.FieldLaws.{part-field}
+use Rattle.text.specs.FieldLaws.{part-taken}
 use Rattle.parse.proofs.value_at.Statement.{statement}
 use Rattle.parse.proofs.value_at.Tie as tie
 
-field-end-requires : tie.Need-field-end-requires
-field-end-requires c κs = search needs
+part-end-requires : tie.Need-part-end-requires
+part-end-requires c κs = search needs
 
 sub-meaning : tie.Need-sub-meaning
 sub-meaning c = search needs
@@ -21,13 +21,13 @@ meaning-requires c κs = search needs
 returns : tie.Need-returns
 returns c =
     let a = c .before .before .before .before .args in
-    cc (part-field (a .from) (a .line .now))
+    cc (part-taken 9 (a .from) (a .line .now))
 
 pub value-at-spec : {M : Type 1} → statement M
 value-at-spec =
     tie.close
     (tie.spec
-    field-end-requires
+    part-end-requires
     sub-meaning
     part-meaning-start
     part-meaning-end

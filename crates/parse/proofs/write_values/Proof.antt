@@ -44,11 +44,11 @@ slice-write-marks c = omega arith
 add-count : tie.Need-add-count Inv-loop μ-loop
 add-count c = omega arith
 
-add-field-end : tie.Need-add-field-end Inv-loop μ-loop
-add-field-end c = omega arith
+add-part-end : tie.Need-add-part-end Inv-loop μ-loop
+add-part-end c = omega arith
 
-field-end-requires : tie.Need-field-end-requires Inv-loop μ-loop
-field-end-requires c κs = omega arith
+part-end-requires : tie.Need-part-end-requires Inv-loop μ-loop
+part-end-requires c κs = omega arith
 
 loop-less : tie.Need-loop-less Inv-loop μ-loop
 loop-less c = omega arith
@@ -62,7 +62,7 @@ loop-again c =
       omega arith,
       simp length-set (omega arith),
       simp length-set (omega arith),
-      rw (c .field-end .ensures .0) (omega arith),
+      rw (c .part-end .ensures .0) (omega arith),
       cc (write-more line (s .loop .at) (omega arith) (λ v. v % 256) (s .loop .bytes) (s .loop .count)),
       cc (write-more line (s .loop .at) (omega arith) (λ v. v / 256) (s .loop .marks) (s .loop .count)),
     )
@@ -99,8 +99,8 @@ write-values-spec =
     cast-marks
     slice-write-marks
     add-count
-    add-field-end
-    field-end-requires
+    add-part-end
+    part-end-requires
     loop-less
     loop-again
     same-length

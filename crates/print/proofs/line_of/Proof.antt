@@ -1,6 +1,6 @@
 use mathlib.Core.Path.{_∙_}
 use borrow.Author.Needs.{needs}
-use Rattle.print.specs.WrittenLaws.{written-padded}
+use Rattle.text.specs.WrittenLaws.{written-padded}
 use Rattle.print.proofs.line_of.Statement.{statement}
 use Rattle.print.proofs.line_of.Tie as tie
 

@@ -1,12 +1,13 @@
-use mathlib.Core.Path.{_≡_, refl, sym}
-use Prim.Native.Nat.{_≤_, _-_, _+_}
-use native.Mathlib.Omega.{arith}
-use lib.ListN.{length, take}
+use Rattle.print.proofs.Steps.{numbers-step}
+use Rattle.text.specs.WrittenLaws.{written-nothing}
+use Rattle.text.specs.Written.{written}
+use Rattle.text.specs.Lines.{cellsOf, cells}
 use lib.Seq.{take-all}
-use Rattle.text.specs.Lines.{cells}
-use Rattle.print.specs.Written.{written}
-use Rattle.print.specs.WrittenLaws.{written-nothing}
-use Rattle.print.proofs.Steps.{numbers-room, numbers-step}
+use lib.ListN.{length, take}
+use borrow.Author.Needs.{needs}
+use native.Mathlib.Omega.{arith}
+use Prim.Native.Nat.{_≤_, _-_, _+_}
+use mathlib.Core.Path.{_≡_, refl, sym}
 use Rattle.print.proofs.put_numbers.Statement.{statement}
 use Rattle.print.proofs.put_numbers.Tie as tie
 
@@ -18,18 +19,17 @@ abbrev μ-loop : tie.MeasureT-loop
 μ-loop out₀ at numbers next₀ i₀ out next i = length numbers - i
 
 loop-holds : tie.Need-loop-holds Inv-loop μ-loop
-unfolding cells
+unfolding cellsOf
 loop-holds c = (omega arith, refl, omega arith, sym (written-nothing _ _))
 
 shared-slice-read-put-number : tie.Need-shared-slice-read-put-number Inv-loop μ-loop
 shared-slice-read-put-number c = omega arith
 
+cast-put-number : tie.Need-cast-put-number Inv-loop μ-loop
+cast-put-number c = omega (arith, c .shared-slice-known2 .given (c .before .before .before .loop .i))
+
 put-number-requires : tie.Need-put-number-requires Inv-loop μ-loop
-put-number-requires c κs =
-    let l = c .before .before .before .loop in
-    let a = c .before .before .before .before .before .before .args in
-    let h = numbers-room (a .out .now) (l .out) (l .out) (a .numbers .now) (a .at) (l .next) (l .i) (omega arith) (omega arith) (l .inv .2) in
-    omega arith
+put-number-requires c κs = search needs
 
 add-i : tie.Need-add-i Inv-loop μ-loop
 add-i c = omega arith
@@ -42,7 +42,8 @@ loop-again c =
     let l = c .before .before .before .before .before .before .loop in
     let a = c .before .before .before .before .before .before .before .before .before .args in
     let p = c .before .before .put-number in
-    let s = numbers-step (a .out .now) (l .out) (p .last .0) (a .numbers .now) (a .at) (l .next) (l .i) (omega arith) (omega arith) (l .inv .2) (p .result) (l .inv .3) (p .ensures) in
+    let d = c .before .before .before .shared-slice-known2 .given (l .i) in
+    let s = numbers-step (a .out .now) (l .out) (p .last .0) (a .numbers .now) (a .at) (l .next) (l .i) (omega arith) (omega arith) (omega arith) (l .inv .2) (l .inv .3) (p .result) (p .ensures .0) (p .ensures .1) in
     (omega arith, s .2, s .0, s .1)
 
 same-length : tie.Need-same-length Inv-loop μ-loop
@@ -64,6 +65,7 @@ put-numbers-spec =
     μ-loop
     loop-holds
     shared-slice-read-put-number
+    cast-put-number
     put-number-requires
     add-i
     loop-less

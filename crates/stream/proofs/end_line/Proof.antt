@@ -1,7 +1,7 @@
 use mathlib.Core.Path.{sym, ap, _∙_}
 use native.Mathlib.Omega.{arith}
 use lib.Seq.{length-take-le}
-use Rattle.print.specs.Written.{written}
+use Rattle.text.specs.Written.{written}
 use Rattle.session.specs.RepliesLaws.{reply-room}
 use Rattle.stream.specs.StepsLaws.{reply-line, reply-fits, answered-place}
 use borrow.Author.Needs.{needs}

@@ -1,7 +1,7 @@
 use mathlib.Core.Path.{refl, sym, ap, _∙_}
 use native.Mathlib.Nat.{zero-add}
 use native.Mathlib.Omega.{arith}
-use Rattle.print.specs.WrittenLaws.{written-nothing}
+use Rattle.text.specs.WrittenLaws.{written-nothing}
 use Rattle.stream.specs.declared.Place.{Place}
 use Rattle.stream.specs.StepsLaws.{closing-none, closing-some}
 use borrow.Author.Needs.{needs}

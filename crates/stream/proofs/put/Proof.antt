@@ -4,7 +4,7 @@ use native.Mathlib.Omega.{arith}
 use lib.ListN.{length}
 use borrow.Rule.Slice.PartMut.{post-is, mid-len}
 use borrow.Author.Needs.{needs}
-use Rattle.print.specs.Written.{written}
+use Rattle.text.specs.Written.{written}
 use Rattle.stream.proofs.put.Statement.{statement}
 use Rattle.stream.proofs.put.Tie as tie
 

@@ -1,0 +1,4 @@
+pub mod Service
+pub mod Demand
+pub mod Laws
+pub mod DemandLaws

@@ -1,0 +1,51 @@
+use Rattle.catalogue_lines.specs.ReadingLaws.{field-some, field-none}
+use Rattle.text.specs.FieldLaws.{part-taken}
+use Prim.Native.Nat.{_+_}
+use mathlib.Core.Path.{sym, _∙_}
+use native.Mathlib.Omega.{arith}
+use mathlib.Core.Path.{sym}
+use borrow.Author.Needs.{needs}
+use Rattle.catalogue_lines.proofs.field_after.Statement.{statement}
+use Rattle.catalogue_lines.proofs.field_after.Tie as tie
+
+returns : tie.Need-returns
+returns c = let a = c .before .before .args in (sym (field-none (a .line .now) (a .at) (omega arith)), λ h. h)
+
+add-start : tie.Need-add-start
+add-start c = search needs
+
+part-end-requires : tie.Need-part-end-requires
+part-end-requires c κs = search needs
+
+sub-number : tie.Need-sub-number
+sub-number c = search needs
+
+part-number-start : tie.Need-part-number-start
+part-number-start c = search needs
+
+part-number-end : tie.Need-part-number-end
+part-number-end c = search needs
+
+number-requires : tie.Need-number-requires
+number-requires c κs = search needs
+
+returns-2 : tie.Need-returns-2
+returns-2 c =
+    let a = c .before .before .before .before .before .args in
+    let p = c .before .before .part-end in
+    let n = c .number .ensures .0 in
+    let e = p .ensures .0 in
+    (cc (field-some (a .line .now) (a .at) (omega arith), part-taken 9 (a .at + 1) (a .line .now)), λ h. omega arith)
+
+pub field-after-spec : {M : Type 1} → statement M
+field-after-spec =
+    tie.close
+    (tie.spec
+    returns
+    add-start
+    part-end-requires
+    sub-number
+    part-number-start
+    part-number-end
+    number-requires
+    returns-2)

@@ -1,0 +1,256 @@
+-- A line by its fields, one after the other.
+use mathlib.Core.Path.{_≡_, refl, sym, ap, ap₂, _∙_, subst}
+use mathlib.Core.Logic.{_⊎_, inl, inr}
+use mathlib.Core.Bool.{Bool, true, false, cond}
+use mathlib.Core.List.{List, [], _∷_, map}
+use Prim.Native.Nat.{ℕ, suc, _+_, _≤_, _<_}
+use native.Mathlib.Nat.{zero-add}
+use native.Mathlib.Omega.{arith}
+use native.Mathlib.Decide.{decLt}
+use borrow.Author.Tests.{lt-ltb, le-ltb, le-leb, lt-leb, ne-eqb, eqb-true}
+use lib.Dec.{T, eqb, leb, ltb}
+use lib.ListN.{length, getD, take, drop}
+use Rattle.counting.specs.Test.{both}
+use Rattle.shape.specs.Shapes.{shapeRefusal}
+use Rattle.shape.specs.Laws.{good-of-refusal}
+use Rattle.text.specs.Decimal.{numberOf, unreadable}
+use Rattle.text.specs.Fields.{parts}
+use Rattle.text.specs.FieldLaws.{upTo, toTab, endOf, take-part, partsFrom, parts-split, parts-more, parts-end, parts-all}
+use Rattle.text.specs.Records.{lineName}
+use Rattle.text.specs.RecordLaws.{name-first}
+use Rattle.catalogue_text.specs.Names.{goodName}
+use Rattle.catalogue_text.specs.NamesLaws.{both-none}
+use Rattle.catalogue_text.specs.Catalogue.{Entry, goodEntry, numbersOf, entryOf}
+use Rattle.catalogue_text.specs.CatalogueLaws.{lineGood}
+use Rattle.catalogue_lines.specs.declared.Line.{Line}
+use Rattle.catalogue_lines.specs.declared.Field.{Field}
+use Rattle.catalogue_lines.specs.Reading.{unread, asLine, readLine, fieldAfter, numbersGood, lineIf}
+
+-- the numbers of the fields after a place
+unfoldable pub numbersFrom : ℕ → List ℕ → List ℕ
+numbersFrom i line = map (numberOf 65536) (partsFrom 9 i line)
+
+pub first-end : (line : List ℕ) → endOf 9 0 line ≡ length (toTab line)
+unfolding endOf
+first-end line = zero-add (length (toTab line))
+
+numbers-first : (line : List ℕ) → numbersOf line ≡ numbersFrom (endOf 9 0 line) line
+unfolding numbersOf numbersFrom
+numbers-first line = rw (parts-all 9 line, first-end line)
+
+pub name-taken : (line : List ℕ) → take (endOf 9 0 line) line ≡ lineName line
+name-taken line = ap (λ i. take i line) (first-end line) ∙ take-part 9 line ∙ sym (name-first line)
+
+module _ (line : List ℕ) (i : ℕ) where
+  pub field-some : i < length line → fieldAfter i line ≡ record { value = numberOf 65536 (upTo 9 (drop (i + 1) line)); end = endOf 9 (i + 1) line }
+  unfolding fieldAfter
+  field-some l = rw (lt-ltb i (length line) l)
+
+  pub field-none : length line ≤ i → fieldAfter i line ≡ record { value = 65537; end = i }
+  unfolding fieldAfter
+  field-none l = rw (le-ltb i (length line) l)
+
+  numbers-more : i < length line → numbersFrom i line ≡ (fieldAfter i line) .value ∷ numbersFrom ((fieldAfter i line) .end) line
+  unfolding numbersFrom
+  numbers-more l = rw (field-some l, parts-more 9 i line l)
+
+  numbers-end : length line ≤ i → numbersFrom i line ≡ []
+  unfolding numbersFrom
+  numbers-end l = rw (parts-end 9 i line l)
+
+-- numbers of which one is too large
+revision-large : (m w c : ℕ) → numbersGood 65537 m w c ≡ false
+unfolding numbersGood
+revision-large m w c = refl
+
+shape-large : (r m w c : ℕ) → (16 < m) ⊎ (16 < w) ⊎ (16 < c) → numbersGood r m w c ≡ false
+unfolding numbersGood
+shape-large r m w c h = rw (none (eqb (shapeRefusal m w c) 0) refl, both-none (leb r 65535), both-none (leb 1 r))
+  where
+    large : shapeRefusal m w c ≡ 0 → (16 < m) ⊎ (16 < w) ⊎ (16 < c) → ⊥
+    large e (inl l) = let g = good-of-refusal m w c e .few in omega arith
+    large e (inr (inl l)) = let g = good-of-refusal m w c e .narrow in omega arith
+    large e (inr (inr l)) = let g = good-of-refusal m w c e .few-checks in omega arith
+
+    none : (b : Bool) → eqb (shapeRefusal m w c) 0 ≡ b → b ≡ false
+    none true e = absurd (large (eqb-true (shapeRefusal m w c) 0 e) h)
+    none false e = refl
+
+entry-read : (line : List ℕ) (r m w c : ℕ) → numbersOf line ≡ r ∷ m ∷ w ∷ c ∷ []
+    → entryOf line ≡ record { name = lineName line; revision = r; m = m; w = w; c = c }
+unfolding entryOf
+entry-read line r m w c e = rw e
+
+good-numbers : (e : Entry) → goodEntry e ≡ both (goodName (e .name)) (numbersGood (e .revision) (e .m) (e .w) (e .c))
+unfolding goodEntry numbersGood
+good-numbers e = refl
+
+-- four fields, one after the other, from the end of the name on
+module _ (line : List ℕ) where
+  abbrev first : Field
+  first = fieldAfter (endOf 9 0 line) line
+
+  abbrev second : Field
+  second = fieldAfter (first .end) line
+
+  abbrev third : Field
+  third = fieldAfter (second .end) line
+
+  abbrev fourth : Field
+  fourth = fieldAfter (third .end) line
+
+  abbrev asRead : Entry
+  asRead = record { name = lineName line; revision = first .value; m = second .value; w = third .value; c = fourth .value }
+
+  -- the line is good by its name, its end and its numbers
+  abbrev ReadAs : Bool → Type 0
+  ReadAs g = (lineGood line ≡ both (leb (length line) (fourth .end)) g) × (T (both (leb (length line) (fourth .end)) g) → entryOf line ≡ asRead)
+
+  not-four : (g : Bool) → (length (numbersOf line) ≡ 4 → ⊥) → both (leb (length line) (fourth .end)) g ≡ false → ReadAs g
+  unfolding lineGood
+  not-four g n e = (rw (ne-eqb (length (numbersOf line)) 4 n) (sym e), λ t. absurd (subst T e t))
+
+  abbrev good : Bool
+  good = both (goodName (lineName line)) (numbersGood (first .value) (second .value) (third .value) (fourth .value))
+
+  -- where a number is missing it counts as too large
+  missing : (length (numbersOf line) ≡ 4 → ⊥) → numbersGood (first .value) (second .value) (third .value) (fourth .value) ≡ false → ReadAs good
+  missing n e =
+      not-four good n
+      (ap (λ g. both (leb (length line) (fourth .end)) (both (goodName (lineName line)) g)) e
+      ∙ rw (both-none (goodName (lineName line)), both-none (leb (length line) (fourth .end))))
+
+  counted : {xs : List ℕ} → numbersOf line ≡ xs → (length xs ≡ 4 → ⊥) → length (numbersOf line) ≡ 4 → ⊥
+  counted e n k = n (sym (ap length e) ∙ k)
+
+  gone : (f : Field) (i : ℕ) → f ≡ fieldAfter i line → length line ≤ i → f .value ≡ 65537
+  gone f i e l = ap (λ (g : Field). g .value) (e ∙ field-none line i l)
+
+  exact : numbersOf line ≡ first .value ∷ second .value ∷ third .value ∷ fourth .value ∷ [] → length line ≤ fourth .end → ReadAs good
+  unfolding lineGood
+  exact e l =
+      let whole = le-leb (length line) (fourth .end) l in
+      let read : entryOf line ≡ asRead = entry e in (
+        rw (ap length e, read, whole) refl-good,
+        λ t. read,
+      )
+    where
+      entry : numbersOf line ≡ first .value ∷ second .value ∷ third .value ∷ fourth .value ∷ [] → entryOf line ≡ asRead
+      entry e = entry-read line (first .value) (second .value) (third .value) (fourth .value) e
+
+      refl-good : goodEntry asRead ≡ good
+      refl-good = good-numbers asRead
+
+  pub fields-read : ReadAs good
+  fields-read = elim (decLt e₀ n) [
+    | yes l₀ ↦ elim (decLt (first .end) n) [
+      | yes l₁ ↦ elim (decLt (second .end) n) [
+        | yes l₂ ↦ elim (decLt (third .end) n) [
+          | yes l₃ ↦ elim (decLt (fourth .end) n) [
+            | yes l₄ ↦ (
+                let e = four l₀ l₁ l₂ l₃ in
+                not-four good (counted (e ∙ ap after-four (numbers-more line (fourth .end) l₄)) (λ k. omega arith))
+                (ap (λ b. both b good) (lt-leb n (fourth .end) l₄))
+                )
+            | no l₄ ↦ exact (four l₀ l₁ l₂ l₃ ∙ ap after-four (numbers-end line (fourth .end) (omega arith))) (omega arith)
+          ]
+          | no l₃ ↦ (
+              let e = numbers-first line ∙ numbers-more line e₀ l₀ ∙ ap (λ x. first .value ∷ x) (numbers-more line (first .end) l₁)
+              ∙ ap (λ x. first .value ∷ second .value ∷ x) (numbers-more line (second .end) l₂)
+              ∙ ap (λ x. first .value ∷ second .value ∷ third .value ∷ x) (numbers-end line (third .end) (omega arith)) in
+              let v = gone fourth (third .end) refl (omega arith) in
+              missing (counted e (λ k. omega arith)) (shape-large (first .value) (second .value) (third .value) (fourth .value) (inr (inr (omega arith))))
+              )
+        ]
+        | no l₂ ↦ (
+            let e = numbers-first line ∙ numbers-more line e₀ l₀ ∙ ap (λ x. first .value ∷ x) (numbers-more line (first .end) l₁)
+            ∙ ap (λ x. first .value ∷ second .value ∷ x) (numbers-end line (second .end) (omega arith)) in
+            let v = gone third (second .end) refl (omega arith) in
+            missing (counted e (λ k. omega arith)) (shape-large (first .value) (second .value) (third .value) (fourth .value) (inr (inl (omega arith))))
+            )
+      ]
+      | no l₁ ↦ (
+          let e = numbers-first line ∙ numbers-more line e₀ l₀ ∙ ap (λ x. first .value ∷ x) (numbers-end line (first .end) (omega arith)) in
+          let v = gone second (first .end) refl (omega arith) in
+          missing (counted e (λ k. omega arith)) (shape-large (first .value) (second .value) (third .value) (fourth .value) (inl (omega arith)))
+          )
+    ]
+    | no l₀ ↦ (
+        let e = numbers-first line ∙ numbers-end line e₀ (omega arith) in
+        let v = gone first e₀ refl (omega arith) in
+        missing (counted e (λ k. omega arith)) (rw v (revision-large (second .value) (third .value) (fourth .value)))
+        )
+  ]
+    where
+      n : ℕ
+      n = length line
+
+      e₀ : ℕ
+      e₀ = endOf 9 0 line
+
+      after-four : List ℕ → List ℕ
+      after-four x = first .value ∷ second .value ∷ third .value ∷ fourth .value ∷ x
+
+      four : e₀ < n → first .end < n → second .end < n → third .end < n → numbersOf line ≡ after-four (numbersFrom (fourth .end) line)
+      four l₀ l₁ l₂ l₃ =
+          numbers-first line ∙ numbers-more line e₀ l₀ ∙ ap (λ x. first .value ∷ x) (numbers-more line (first .end) l₁)
+          ∙ ap (λ x. first .value ∷ second .value ∷ x) (numbers-more line (second .end) l₂)
+          ∙ ap (λ x. first .value ∷ second .value ∷ third .value ∷ x) (numbers-more line (third .end) l₃)
+
+  pub name-size : length (lineName line) ≡ endOf 9 0 line
+  name-size = ap length (name-first line) ∙ sym (first-end line)
+
+  abbrev numbers : Bool
+  numbers = numbersGood (first .value) (second .value) (third .value) (fourth .value)
+
+  -- a line by the length of its name and its numbers
+  pub line-read : goodName (lineName line) ≡ true → length line ≤ fourth .end
+      → readLine line ≡ lineIf (endOf 9 0 line) (first .value) (second .value) (third .value) (fourth .value)
+  unfolding readLine lineIf
+  line-read t l = go numbers refl (fields-read .0 ∙ tests) (λ u. fields-read .1 (subst T (sym tests) u))
+    where
+      tests : both (leb (length line) (fourth .end)) good ≡ numbers
+      tests = rw (le-leb (length line) (fourth .end) l, t)
+
+      go : (b : Bool) → numbers ≡ b → lineGood line ≡ numbers → (T numbers → entryOf line ≡ asRead)
+          → cond (lineGood line) (asLine (entryOf line)) unread
+          ≡ cond numbers (record { size = endOf 9 0 line; revision = first .value; m = second .value; w = third .value; c = fourth .value }) unread
+      go true e g r = rw (g, r (subst T (sym e) tt), e, name-size)
+      go false e g r = rw (g, e)
+
+  pub line-unnamed : goodName (lineName line) ≡ false → readLine line ≡ unread
+  unfolding readLine
+  line-unnamed e =
+      let n : lineGood line ≡ false = fields-read .0 ∙ rw (e, both-none (leb (length line) (fourth .end))) in
+      rw n
+
+  pub line-longer : fourth .end < length line → readLine line ≡ unread
+  unfolding readLine
+  line-longer l =
+      let n : lineGood line ≡ false = fields-read .0 ∙ rw (lt-leb (length line) (fourth .end) l) in
+      rw n
+
+-- with the fields as they were read one after the other
+module _ (line : List ℕ) (size : ℕ) (f₁ f₂ f₃ f₄ : Field) (s : size ≡ endOf 9 0 line) (e₁ : f₁ ≡ fieldAfter size line) (e₂ : f₂ ≡ fieldAfter (f₁ .end) line)
+    (e₃ : f₃ ≡ fieldAfter (f₂ .end) line)
+    (e₄ : f₄ ≡ fieldAfter (f₃ .end) line) where
+  one : f₁ ≡ first line
+  one = e₁ ∙ ap (λ i. fieldAfter i line) s
+
+  two : f₂ ≡ second line
+  two = e₂ ∙ ap (λ (f : Field). fieldAfter (f .end) line) one
+
+  three : f₃ ≡ third line
+  three = e₃ ∙ ap (λ (f : Field). fieldAfter (f .end) line) two
+
+  four-is : f₄ ≡ fourth line
+  four-is = e₄ ∙ ap (λ (f : Field). fieldAfter (f .end) line) three
+
+  pub read-longer : f₄ .end < length line → readLine line ≡ unread
+  read-longer l = line-longer line (subst (λ (f : Field). f .end < length line) four-is l)
+
+  pub read-numbers : goodName (lineName line) ≡ true → length line ≤ f₄ .end
+      → readLine line ≡ lineIf size (f₁ .value) (f₂ .value) (f₃ .value) (f₄ .value)
+  read-numbers g l =
+      let e = line-read line g (subst (λ (f : Field). length line ≤ f .end) four-is l) in
+      rw (s, one, two, three, four-is) e

@@ -1,0 +1,15 @@
+-- What Lookup and Put give to C: the number, 0 for done, and the figures; 0 on a refusal.
+use Rattle.catalogue.specs.declared.Looked.{Looked}
+use Rattle.catalogue.specs.declared.Changed.{Changed}
+use Rattle.exports_catalogue.specs.declared.LookupAnswer.{LookupAnswer}
+use Rattle.exports_catalogue.specs.declared.ChangeAnswer.{ChangeAnswer}
+
+-- revision and shape
+abbrev pub lookupAnswer : Looked → LookupAnswer
+lookupAnswer (Looked.Found revision m w c) = record { number = 0; m = m; w = w; c = c; revision = revision }
+lookupAnswer (Looked.Refused r) = record { number = r; m = 0; w = 0; c = 0; revision = 0 }
+
+-- the new text's length and the name's revision
+abbrev pub changeAnswer : Changed → ChangeAnswer
+changeAnswer (Changed.Done size revision) = record { number = 0; revision = revision; size = size }
+changeAnswer (Changed.Refused r) = record { number = r; revision = 0; size = 0 }
