@@ -992,3 +992,115 @@ pub fn put(shape: (u64, u64, u64), name: &[u8], expected: u64, buffer: &mut [u8]
     buffer[..text.len()].copy_from_slice(&text);
     Ok((text.len(), stored + 1))
 }
+
+// ------------------------------------------------------------- block rebuild
+
+/// The number given back, and the word and the group that a 9 carries; 0 with
+/// any other.
+pub type Rebuilt = (u8, u64, u64);
+
+/// Rebuild n blocks of equal length: 0, or 1 to 6, 27, 8, 9. One elimination
+/// for all words, the sums over the present places of each word being a
+/// further column.
+pub fn rebuild(m: u64, w: u64, c: u64, length: u64, blocks: &mut [u8], marks: &mut [u8]) -> Rebuilt {
+    let n = match describe(m, w, c) {
+        Ok((n, _, _)) => n,
+        Err(number) => return (number, 0, 0),
+    };
+    if marks.len() as u64 != n {
+        return (5, 0, 0);
+    }
+    if marks.iter().any(|&mark| mark > 1) {
+        return (6, 0, 0);
+    }
+    let all = n as u128 * length as u128;
+    if length == 0 || all > 65536 || blocks.len() as u128 != all {
+        return (27, 0, 0);
+    }
+    let length = length as usize;
+    let lost = flags(marks);
+    let unknowns = lost.iter().filter(|&&x| x).count();
+    let mut matrix = Vec::new();
+    for row in equations(m, w, c) {
+        let mut line: Vec<u8> = (0..lost.len()).filter(|&p| lost[p]).map(|p| row[p]).collect();
+        let mut sums = vec![0; length];
+        for p in (0..lost.len()).filter(|&p| !lost[p] && row[p] != 0) {
+            for (sum, &byte) in sums.iter_mut().zip(&blocks[p * length..(p + 1) * length]) {
+                *sum ^= mul(row[p], byte);
+            }
+        }
+        line.extend(sums);
+        matrix.push(line);
+    }
+    let rank = reduce(&mut matrix, unknowns);
+    if rank < unknowns {
+        return (8, 0, 0);
+    }
+    let wrong = |x: &usize| matrix[rank..].iter().any(|line| line[unknowns + x] != 0);
+    if let Some(x) = (0..length).find(wrong) {
+        let word: Vec<u8> = (0..lost.len()).map(|p| blocks[p * length + x]).collect();
+        return (9, x as u64, contradicting_group(m, w, c, &word, &lost));
+    }
+    for (line, p) in matrix.iter().zip((0..lost.len()).filter(|&p| lost[p])) {
+        blocks[p * length..(p + 1) * length].copy_from_slice(&line[unknowns..]);
+    }
+    marks.fill(0);
+    (0, 0, 0)
+}
+
+/// The line up to its line feed, or to the end, and what comes after it.
+fn split_line(input: &[u8]) -> (&[u8], &[u8]) {
+    match input.iter().position(|&byte| byte == b'\n') {
+        Some(end) => (&input[..end], &input[end + 1..]),
+        None => (input, &[]),
+    }
+}
+
+/// The fields after the name of a line, or None if it has another name or is
+/// too long.
+fn fields_of<'a>(line: &'a [u8], name: &[u8]) -> Option<Vec<&'a [u8]>> {
+    let fields: Vec<&[u8]> = line.split(|&byte| byte == b'\t').collect();
+    (line.len() <= LONGEST && fields[0] == name).then(|| fields[1..].to_vec())
+}
+
+/// A length: decimal to 65,536 without sign or leading zero.
+fn long_number(field: &[u8]) -> Option<u64> {
+    let text = std::str::from_utf8(field).ok()?;
+    let value: u64 = text.parse().ok()?;
+    (value <= 65536 && value.to_string() == text).then_some(value)
+}
+
+/// The blocks, mended, or the fields of the one refused line.
+fn rebuild_input(input: &[u8]) -> Result<Vec<u8>, String> {
+    let refuse = |number: u8| number.to_string();
+    let (first, rest) = split_line(input);
+    let shape = fields_of(first, b"shape").and_then(|fields| numbers(&fields)).filter(|values| values.len() == 3).ok_or(refuse(14))?;
+    let (m, w, c) = (shape[0] as u64, shape[1] as u64, shape[2] as u64);
+    let (n, _, _) = describe(m, w, c).map_err(refuse)?;
+    let (second, rest) = split_line(rest);
+    let mut marks = fields_of(second, b"marks").and_then(|fields| numbers(&fields)).ok_or(refuse(14))?;
+    if marks.len() as u64 != n {
+        return Err(refuse(5));
+    }
+    if marks.iter().any(|&mark| mark > 1) {
+        return Err(refuse(6));
+    }
+    let (third, rest) = split_line(rest);
+    let fields = fields_of(third, b"length").filter(|fields| fields.len() == 1).ok_or(refuse(14))?;
+    let length = long_number(fields[0]).ok_or(refuse(14))?;
+    let mut blocks = rest.to_vec();
+    match rebuild(m, w, c, length, &mut blocks, &mut marks) {
+        (0, _, _) => Ok(blocks),
+        (9, word, group) => Err(format!("9\t{word}\t{group}")),
+        (number, _, _) => Err(refuse(number)),
+    }
+}
+
+/// A whole run of the program that rebuilds: what it writes, and whether that
+/// is a refused line.
+pub fn rebuild_run(input: &[u8]) -> (Vec<u8>, bool) {
+    match rebuild_input(input) {
+        Ok(blocks) => (blocks, false),
+        Err(fields) => (format!("refused\t{fields}\n").into_bytes(), true),
+    }
+}

@@ -1,20 +1,23 @@
 -- The kind of a line from its parts, and the arrays that hold its values.
 use mathlib.Core.Path.{_≡_, sym, ap, _∙_}
-use mathlib.Core.Bool.{true, false, cond, not, _&&_, _||_}
+use mathlib.Core.Bool.{Bool, true, false, cond, not, _&&_, _||_}
 use mathlib.Core.List.{List, _++_, map}
-use Prim.Native.Nat.{ℕ, zero, suc, _-_, _%_, _/_, _≤_}
+use Prim.Native.Nat.{ℕ, zero, suc, _-_, _%_, _/_, _≤_, _<_}
 use native.Mathlib.Nat.{zero-add, sub-zero, zero-sub, suc-sub-suc}
 use native.Mathlib.Omega.{arith}
-use borrow.Author.Tests.{le-leb}
+use borrow.Author.Tests.{le-leb, lt-leb}
 use lib.Dec.{eqb}
 use lib.ListN.{length, take, drop, replicate, length-map, length-replicate}
 use lib.Seq.{sets, sets-eq}
+use Rattle.text.specs.Fields.{same}
 use Rattle.text.specs.FieldLaws.{toTab, endOf, take-part, valuesFrom, values-few}
 use Rattle.text.specs.Records.{nameKind, lineName, contents, boundOf, allUnder, lineKind, lineBytes, lineMarks}
 use Rattle.text.specs.RecordLaws.{name-first, contents-later}
 use Rattle.text.specs.Padded.{padded}
 use Rattle.parse.specs.declared.Record.{Record}
 use Rattle.parse.specs.Held.{Holds}
+use Rattle.parse.specs.declared.Numbers.{Numbers}
+use Rattle.parse.specs.Numbers.{isNumbers, HoldsNumbers}
 
 first-end : (line : List ℕ) → endOf 9 0 line ≡ length (toTab line)
 unfolding endOf
@@ -67,3 +70,22 @@ module _ (line : List ℕ) (short : length line ≤ 1024) (e : ℕ) (is : e ≡ 
         bytes = b ∙ fit (λ v. v % 256);
         marks = m ∙ fit (λ v. v / 256);
       }
+
+  -- a line of one name, by the tests of its name and of its fields
+  pub numbers-read : (name : List ℕ) (named under : Bool) → named ≡ same (take e line) name → under ≡ allUnder 256 (valuesFrom e line)
+      → (named && under) ≡ isNumbers name line
+  unfolding isNumbers
+  numbers-read name named under p q = rw (p, q, at-name, at-values, le-leb (length line) 1024 short)
+
+  pub holds-numbers : (r : Numbers) → r .count ≡ length (valuesFrom e line) → r .bytes ≡ sets (replicate 1024 0) 0 (map (λ v. v % 256) (valuesFrom e line))
+      → HoldsNumbers r line
+  unfolding lineBytes
+  holds-numbers r c b = record {
+    count = c ∙ ap length at-values ∙ sym (length-map (contents line) (λ v. v % 256));
+    fits = rw c all-fit;
+    bytes = b ∙ fit (λ v. v % 256);
+  }
+
+pub numbers-long : (name line : List ℕ) → 1024 < length line → false ≡ isNumbers name line
+unfolding isNumbers
+numbers-long name line l = rw (lt-leb (length line) 1024 l)

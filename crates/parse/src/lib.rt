@@ -1,6 +1,6 @@
 // Input lines read into records.
 ghost use mathlib.Core.Path.{_≡_};
-ghost use mathlib.Core.Bool.{cond, not, _||_};
+ghost use mathlib.Core.Bool.{true, cond, not, _||_};
 ghost use mathlib.Core.List.{map};
 ghost use Prim.Native.Nat.{_<_, _≤_, _%_, _/_};
 ghost use lib.Dec.{eqb};
@@ -10,6 +10,7 @@ ghost use Rattle.text.specs.Fields.{meaning};
 ghost use Rattle.text.specs.FieldLaws.{toTab, valuesFrom};
 ghost use Rattle.text.specs.Records.{nameKind, boundOf, allUnder, lineKind};
 ghost use Rattle.parse.specs.Held.{Holds};
+ghost use Rattle.parse.specs.Numbers.{isNumbers, HoldsNumbers};
 
 pub struct Record {
     // 1 shape, 2 data, 3 word; 0 for a line that can't be read
@@ -18,6 +19,14 @@ pub struct Record {
     pub count: usize,
     pub bytes: [u8; 1024],
     pub marks: [u8; 1024],
+}
+
+// The numbers of a line of one name, or not read.
+pub struct Numbers {
+    pub read: bool,
+    // how many
+    pub count: usize,
+    pub bytes: [u8; 1024],
 }
 
 // What a field means: a number, 256 for a lost place, or 257.
@@ -139,5 +148,30 @@ pub fn parse(line: &[u8]) -> Record
         count,
         bytes,
         marks,
+    }
+}
+
+// The numbers of a line of this name, each 0 to 255. A line of another name, with another field or of more than 1,024 bytes is not read.
+pub fn read_numbers(line: &[u8], name: &[u8]) -> Numbers
+    ensures read { λ r. ⌜ r .read ≡ isNumbers (now (name .entry)) (now (line .entry)) ⌝ }
+    ensures values { λ r. ⌜ (r .read ≡ true → HoldsNumbers r (now (line .entry))) ⌝ }
+{
+    let mut bytes = [0u8; 1024];
+    let mut marks = [0u8; 1024];
+    if line.len() > 1024 {
+        return Numbers {
+            read: false,
+            count: 0,
+            bytes,
+        };
+    }
+    let e = fields::part_end(line, 0, b'\t');
+    let named = fields::is_same(&line[..e], name);
+    let under = all_under(line, e, 256);
+    let count = write_values(line, e, &mut bytes, &mut marks);
+    Numbers {
+        read: named && under,
+        count,
+        bytes,
     }
 }

@@ -1,18 +1,19 @@
 -- What numbers and a whole line leave in a buffer.
 use mathlib.Core.Path.{_≡_, refl, ap, _∙_}
-use mathlib.Core.List.{List, [], _∷_, _++_, append-assoc}
+use mathlib.Core.List.{List, [], _∷_, _++_, append-assoc, append-nil}
 use Prim.Native.Nat.{ℕ, _+_, _*_, _≤_, _<_}
 use native.Mathlib.Nat.{add-assoc}
 use native.Mathlib.Omega.{arith}
 use lib.ListN.{length, getD, take, set, length-append}
 use lib.Seq.{length-take-le}
 use Rattle.text.specs.Decimal.{digitsOf, decimal}
-use Rattle.text.specs.Lines.{cells, lineWith, lineOf}
+use Rattle.text.specs.Lines.{cellsOf, cells, lineWith, lineOf, refusedName}
 use Rattle.text.specs.ReadBackLaws.{cells-most}
-use Rattle.text.specs.DecimalLaws.{digits-enough, digits-most}
+use Rattle.text.specs.DecimalLaws.{digits-one, digits-enough, digits-most}
 use Rattle.text.specs.Written.{written, putAt, nextAt}
 use Rattle.text.specs.WrittenLaws.{written-on, written-next, length-written, put-room}
 use Rattle.print.specs.CellsLaws.{cells-next}
+use Rattle.print.specs.WordLine.{contradictoryWordLine}
 
 -- a turn of the loop over numbers
 module _ (out after last numbers : List ℕ) (at next i : ℕ) (l : i < length numbers) (h : at + 4 * length numbers ≤ length out) (b : getD numbers i 0 < 256)
@@ -86,3 +87,61 @@ module _ (out name numbers one two : List ℕ) (at end : ℕ)
         omega arith,
         rw (joined, ← append-assoc name (cells numbers) (10 ∷ [])) (written-next out 0 (name ++ cells numbers) end 10 z (omega arith)),
       )
+
+-- a text put after the texts at the start
+module _ (out after last s t : List ℕ) (next r : ℕ) (h : length s + length t ≤ length out) (n : next ≡ 0 + length s) (e : after ≡ written out 0 s)
+    (p : r ≡ nextAt after next t)
+    (q : last ≡ putAt after next t) where
+  put-room-on : (nextAt after next t ≡ next + length t) × (putAt after next t ≡ written after next t)
+  put-room-on = let same : length after ≡ length out = rw e (length-written out 0 s (omega arith)) in put-room after next t (omega arith)
+
+  put-next : r ≡ 0 + length (s ++ t)
+  put-next = p ∙ put-room-on .0 ∙ rw (n, length-append) (add-assoc 0 (length s) (length t))
+
+  put-on : last ≡ written out 0 (s ++ t)
+  put-on = q ∙ put-room-on .1 ∙ rw (e, n) (written-on out 0 s t (omega arith))
+
+-- the word refused and a 9
+abbrev nineName : List ℕ
+nineName = refusedName ++ (9 ∷ 57 ∷ [])
+
+-- a 9 with the number of a word and a group
+module _ (out one two three : List ℕ) (a b e x group : ℕ) (room : 32 ≤ length out)
+    (a-is : a ≡ nextAt out 0 nineName)
+    (one-is : one ≡ putAt out 0 nineName)
+    (b-is : b ≡ nextAt one a (9 ∷ digitsOf 9 x))
+    (two-is : two ≡ putAt one a (9 ∷ digitsOf 9 x))
+    (e-is : e ≡ nextAt two b (9 ∷ digitsOf 9 group))
+    (three-is : three ≡ putAt two b (9 ∷ digitsOf 9 group)) where
+  abbrev before : List ℕ
+  before = (nineName ++ (9 ∷ digitsOf 9 x)) ++ (9 ∷ digitsOf 9 group)
+
+  nine-parts : contradictoryWordLine x group ≡ before ++ (10 ∷ [])
+  unfolding contradictoryWordLine lineWith cellsOf
+  nine-parts = rw (digits-one 9 9 (omega arith)) (simp (append-assoc, append-nil))
+
+  nine-held : (e ≡ 0 + length before) × (three ≡ written out 0 before) × (length before ≤ 31)
+  nine-held =
+      let first = put-room out 0 nineName (omega arith) in
+      let s = digits-most 9 x in
+      let t = digits-most 9 group in
+      let m = length-append nineName (9 ∷ digitsOf 9 x) in
+      let k = length-append (nineName ++ (9 ∷ digitsOf 9 x)) (9 ∷ digitsOf 9 group) in
+      let u = put-next out one two nineName (9 ∷ digitsOf 9 x) a b (omega arith) (a-is ∙ first .0) (one-is ∙ first .1) b-is two-is in
+      let v = put-on out one two nineName (9 ∷ digitsOf 9 x) a b (omega arith) (a-is ∙ first .0) (one-is ∙ first .1) b-is two-is in (
+        put-next out two three (nineName ++ (9 ∷ digitsOf 9 x)) (9 ∷ digitsOf 9 group) b e (omega arith) u v e-is three-is,
+        put-on out two three (nineName ++ (9 ∷ digitsOf 9 x)) (9 ∷ digitsOf 9 group) b e (omega arith) u v e-is three-is,
+        omega arith,
+      )
+
+  pub nine-feed : (e < length three) × (length three ≡ length out)
+  nine-feed =
+      let h = nine-held in
+      let l : length three ≡ length out = ap length (h .1) ∙ length-written out 0 before (omega arith) in
+      (omega arith, l)
+
+  pub nine-done : (e + 1 ≡ length (contradictoryWordLine x group)) × (e + 1 ≤ length out) × (set three e 10 ≡ written out 0 (contradictoryWordLine x group))
+  nine-done =
+      let h = nine-held in
+      let l = length-append before (10 ∷ []) in
+      rw nine-parts (omega arith, omega arith, rw (h .1) (written-next out 0 before e 10 (h .0) (omega arith)))

@@ -1,2 +1,3 @@
 pub mod CellsLaws
 pub mod Holds
+pub mod WordLine

@@ -6,6 +6,7 @@ ghost use lib.ListN.{length};
 ghost use Rattle.text.specs.Lines.{cells, lineOf, okLine, refusedLine, contradictoryLine, wordLine};
 ghost use Rattle.text.specs.Written.{written};
 ghost use Rattle.print.specs.Holds.{Holds};
+ghost use Rattle.print.specs.WordLine.{contradictoryWordLine};
 
 // An output line with its line feed, at the start of a row of bytes with zeros after it.
 pub struct Line {
@@ -63,6 +64,33 @@ pub fn contradictory(group: u8) -> Line
     ensures { λ made. ⌜ Holds made (contradictoryLine group) ⌝ }
 {
     line_of(b"refused", &[9, group])
+}
+
+// Writes a 9 with the number of a word and a group at the start of a buffer, and gives its length.
+fn put_nine(out: &mut [u8], word: u32, group: u8) -> usize
+    requires { ⌜ 32 ≤ length (now out) ⌝ }
+    ensures size { λ r. ⌜ r ≡ length (contradictoryWordLine word group) ⌝ }
+    ensures most { λ r. ⌜ r ≤ length (now (out .entry)) ⌝ }
+    ensures out { λ _. ⌜ now (out .exit) ≡ written (now (out .entry)) 0 (contradictoryWordLine word group) ⌝ }
+{
+    let a = cells::put_text(out, 0, b"refused\t9");
+    let b = cells::put_number(out, a, word);
+    let e = cells::put_number(out, b, group as u32);
+    out[e] = b'\n';
+    e + 1
+}
+
+// The refusal 9, the number of a word and the group that contradicts. A number of more than 32 bits, which no word has, gives the empty line.
+pub fn contradictory_word(word: usize, group: u8) -> Line
+    ensures whole { λ made. ⌜ (word < 4294967296 → Holds made (contradictoryWordLine word group)) ⌝ }
+    ensures none { λ made. ⌜ (4294967296 ≤ word → Holds made []) ⌝ }
+{
+    let mut bytes = [0u8; 1024];
+    if 4294967295 < word {
+        return Line { bytes, length: 0 };
+    }
+    let length = put_nine(&mut bytes, word as u32, group);
+    Line { bytes, length }
 }
 
 // The answer to a shape: n and k.

@@ -1,8 +1,8 @@
 use mathlib.Core.Path.{_≡_}
 use lib.ListN.{length}
 use native.Mathlib.Omega.{arith}
-use Rattle.axlebloom.proofs.read_some.Statement.{statement}
-use Rattle.axlebloom.proofs.read_some.Tie as tie
+use Rattle.standard_io.proofs.read_some.Statement.{statement}
+use Rattle.standard_io.proofs.read_some.Tie as tie
 
 abbrev Inv-loop : tie.InvT-loop
 Inv-loop buffer₀ turns₀ got₀ buffer turns got = length buffer ≡ length buffer₀

@@ -1,12 +1,12 @@
 use native.Mathlib.Omega.{arith}
-use Rattle.axlebloom.proofs.write_some.Statement.{statement}
-use Rattle.axlebloom.proofs.write_some.Tie as tie
+use Rattle.standard_io.proofs.write_some.Statement.{statement}
+use Rattle.standard_io.proofs.write_some.Tie as tie
 
 abbrev Inv-loop : tie.InvT-loop
-Inv-loop bytes turns₀ got₀ turns got = Unit {0}
+Inv-loop file bytes turns₀ got₀ turns got = Unit {0}
 
 abbrev μ-loop : tie.MeasureT-loop
-μ-loop bytes turns₀ got₀ turns got = turns
+μ-loop file bytes turns₀ got₀ turns got = turns
 
 write-requires : tie.Need-write-requires Inv-loop μ-loop
 write-requires c κs = tt

@@ -1,8 +1,8 @@
 use Prim.Native.Nat.{_-_, _≤_}
 use lib.ListN.{length}
 use borrow.Author.Needs.{needs}
-use Rattle.axlebloom.proofs.write_out.Statement.{statement}
-use Rattle.axlebloom.proofs.write_out.Tie as tie
+use Rattle.standard_io.proofs.write_out.Statement.{statement}
+use Rattle.standard_io.proofs.write_out.Tie as tie
 
 abbrev Inv-loop : tie.InvT-loop
 Inv-loop bytes done₀ t5 done = done ≤ length bytes

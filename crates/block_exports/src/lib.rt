@@ -1,0 +1,52 @@
+// Block rebuild as C calls it: a library of its own beside the base.
+use blocks::Rebuilt;
+ghost use mathlib.Core.Path.{_≡_};
+ghost use Rattle.blocks.specs.Rebuild.{rebuildOf};
+ghost use Rattle.block_exports.specs.Answer.{outcomeAnswer, rebuiltAnswer};
+
+// What a rebuild gives to C: the number, 0 for done, and the word and the group that a 9 carries; 0 with any other number.
+#[repr(C)]
+pub struct RebuildAnswer {
+    pub word: usize,
+    pub number: u8,
+    pub group: u8,
+}
+
+// The number of an answer, with the word and the group of a 9.
+fn answer_of(rebuilt: Rebuilt) -> RebuildAnswer
+    ensures { λ r. ⌜ r ≡ rebuiltAnswer rebuilt ⌝ }
+{
+    match rebuilt {
+        Rebuilt::Done => RebuildAnswer {
+            word: 0,
+            number: 0,
+            group: 0,
+        },
+        Rebuilt::Contradictory { word, group } => RebuildAnswer {
+            word,
+            number: 9,
+            group,
+        },
+        Rebuilt::Refused(r) => RebuildAnswer {
+            word: 0,
+            number: r,
+            group: 0,
+        },
+    }
+}
+
+#[no_mangle]
+pub extern "C" fn axlebloom_rebuild(
+    m: usize,
+    w: usize,
+    c: usize,
+    length: usize,
+    blocks: &mut [u8],
+    marks: &mut [u8],
+) -> RebuildAnswer
+    ensures answer { λ r. ⌜ r ≡ outcomeAnswer (rebuildOf m w c length (now (blocks .entry)) (now (marks .entry))) ⌝ }
+    ensures blocks { λ _. ⌜ now (blocks .exit) ≡ (rebuildOf m w c length (now (blocks .entry)) (now (marks .entry))) .blocks ⌝ }
+    ensures marks { λ _. ⌜ now (marks .exit) ≡ (rebuildOf m w c length (now (blocks .entry)) (now (marks .entry))) .marks ⌝ }
+{
+    answer_of(blocks::rebuild(m, w, c, length, blocks, marks))
+}

@@ -1,0 +1,9 @@
+pub mod Lines
+pub mod LinesLaws
+pub mod Length
+pub mod LengthLaws
+pub mod Head
+pub mod Parts
+pub mod HeadLaws
+pub mod Output
+pub mod OutputLaws

@@ -1,0 +1,5 @@
+pub mod Meaning
+pub mod CasesLaws
+pub mod MeaningLaws
+pub mod OneWordLaws
+pub mod BatchLaws

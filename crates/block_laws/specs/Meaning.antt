@@ -1,0 +1,63 @@
+-- What block rebuild means, in the words of Recover. It is stated of rebuildOf, with which the contract of blocks::rebuild is an equation.
+use mathlib.Core.Path.{_≡_}
+use mathlib.Core.Logic.{_↔_}
+use mathlib.Core.List.{List}
+use Prim.Native.Nat.{ℕ, _*_, _<_}
+use lib.ListN.{length, getD, replicate}
+use Rattle.shape.specs.Shapes.{Good, placeCount, dataCount}
+use Rattle.places.specs.Places.{placedOf, checkMarks}
+use Rattle.judge.specs.Answer.{judgedNumberOf}
+use Rattle.code.specs.Answer.{Outcome}
+use Rattle.encode.specs.Service.{encodedWord}
+use Rattle.blocks.specs.Columns.{blockWord}
+use Rattle.blocks.specs.Rebuild.{RebuildOutcome, wordOutcome, rebuildOf}
+
+module _ (m w c size : ℕ) (blocks marks : List ℕ) where
+  -- what Recover answers for word x
+  abbrev pub numberAt : ℕ → ℕ
+  numberAt x = (wordOutcome m w c size blocks marks x) .number
+
+  -- the answer, and blocks and marks at the end of the call
+  abbrev pub end : RebuildOutcome
+  end = rebuildOf m w c size blocks marks
+
+  -- x is the lowest word that gets 9, the words below it can be recovered, and g is "request 4's group for it"
+  pub record Lowest (x g : ℕ) : Type 0 where
+    pub inside : x < size
+    pub nine : numberAt x ≡ 9
+    pub group : g ≡ (wordOutcome m w c size blocks marks x) .group
+    pub below : (y : ℕ) → y < x → numberAt y ≡ 0
+
+  -- of a call that is not refused 1 to 6 or 27
+  pub record Rebuilds : Type 0 where
+    -- 8 exactly if Judge says 8
+    pub eight : (end .number ≡ 8) ↔ (judgedNumberOf m w c marks ≡ 8)
+    -- else 9 exactly if some word gets 9; "the answer on contradiction carries the lowest such x and request 4's group for it"
+    pub nine : end .number ≡ 9 → Lowest (end .word) (end .group)
+    pub nine-of : judgedNumberOf m w c marks ≡ 0 → (x : ℕ) → x < size → numberAt x ≡ 9 → end .number ≡ 9
+    -- else done: Recover mends every word, each by itself, and each stands in the blocks as Recover leaves it
+    pub done-of : judgedNumberOf m w c marks ≡ 0 → ((x : ℕ) → x < size → numberAt x ≡ 0) → end .number ≡ 0
+    pub each : end .number ≡ 0 → (x : ℕ) → x < size → (numberAt x ≡ 0)
+        × (blockWord (placeCount m w) size (end .blocks) x ≡ (wordOutcome m w c size blocks marks x) .word)
+    pub long : length (end .blocks) ≡ length blocks
+    pub clear : end .number ≡ 0 → end .marks ≡ replicate (length marks) 0
+    -- "or changes nothing"
+    pub kept : ¬ (end .number ≡ 0) → (end .blocks ≡ blocks) × (end .marks ≡ marks)
+
+-- blocks of length 1 are one word, and a rebuild of them is its recovery
+abbrev pub asRebuild : Outcome → RebuildOutcome
+asRebuild o = record { number = o .number; word = 0; group = o .group; blocks = o .word; marks = o .marks }
+
+-- data in the data places of every word: "encoding a batch is a rebuild with the check places marked"
+pub record Batch (m w c size : ℕ) (blocks : List ℕ) (carried : ℕ → List ℕ) : Type 0 where
+  pub good : Good m w c
+  pub some : 0 < size
+  pub long : length blocks ≡ placeCount m w * size
+  pub sizes : (x : ℕ) → x < size → length (carried x) ≡ dataCount m w c
+  pub small : (x i : ℕ) → x < size → getD (carried x) i 0 < 256
+  pub placed : (x : ℕ) → x < size → blockWord (placeCount m w) size blocks x ≡ placedOf m w c (carried x)
+
+-- it is done, and every word is the one that Encode gives for its data
+pub record BatchEncoded (m w c size : ℕ) (blocks : List ℕ) (carried : ℕ → List ℕ) : Type 0 where
+  pub done : (rebuildOf m w c size blocks (checkMarks m w c)) .number ≡ 0
+  pub each : (x : ℕ) → x < size → blockWord (placeCount m w) size ((rebuildOf m w c size blocks (checkMarks m w c)) .blocks) x ≡ encodedWord m w c (carried x)

@@ -1,0 +1,1 @@
+// What block rebuild means: its laws are in specs/.

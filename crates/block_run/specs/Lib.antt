@@ -1,0 +1,4 @@
+pub mod Run
+pub mod LineLaws
+pub mod ChainLaws
+pub mod RunLaws

@@ -1,0 +1,1 @@
+// A whole run of the program rebuild: its laws are in specs/.

@@ -1,0 +1,5 @@
+pub mod Columns
+pub mod ColumnsLaws
+pub mod Rebuild
+pub mod Steps
+pub mod RebuildLaws
