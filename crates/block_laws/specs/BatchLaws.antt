@@ -5,7 +5,7 @@ use Prim.Native.Nat.{ℕ, _*_, _<_, _≤_}
 use native.Mathlib.Omega.{arith}
 use native.Mathlib.Decide.{decLe}
 use lib.ListN.{length}
-use Rattle.shape.specs.Shapes.{placeCount}
+use Rattle.shape.specs.Shapes.{byteLimits, placeCount}
 use Rattle.places.specs.Places.{placedOf, checkMarks}
 use Rattle.places.specs.Laws.{marks-length, marks-small, placed-length, placed-below}
 use Rattle.marks.specs.Refusal.{marksRefusal}
@@ -46,7 +46,7 @@ module _ (m w c size : ℕ) (blocks : List ℕ) (carried : ℕ → List ℕ) (B 
 
   -- so Judge doesn't refuse the marks
   judged : judgedNumberOf m w c marks ≡ 0
-  judged = zero-excess m w c marks marked .1 few
+  judged = zero-excess byteLimits m w c marks marked .1 few
     where
       few : excess m w c marks ≤ 2
       few = elim (decLe (excess m w c marks) 2) [
@@ -54,7 +54,7 @@ module _ (m w c size : ℕ) (blocks : List ℕ) (carried : ℕ → List ℕ) (B 
         | no h ↦
             (let M = good-of-marks m w c marks marked in
             let A = accepted m w c word marks 0 (sym (good-start m w c word marks M (placed-length m w c (carried 0)))) refl in
-            let e = eight-exactly m w c word marks A (placed-below m w c 256 (omega arith) (carried 0) (λ i. B .small 0 i (B .some))) .1 (omega arith) in
+            let e = eight-exactly bytes-sound m w c word marks A (placed-below m w c 256 (omega arith) (carried 0) (λ i. B .small 0 i (B .some))) .1 (omega arith) in
             let z = checks-recovered bytes-sound (B .good) (carried 0) (B .sizes 0 (B .some)) (λ i. B .small 0 i (B .some)) in
             absurd (let v : _≡_ {A = ℕ} 8 0 = sym e ∙ z in omega arith))
       ]

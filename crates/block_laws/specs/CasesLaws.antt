@@ -11,11 +11,12 @@ use lib.Dec.{eqb, ltb}
 use lib.ListN.{length, getD, List·getD-eq-default}
 use Rattle.counting.specs.First.{firstBelow}
 use Rattle.counting.specs.FirstLaws.{first-holds, first-before}
-use Rattle.shape.specs.Shapes.{placeCount}
+use Rattle.shape.specs.Shapes.{byteLimits, placeCount}
 use Rattle.shape.specs.RefusalsLaws.{orElse-zero}
 use Rattle.marks.specs.Refusal.{marksRefusal}
 use Rattle.marks.specs.RefusalLaws.{good-of-marks}
 use Rattle.byte_edition.specs.Edition.{bytes}
+use Rattle.byte_edition.specs.EditionLaws.{bytes-sound}
 use Rattle.code.specs.Word.{isCodeword}
 use Rattle.code.specs.Marks.{excess}
 use Rattle.code.specs.Answer.{refused, contradictory, written}
@@ -73,8 +74,8 @@ module _ (m w c size : ℕ) (blocks marks : List ℕ) where
 -- Judge gives 0 or 8 where shape and marks are good
 pub judged-two : (m w c : ℕ) (marks : List ℕ) → marksRefusal m w c marks ≡ 0 → (judgedNumberOf m w c marks ≡ 0) ⊎ (judgedNumberOf m w c marks ≡ 8)
 judged-two m w c marks q = elim (decLe (excess m w c marks) 2) [
-  | yes h ↦ inl (zero-excess m w c marks q .1 h)
-  | no h ↦ inr (eight-excess m w c marks q .1 (omega arith))
+  | yes h ↦ inl (zero-excess byteLimits m w c marks q .1 h)
+  | no h ↦ inr (eight-excess byteLimits m w c marks q .1 (omega arith))
 ]
 
 -- ---- one word of a call that is not refused
@@ -102,8 +103,8 @@ module _ (m w c : ℕ) (word marks : List ℕ) (A : Accepted m w c word marks) w
       → ((recoverOf m w c word marks) .number ≡ 9 → ⊥) → (recoverOf m w c word marks) .number ≡ 0
   recovers-zero small z q n = elim recovers [
     | eight e ↦
-        (let h = eight-exactly m w c word marks A small .0 (ap (λ o. o .number) e) in
-        let k = zero-excess m w c marks q .0 z in absurd (omega arith))
+        (let h = eight-exactly bytes-sound m w c word marks A small .0 (ap (λ o. o .number) e) in
+        let k = zero-excess byteLimits m w c marks q .0 z in absurd (omega arith))
     | nine g e ↦ absurd (n (ap (λ o. o .number) e))
     | done x _ e ↦ ap (λ o. o .number) e
   ]

@@ -10,12 +10,14 @@ use borrow.Author.Tests.{eq-eqb}
 use lib.ListN.{length, getD}
 use Rattle.shape.specs.Refusals.{_orElse_}
 use Rattle.shape.specs.RefusalsLaws.{orElse-first}
-use Rattle.shape.specs.Shapes.{placeCount, shapeRefusal, wordRefusalIn}
+use Rattle.shape.specs.Shapes.{byteLimits, placeCount, shapeRefusal, wordRefusalIn}
 use Rattle.shape.specs.Laws.{places-most}
 use Rattle.marks.specs.Refusal.{marksRefusal, marksRefusalIn}
 use Rattle.marks.specs.RefusalLaws.{good-of-marks}
 use Rattle.code.specs.Answer.{Outcome, refused}
 use Rattle.judge.specs.Answer.{judgedNumberOf}
+use Rattle.byte_edition.specs.Edition.{bytes}
+use Rattle.byte_edition.specs.EditionLaws.{bytes-sound}
 use Rattle.judge.specs.Laws.{eight-excess}
 use Rattle.recover.specs.Service.{recoverRefusal, recoverRefusalIn, recoverOf}
 use Rattle.recover.specs.Attempt.{Accepted}
@@ -61,7 +63,7 @@ module _ (m w c : ℕ) (blocks marks : List ℕ) (long : length blocks ≡ place
     refused-by-judge r e n =
         let j : r ≡ judgedNumberOf m w c marks = e ∙ rw (marked, fits) in
         let h : r ≡ 8 = eight-of r j n in
-        service-eight m w c blocks marks accepts small (eight-excess m w c marks marked .0 (sym j ∙ h)) ∙ ap (λ k. refused k blocks marks) (sym h)
+        service-eight bytes-sound m w c blocks marks accepts small (eight-excess byteLimits m w c marks marked .0 (sym j ∙ h)) ∙ ap (λ k. refused k blocks marks) (sym h)
       where
         eight-of : (r : ℕ) → r ≡ judgedNumberOf m w c marks → (r ≡ 0 → ⊥) → r ≡ 8
         eight-of r j n = ⊎-elim (λ z. absurd (n (j ∙ z))) (λ z. j ∙ z) (judged-two m w c marks marked)
@@ -71,7 +73,7 @@ module _ (m w c : ℕ) (blocks marks : List ℕ) (long : length blocks ≡ place
   refused-alike r e n = elim (ℕ-discrete (marksRefusal m w c marks) 0) [
     | yes z ↦ refused-by-judge z r e n
     | no k ↦
-        service-refused m w c blocks marks r
+        service-refused bytes m w c blocks marks r
         (e ∙ orElse-first (marksRefusal m w c marks) _ k ∙ sym (same-refusal m w c blocks marks long)) n
   ]
 

@@ -6,7 +6,7 @@ use Prim.Native.Nat.{ℕ, zero, suc, _+_, _-_, _*_, _/_, _%_, _^_, _≤_, _<_}
 use native.Mathlib.Nat.{suc-mul, mul-le-mul-right, div-lt-iff-lt-mul, div-add-mod', mod-lt}
 use native.Mathlib.Decide.{ℕ-discrete, decLt}
 use native.Mathlib.Omega.{arith}
-use lib.Dec.{eqb, lit<, lit≤}
+use lib.Dec.{eqb, lit≤}
 use lib.ListN.{length, getD, take, drop, set, replicate, length-set, length-replicate, getD-replicate}
 use lib.Seq.{getD-set-same, getD-set-other, getD-take, take-at, length-take-le, ext-getD}
 use Rattle.binary_field.specs.Xor.{_⊕_}
@@ -14,7 +14,7 @@ use Rattle.binary_field.specs.XorLaws.{⊕-zero-r}
 use Rattle.binary_field.specs.Product.{product}
 use Rattle.binary_field.specs.ProductLaws.{product-zero}
 use Rattle.binary_field.specs.SumLaws.{sum-ext}
-use Rattle.code.specs.Edition.{Edition, times}
+use Rattle.code.specs.Edition.{Edition, Sound, times}
 use Rattle.byte_edition.specs.Edition.{bytes}
 use Rattle.code.specs.Word.{groupSum, localSum, coefficient, twisted}
 use Rattle.code.specs.Marks.{lost, lostIn}
@@ -23,17 +23,17 @@ use Rattle.code.specs.StretchLaws.{stretch-at, stretch-length, with-length, wit
 use Rattle.code.specs.Combined.{combined}
 use Rattle.code.specs.Lone.{lone}
 use Rattle.code.specs.LoneLaws.{lone-inside, lone-before, lone-after, lone-word}
-use Rattle.shape.specs.Shapes.{Good}
-use Rattle.fill.specs.Filled.{Filled}
+use Rattle.shape.specs.Shapes.{Limits, GoodIn}
+use Rattle.fill.specs.Filled.{FilledIn}
 use Rattle.erasures.specs.Whole.{KeptAll}
 use Rattle.erasures.specs.Places.{FreePlaces, freeAt}
 use Rattle.solve.specs.Elimination.{entry, eliminated}
 use Rattle.solve.specs.Solution.{OnlySolution}
-use Rattle.solve.specs.BytesLaws.{solution}
+use Rattle.solve.specs.SolutionLaws.{solution}
 use Rattle.syndrome.specs.Across.{groupSums, acrossOf}
 use Rattle.syndrome.specs.declared.Sums.{Sums}
-use Rattle.candidate.specs.Steps.{GroupsFilled, Direction, Added}
-use Rattle.candidate.specs.Solved.{twoRow, twoRows, pairAt, Solved}
+use Rattle.candidate.specs.Steps.{GroupsFilledIn, DirectionIn, AddedIn}
+use Rattle.candidate.specs.Solved.{twoRow, twoRows, pairAt, SolvedIn, Solved}
 use Rattle.candidate.specs.SolvedLaws.{combined-length, combined-one}
 use Rattle.candidate.specs.Mended.{KeptFew}
 
@@ -55,8 +55,8 @@ unfolding groupSum
 group-ext E w g i xs ys h same = sum-ext w _ _ (λ j l. ap (λ a. times E a (h j)) (same j l))
 
 -- ---- the group g filled, after those before it
-module _ (m w c g : ℕ) (good : Good m w c) (kept before xs part : List ℕ) (l : g < m) (size-xs : length xs ≡ m * w) (size-kept : length kept ≡ m * w)
-    (few : lostIn w kept g ≤ c) (F : Filled (stretch w g kept) (stretch w g xs) part) (G : GroupsFilled g w kept before xs) where
+module _ {E : Edition} (m w c g : ℕ) (narrow : w ≤ E .small) (few-checks : c ≤ 4) (kept before xs part : List ℕ) (l : g < m) (size-xs : length xs ≡ m * w) (size-kept : length kept ≡ m * w)
+    (few : lostIn w kept g ≤ c) (F : FilledIn E (stretch w g kept) (stretch w g xs) part) (G : GroupsFilledIn E g w kept before xs) where
   fits : (ys : List ℕ) → length ys ≡ m * w → suc g * w ≤ length ys
   fits ys e = subst (λ n. suc g * w ≤ n) (sym e) (mul-le-mul-right w l)
 
@@ -69,13 +69,11 @@ module _ (m w c g : ℕ) (good : Good m w c) (kept before xs part : List ℕ) (l
   part-size : length part ≡ w
   part-size = F .size ∙ width
 
-  own-zero : (e : ℕ) → e < lostIn w kept g → localSum bytes w part 0 e ≡ 0
+  own-zero : (e : ℕ) → e < lostIn w kept g → localSum E w part 0 e ≡ 0
   own-zero e h =
-      let n = good .narrow in
-      let f = good .few-checks in
       let k = stretch-count w g kept in
-      subst (λ v. v ≤ 16 → length (stretch w g kept) ≡ v → lostIn v (stretch w g kept) 0 ≤ 4 → (e : ℕ) → e < lostIn v (stretch w g kept) 0 → localSum bytes v part 0 e ≡ 0)
-      width (F .zero) n (stretch-length w g kept (fits kept size-kept)) (omega arith) e (omega arith)
+      subst (λ v. v ≤ E .small → length (stretch w g kept) ≡ v → lostIn v (stretch w g kept) 0 ≤ 4 → (e : ℕ) → e < lostIn v (stretch w g kept) 0 → localSum E v part 0 e ≡ 0)
+      width (F .zero) narrow (stretch-length w g kept (fits kept size-kept)) (omega arith) e (omega arith)
 
   in-stretch : (j : ℕ) → j < w → lost kept (g * w + j) ≡ false → getD (withStretch w g xs part) (g * w + j) 0 ≡ getD before (g * w + j) 0
   in-stretch j h e =
@@ -96,31 +94,31 @@ module _ (m w c g : ℕ) (good : Good m w c) (kept before xs part : List ℕ) (l
         ]
   ]
 
-  sums : (i : ℕ) → i < g + 1 → (e : ℕ) → e < lostIn w kept i → localSum bytes w (withStretch w g xs part) i e ≡ 0
+  sums : (i : ℕ) → i < g + 1 → (e : ℕ) → e < lostIn w kept i → localSum E w (withStretch w g xs part) i e ≡ 0
   sums i b e h = elim (ℕ-discrete i g) [
     | yes q ↦
-        subst (λ n. e < lostIn w kept n → localSum bytes w (withStretch w g xs part) n e ≡ 0) (sym q)
-        (λ k. group-ext bytes w g 0 _ part _ (λ j d. with-inside w g xs room part part-size j d ∙ ap (λ n. getD part n 0) (sym (own-place w j))) ∙ own-zero e k) h
+        subst (λ n. e < lostIn w kept n → localSum E w (withStretch w g xs part) n e ≡ 0) (sym q)
+        (λ k. group-ext E w g 0 _ part _ (λ j d. with-inside w g xs room part part-size j d ∙ ap (λ n. getD part n 0) (sym (own-place w j))) ∙ own-zero e k) h
     | no q ↦
-        group-ext bytes w i i _ xs _
+        group-ext E w i i _ xs _
         (λ j d. with-before w g xs room part part-size (i * w + j)
         (let r : suc i * w ≤ g * w = mul-le-mul-right w (omega arith) in let s = suc-mul i w in omega arith)) ∙ G .zero i (omega arith) e h
   ]
 
-  pub group-filled : GroupsFilled (g + 1) w kept before (withStretch w g xs part)
+  pub group-filled : GroupsFilledIn E (g + 1) w kept before (withStretch w g xs part)
   group-filled = record { size = with-length w g xs room part part-size ∙ G .size; present = present; zero = sums }
 
 -- ---- a front of zeros with 1 at place j, filled
-pub direction-filled : (n j : ℕ) (kept part rest : List ℕ) → length kept ≤ n → length kept ≤ 16 → j < length kept → lost kept j ≡ false
-    → lostIn (length kept) kept 0 ≤ 4 → Filled kept (take (length kept) (set (replicate n 0) j 1)) part
-    → Direction (length kept) j kept (take (length kept) (part ++ rest))
-direction-filled n j kept part rest fits narrow inside own few F =
-    subst (Direction w j kept) (sym (take-at part rest w size)) record {
+pub direction-filled : {E : Edition} (n j : ℕ) (kept part rest : List ℕ) → length kept ≤ n → length kept ≤ E .small → j < length kept → lost kept j ≡ false
+    → lostIn (length kept) kept 0 ≤ 4 → FilledIn E kept (take (length kept) (set (replicate n 0) j 1)) part
+    → DirectionIn E (length kept) j kept (take (length kept) (part ++ rest))
+direction-filled {E} n j kept part rest fits narrow inside own few F =
+    subst (DirectionIn E w j kept) (sym (take-at part rest w size)) record {
       size = size;
       own = F .present j own ∙ getD-take w h j 0 inside ∙ getD-set-same (replicate n 0) j 1 0 (subst (λ k. j < k) (sym (length-replicate n 0)) (omega arith));
       off = λ i l e d.
           F .present i e ∙ getD-take w h i 0 l ∙ getD-set-other (replicate n 0) j i 1 0 d ∙ getD-replicate n i 0 0 (omega arith);
-      zero = subst (λ v. v ≤ 16 → w ≡ v → lostIn v kept 0 ≤ 4 → (e : ℕ) → e < lostIn v kept 0 → localSum bytes v part 0 e ≡ 0) width (F .zero) narrow refl few;
+      zero = subst (λ v. v ≤ E .small → w ≡ v → lostIn v kept 0 ≤ 4 → (e : ℕ) → e < lostIn v kept 0 → localSum E v part 0 e ≡ 0) width (F .zero) narrow refl few;
     }
   where
     w : ℕ
@@ -136,18 +134,18 @@ direction-filled n j kept part rest fits narrow inside own few F =
     size = F .size ∙ width
 
 -- ---- two unknowns
-row-lt : {a b s : ℕ} → a < 256 → b < 256 → s < 256 → (i : ℕ) → getD (twoRow a b s) i 0 < 256
+row-lt : {n a b s : ℕ} → a < n → b < n → s < n → (i : ℕ) → getD (twoRow a b s) i 0 < n
 row-lt ha hb hs zero = ha
 row-lt ha hb hs (suc zero) = hb
-row-lt ha hb hs (suc (suc zero)) = lit< tt
-row-lt ha hb hs (suc (suc (suc zero))) = lit< tt
+row-lt ha hb hs (suc (suc zero)) = omega arith
+row-lt ha hb hs (suc (suc (suc zero))) = omega arith
 row-lt ha hb hs (suc (suc (suc (suc zero)))) = hs
-row-lt ha hb hs (suc (suc (suc (suc (suc i))))) = zeros-lt 11 i
+row-lt {n} ha hb hs (suc (suc (suc (suc (suc i))))) = zeros-lt 11 i
   where
-    zeros-lt : (n i : ℕ) → getD (replicate n 0) i 0 < 256
-    zeros-lt zero i = lit< tt
-    zeros-lt (suc n) zero = lit< tt
-    zeros-lt (suc n) (suc i) = zeros-lt n i
+    zeros-lt : (k i : ℕ) → getD (replicate k 0) i 0 < n
+    zeros-lt zero i = omega arith
+    zeros-lt (suc k) zero = omega arith
+    zeros-lt (suc k) (suc i) = zeros-lt k i
 
 -- a solution is known by its values below t
 solution-ext : {k m : ℕ} {M : List (List ℕ)} {t r : ℕ} {x : ℕ → ℕ} (y : ℕ → ℕ) → ((i : ℕ) → i < t → x i ≡ y i) → OnlySolution k m M t r x → OnlySolution k m M t r y
@@ -157,29 +155,29 @@ solution-ext {k} {m} {M} {t} y same S = record {
   only = λ z small solves i l. S .only z small solves i l ∙ same i l;
 }
 
-pub two-solved : {a₁ a₂ b₁ b₂ s t : ℕ} {R : List (List ℕ)} → a₁ < 256 → a₂ < 256 → b₁ < 256 → b₂ < 256 → s < 256 → t < 256
-    → R ≡ eliminated 8 285 (twoRows a₁ a₂ b₁ b₂ s t) 2 → Solved a₁ a₂ b₁ b₂ s t (entry R 0 4) (entry R 1 4)
-two-solved {a₁} {a₂} {b₁} {b₂} {s} {t} {R} ha₁ ha₂ hb₁ hb₂ hs ht e trivial =
-    solution-ext (pairAt (entry R 0 4) (entry R 1 4)) same (solution M 2 (record { long = lit≤ tt; small = small }) trivial 4)
+pub two-solved : {E : Edition} (S : Sound E) {a₁ a₂ b₁ b₂ s t : ℕ} {R : List (List ℕ)} → a₁ < 2 ^ E .bits → a₂ < 2 ^ E .bits → b₁ < 2 ^ E .bits → b₂ < 2 ^ E .bits → s < 2 ^ E .bits → t < 2 ^ E .bits
+    → R ≡ eliminated (E .bits) (E .poly) (twoRows a₁ a₂ b₁ b₂ s t) 2 → SolvedIn E a₁ a₂ b₁ b₂ s t (entry R 0 4) (entry R 1 4)
+two-solved {E} S {a₁} {a₂} {b₁} {b₂} {s} {t} {R} ha₁ ha₂ hb₁ hb₂ hs ht e trivial =
+    solution-ext (pairAt (entry R 0 4) (entry R 1 4)) same (solution (E .bits) (E .poly) (S .facts .pos) (S .facts .values) (S .facts .tested) M 2 (record { long = lit≤ tt; small = small }) trivial 4)
   where
     M : List (List ℕ)
     M = twoRows a₁ a₂ b₁ b₂ s t
 
-    small : (i : ℕ) → i < 2 → (j : ℕ) → entry M i j < 256
+    small : (i : ℕ) → i < 2 → (j : ℕ) → entry M i j < 2 ^ E .bits
     small zero l = row-lt ha₁ ha₂ hs
     small (suc zero) l = row-lt hb₁ hb₂ ht
     small (suc (suc i)) l = absurd (omega arith)
 
-    same : (i : ℕ) → i < 2 → entry (eliminated 8 285 M 2) i 4 ≡ pairAt (entry R 0 4) (entry R 1 4) i
+    same : (i : ℕ) → i < 2 → entry (eliminated (E .bits) (E .poly) M 2) i 4 ≡ pairAt (entry R 0 4) (entry R 1 4) i
     same zero l = ap (λ Q. entry Q 0 4) (sym e)
     same (suc zero) l = ap (λ Q. entry Q 1 4) (sym e)
     same (suc (suc i)) l = absurd (omega arith)
 
 -- ---- a multiple of a direction added to its group
-pub added-combined : (m w g u : ℕ) (h word part : List ℕ) → g < m → length word ≡ m * w → length h ≡ w → Added u h (stretch w g word) part
-    → withStretch w g word part ≡ combined bytes (m * w) word 1 (λ _. u) (λ _. lone m w g h)
-added-combined m w g u h word part l size long A =
-    ext-getD 0 _ _ (length-after ∙ size ∙ sym (combined-length bytes (m * w) 1 word _ _))
+pub added-combined : {E : Edition} (m w g u : ℕ) (h word part : List ℕ) → g < m → length word ≡ m * w → length h ≡ w → AddedIn E u h (stretch w g word) part
+    → withStretch w g word part ≡ combined E (m * w) word 1 (λ _. u) (λ _. lone m w g h)
+added-combined {E} m w g u h word part l size long A =
+    ext-getD 0 _ _ (length-after ∙ size ∙ sym (combined-length E (m * w) 1 word _ _))
     (λ p k. place-cases (λ p. p < m * w → getD (withStretch w g word part) p 0 ≡ getD C p 0) w g
     (λ p h d. with-before w g word room part part-size p h ∙ plus-none p d (lone-before m w g _ l long p h))
     (λ j h d. with-inside w g word room part part-size j h ∙ A .each j (subst (λ n. j < n) (sym width) h) ∙ inside j h d)
@@ -199,16 +197,16 @@ added-combined m w g u h word part l size long A =
     length-after = with-length w g word room part part-size
 
     C : List ℕ
-    C = combined bytes (m * w) word 1 (λ _. u) (λ _. lone m w g h)
+    C = combined E (m * w) word 1 (λ _. u) (λ _. lone m w g h)
 
     plus-none : (p : ℕ) → p < m * w → getD (lone m w g h) p 0 ≡ 0 → getD word p 0 ≡ getD C p 0
-    plus-none p d e = sym (combined-one bytes m w word u _ p d ∙ ap (λ b. getD word p 0 ⊕ times bytes u b) e ∙ ap (λ s. getD word p 0 ⊕ s) (product-zero 8 285 u) ∙ ⊕-zero-r (getD word p 0))
+    plus-none p d e = sym (combined-one E m w word u _ p d ∙ ap (λ b. getD word p 0 ⊕ times E u b) e ∙ ap (λ s. getD word p 0 ⊕ s) (product-zero (E .bits) (E .poly) u) ∙ ⊕-zero-r (getD word p 0))
 
-    inside : (j : ℕ) → j < w → g * w + j < m * w → getD (stretch w g word) j 0 ⊕ times bytes u (getD h j 0) ≡ getD C (g * w + j) 0
-    inside j b d = ap₂ (λ x y. x ⊕ times bytes u y) (stretch-at w g word j b) (sym (lone-inside m w g h l long j b)) ∙ sym (combined-one bytes m w word u _ (g * w + j) d)
+    inside : (j : ℕ) → j < w → g * w + j < m * w → getD (stretch w g word) j 0 ⊕ times E u (getD h j 0) ≡ getD C (g * w + j) 0
+    inside j b d = ap₂ (λ x y. x ⊕ times E u y) (stretch-at w g word j b) (sym (lone-inside m w g h l long j b)) ∙ sym (combined-one E m w word u _ (g * w + j) d)
 
 -- ---- the direction of place p
-module _ (m w c p : ℕ) (good : Good m w c) (l : p < m * w) where
+module _ {B : Limits} (m w c p : ℕ) (good : GoodIn B m w c) (l : p < m * w) where
   some-wide : 0 < w
   some-wide = let k = good .wide in omega arith
 
@@ -223,12 +221,12 @@ module _ (m w c p : ℕ) (good : Good m w c) (l : p < m * w) where
     part-width = stretch-length w (p / w) kept (subst (λ n. suc (p / w) * w ≤ n) (sym (K .size)) (mul-le-mul-right w group-lt))
 
     -- what direction asks of the stretch, and what it gives
-    pub way-asked : (length (stretch w (p / w) kept) ≤ 16)
+    pub way-asked : (length (stretch w (p / w) kept) ≤ B .width)
         × ((p % w < length (stretch w (p / w) kept))
         × ((lost (stretch w (p / w) kept) (p % w) ≡ false)
-        × (lostIn (length (stretch w (p / w) kept)) (stretch w (p / w) kept) 0 ≤ 4)))
+        × (lostIn (length (stretch w (p / w) kept)) (stretch w (p / w) kept) 0 ≤ B .checks)))
     way-asked =
-        subst (λ n. (n ≤ 16) × ((p % w < n) × ((lost (stretch w (p / w) kept) (p % w) ≡ false) × (lostIn n (stretch w (p / w) kept) 0 ≤ 4)))) (sym part-width) (
+        subst (λ n. (n ≤ B .width) × ((p % w < n) × ((lost (stretch w (p / w) kept) (p % w) ≡ false) × (lostIn n (stretch w (p / w) kept) 0 ≤ B .checks)))) (sym part-width) (
           good .narrow,
           (
             inside,
@@ -242,9 +240,9 @@ module _ (m w c p : ℕ) (good : Good m w c) (l : p < m * w) where
         inside : p % w < w
         inside = mod-lt p some-wide
 
-    pub way-given : (r : List ℕ) → Direction (length (stretch w (p / w) kept)) (p % w) (stretch w (p / w) kept) (take (length (stretch w (p / w) kept)) r)
-        → Direction w (p % w) (stretch w (p / w) kept) (take w r)
-    way-given r = subst (λ n. Direction n (p % w) (stretch w (p / w) kept) (take n r)) part-width
+    pub way-given : {E : Edition} (r : List ℕ) → DirectionIn E (length (stretch w (p / w) kept)) (p % w) (stretch w (p / w) kept) (take (length (stretch w (p / w) kept)) r)
+        → DirectionIn E w (p % w) (stretch w (p / w) kept) (take w r)
+    way-given {E} r = subst (λ n. DirectionIn E n (p % w) (stretch w (p / w) kept) (take n r)) part-width
 
 -- ---- the sums across of a direction are those of its group
 pub weights-of : (m w c g : ℕ) (part : List ℕ) → g < m → length part ≡ w → groupSums c g part ≡ acrossOf m w c (lone m w g part)
@@ -267,6 +265,6 @@ pub few-at : {m w c : ℕ} {marks kept : List ℕ} {x a b : ℕ} → KeptAll m w
 few-at K P size i l = record { size = K .size ∙ size; few = K .kept-few; own = P .not-kept i l }
 
 -- ---- the marks kept, from a copy of the marks
-pub kept-copy : {m w c : ℕ} {marks from kept : List ℕ} → Good m w c → length marks ≡ m * w → from ≡ marks
-    → (Good m w c → length from ≡ m * w → KeptAll m w c from kept) → KeptAll m w c marks kept
-kept-copy {m} {w} {c} {kept = kept} good size e k = subst (λ xs. KeptAll m w c xs kept) e (k good (ap length e ∙ size))
+pub kept-copy : {B : Limits} {m w c : ℕ} {marks from kept : List ℕ} → GoodIn B m w c → length marks ≡ m * w → from ≡ marks
+    → (GoodIn B m w c → length from ≡ m * w → KeptAll m w c from kept) → KeptAll m w c marks kept
+kept-copy {B} {m} {w} {c} {kept = kept} good size e k = subst (λ xs. KeptAll m w c xs kept) e (k good (ap length e ∙ size))

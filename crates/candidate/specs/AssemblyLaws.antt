@@ -8,7 +8,7 @@ use native.Mathlib.Decide.{ℕ-discrete}
 use lib.Dec.{eqb}
 use lib.ListN.{length, getD}
 use Rattle.counting.specs.Count.{countBelow}
-use Rattle.byte_edition.specs.Edition.{bytes}
+use Rattle.code.specs.Edition.{Edition}
 use Rattle.code.specs.Word.{localSum, Symbols}
 use Rattle.code.specs.Marks.{lost, lostIn}
 use Rattle.code.specs.Stretch.{stretch}
@@ -19,16 +19,16 @@ use Rattle.erasures.specs.Kept.{free}
 use Rattle.erasures.specs.Whole.{KeptAll}
 use Rattle.erasures.specs.Places.{FreePlaces, freeAt}
 use Rattle.candidate.specs.Frame.{Frame}
-use Rattle.candidate.specs.Steps.{Blanked, GroupsFilled, Direction}
+use Rattle.candidate.specs.Steps.{Blanked, GroupsFilledIn, DirectionIn}
 
 -- the direction of a free place, in the whole word
 abbrev pub wayOf : ℕ → ℕ → (ℕ → ℕ) → (ℕ → List ℕ) → ℕ → List ℕ
 wayOf m w f h i = lone m w (f i / w) (h i)
 
-module _ (m w c : ℕ) (wide : 0 < w) (marks kept word blanked base : List ℕ) (x first second : ℕ) (h : ℕ → List ℕ)
-    (word-symbols : Symbols bytes (m * w) word) (base-symbols : Symbols bytes (m * w) base) (size : length marks ≡ m * w)
-    (K : KeptAll m w c marks kept) (P : FreePlaces marks kept x first second) (B : Blanked marks word blanked) (G : GroupsFilled m w kept blanked base)
-    (D : (i : ℕ) → i < x → Direction w (freeAt first second i % w) (stretch w (freeAt first second i / w) kept) (h i)) where
+module _ {E : Edition} (m w c : ℕ) (wide : 0 < w) (marks kept word blanked base : List ℕ) (x first second : ℕ) (h : ℕ → List ℕ)
+    (word-symbols : Symbols E (m * w) word) (base-symbols : Symbols E (m * w) base) (size : length marks ≡ m * w)
+    (K : KeptAll m w c marks kept) (P : FreePlaces marks kept x first second) (B : Blanked marks word blanked) (G : GroupsFilledIn E m w kept blanked base)
+    (D : (i : ℕ) → i < x → DirectionIn E w (freeAt first second i % w) (stretch w (freeAt first second i / w) kept) (h i)) where
   f : ℕ → ℕ
   f i = freeAt first second i
 
@@ -61,21 +61,21 @@ module _ (m w c : ℕ) (wide : 0 < w) (marks kept word blanked base : List ℕ) 
       ∙ D i k .off j l (ap (λ b. eqb b 1) (stretch-at w (f i / w) kept j l) ∙ e) (λ q. n (ap (λ z. f i / w * w + z) q ∙ own i)))
       (λ p l _ _ _. lone-after m w (f i / w) (h i) (group-less i k) (D i k .size) p l)
 
-  way-local : (i : ℕ) → i < x → (g : ℕ) → g < m → (e : ℕ) → e < c → localSum bytes w (H i) g e ≡ 0
+  way-local : (i : ℕ) → i < x → (g : ℕ) → g < m → (e : ℕ) → e < c → localSum E w (H i) g e ≡ 0
   unfolding H f
   way-local i k g l e b = elim (ℕ-discrete g (f i / w)) [
     | yes q ↦
-        subst (λ a. localSum bytes w (H i) a e ≡ 0) (sym q)
-        (lone-own m w (f i / w) (h i) (group-less i k) (D i k .size) bytes _
+        subst (λ a. localSum E w (H i) a e ≡ 0) (sym q)
+        (lone-own m w (f i / w) (h i) (group-less i k) (D i k .size) E _
         ∙ D i k .zero e (subst (λ n. e < n) (sym (stretch-count w (f i / w) kept ∙ all-kept)) b))
-    | no n ↦ lone-zero m w (f i / w) (h i) (group-less i k) (D i k .size) bytes g n _
+    | no n ↦ lone-zero m w (f i / w) (h i) (group-less i k) (D i k .size) E g n _
   ]
     where
       all-kept : lostIn w kept (f i / w) ≡ c
       all-kept =
           K .kept-full (f i / w) (f i % w) (group-less i k) (mod-lt (f i) wide) (ap (lost marks) (own i) ∙ P .is-lost i k) (ap (lost kept) (own i) ∙ P .not-kept i k)
 
-  pub frame : Frame bytes m w c marks kept word base x (freeAt first second) (wayOf m w (freeAt first second) h)
+  pub frame : Frame E m w c marks kept word base x (freeAt first second) (wayOf m w (freeAt first second) h)
   unfolding H f
   frame = record {
     word-symbols = word-symbols;

@@ -2,20 +2,19 @@
 -- left, and what is shown of them. No lent word plays a part.
 use mathlib.Core.Path.{_≡_}
 use mathlib.Core.List.{List}
-use Prim.Native.Nat.{ℕ, _/_, _%_, _<_}
+use Prim.Native.Nat.{ℕ, _/_, _%_, _^_, _<_}
 use Rattle.binary_field.specs.Sum.{sumBelow}
-use Rattle.code.specs.Edition.{times}
-use Rattle.byte_edition.specs.Edition.{bytes}
+use Rattle.code.specs.Edition.{Edition, times}
 use Rattle.code.specs.Word.{firstAcross, secondAcross}
 use Rattle.code.specs.Marks.{excess}
 use Rattle.code.specs.Stretch.{stretch}
 use Rattle.erasures.specs.Whole.{KeptAll}
 use Rattle.erasures.specs.Places.{FreePlaces, freeAt}
-use Rattle.candidate.specs.Steps.{Direction}
+use Rattle.candidate.specs.Steps.{DirectionIn}
 use Rattle.candidate.specs.AssemblyLaws.{wayOf}
 
 -- What is left for the equations across once each group's own equations are used.
-pub record Left (m w c : ℕ) (marks : List ℕ) : Type 0 where
+pub record Left (E : Edition) (m w c : ℕ) (marks : List ℕ) : Type 0 where
   -- the lost places that the groups keep for their own equations, up to c in each
   pub kept : List ℕ
   pub keeps : KeptAll m w c marks kept
@@ -26,23 +25,23 @@ pub record Left (m w c : ℕ) (marks : List ℕ) : Type 0 where
   pub places : FreePlaces marks kept x first second
   -- the direction of each on its group: 1 there, 0 at every other place that is not kept, and the group's own equations are met
   pub h : ℕ → List ℕ
-  pub way : (i : ℕ) → i < x → Direction w (freeAt first second i % w) (stretch w (freeAt first second i / w) kept) (h i)
+  pub way : (i : ℕ) → i < x → DirectionIn E w (freeAt first second i % w) (stretch w (freeAt first second i / w) kept) (h i)
 
-module _ (m w c : ℕ) (marks : List ℕ) (L : Left m w c marks) where
+module _ (E : Edition) (m w c : ℕ) (marks : List ℕ) (L : Left E m w c marks) where
   -- the column of free place i: the two sums across of its direction in the whole word
   abbrev pub upper : ℕ → ℕ
-  upper i = firstAcross bytes m w c (wayOf m w (freeAt (L .first) (L .second)) (L .h) i)
+  upper i = firstAcross E m w c (wayOf m w (freeAt (L .first) (L .second)) (L .h) i)
 
   abbrev pub lower : ℕ → ℕ
-  lower i = secondAcross bytes m w c (wayOf m w (freeAt (L .first) (L .second)) (L .h) i)
+  lower i = secondAcross E m w c (wayOf m w (freeAt (L .first) (L .second)) (L .h) i)
 
   -- multiples of the columns add up to zero only if all are zero
   pub record Independent : Type 0 where
-    pub only-zero : (v : ℕ → ℕ) → ((i : ℕ) → v i < 256) → sumBelow (L .x) (λ i. times bytes (v i) (upper i)) ≡ 0
-        → sumBelow (L .x) (λ i. times bytes (v i) (lower i)) ≡ 0 → (i : ℕ) → i < L .x → v i ≡ 0
+    pub only-zero : (v : ℕ → ℕ) → ((i : ℕ) → v i < 2 ^ E .bits) → sumBelow (L .x) (λ i. times E (v i) (upper i)) ≡ 0
+        → sumBelow (L .x) (λ i. times E (v i) (lower i)) ≡ 0 → (i : ℕ) → i < L .x → v i ≡ 0
 
 -- there are such columns, and however the kept places are chosen they are as many as the excess and independent
-pub record ColumnsIndependent (m w c : ℕ) (marks : List ℕ) : Type 0 where
-  pub some : Left m w c marks
-  pub count : (L : Left m w c marks) → L .x ≡ excess m w c marks
-  pub independent : (L : Left m w c marks) → Independent m w c marks L
+pub record ColumnsIndependent (E : Edition) (m w c : ℕ) (marks : List ℕ) : Type 0 where
+  pub some : Left E m w c marks
+  pub count : (L : Left E m w c marks) → L .x ≡ excess m w c marks
+  pub independent : (L : Left E m w c marks) → Independent E m w c marks L

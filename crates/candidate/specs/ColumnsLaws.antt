@@ -11,9 +11,8 @@ use lib.Dec.{eqb}
 use lib.ListN.{length, getD}
 use Rattle.counting.specs.Count.{one, countBelow}
 use Rattle.counting.specs.CountLaws.{total-zero, total-bump}
-use Rattle.shape.specs.Shapes.{Good}
-use Rattle.byte_edition.specs.Edition.{bytes}
-use Rattle.byte_edition.specs.EditionLaws.{bytes-sound, bytes-few}
+use Rattle.shape.specs.Shapes.{GoodIn}
+use Rattle.code.specs.Edition.{Edition, Sound}
 use Rattle.code.specs.Marks.{lost, excess}
 use Rattle.code.specs.Blank.{blank}
 use Rattle.code.specs.BlankLaws.{blank-at, blank-symbols, blank-group}
@@ -28,7 +27,7 @@ use Rattle.erasures.specs.Places.{FreePlaces, NextFree, freeAt}
 use Rattle.erasures.specs.PlacesLaws.{free-none, free-one, free-two}
 use Rattle.candidate.specs.Frame.{Frame}
 use Rattle.candidate.specs.FrameLaws.{ways-independent}
-use Rattle.candidate.specs.Steps.{Direction}
+use Rattle.candidate.specs.Steps.{DirectionIn}
 use Rattle.candidate.specs.AssemblyLaws.{wayOf, frame}
 use Rattle.candidate.specs.Solved.{pairAt}
 use Rattle.candidate.specs.Columns.{Left, Independent, ColumnsIndependent}
@@ -99,45 +98,51 @@ next marks kept (suc d) start e = go (next marks kept d (suc start) (omega arith
       },
     )
 
-module _ (m w c : ℕ) (good : Good m w c) (marks : List ℕ) (size : length marks ≡ m * w) where
+module _ {E : Edition} (S : Sound E) (m w c : ℕ) (good : GoodIn (E .limits) m w c) (marks : List ℕ) (size : length marks ≡ m * w) where
+  few : m ≤ S .r
+  few = let h = good .few in let k = S .groups-few in omega arith
+
+  narrow : w ≤ E .small
+  narrow = let h = good .narrow in let k = S .width-narrow in omega arith
+
   wide : 0 < w
   wide = let k = good .wide in omega arith
 
   module _ (kept : List ℕ) (K : KeptAll m w c marks kept) where
-    direction : (p : ℕ) → lost kept p ≡ false → (h : List ℕ) × Direction w (p % w) (stretch w (p / w) kept) h
+    direction : (p : ℕ) → lost kept p ≡ false → (h : List ℕ) × DirectionIn E w (p % w) (stretch w (p / w) kept) h
     direction p e =
         let j = mod-lt p wide in
-        let W = local-way bytes bytes-sound w wide (good .narrow) (stretch w (p / w) kept) (p % w) j
+        let W = local-way E S w wide narrow (stretch w (p / w) kept) (p % w) j
         (ap (λ b. eqb b 1) (stretch-at w (p / w) kept (p % w) j) ∙ ap (lost kept) (div-add-mod' p w) ∙ e) in
         (W .h, record { size = W .symbols .size; own = W .own; off = W .off; zero = W .zero })
 
-    with-none : FreePlaces marks kept 0 0 0 → Left m w c marks
+    with-none : FreePlaces marks kept 0 0 0 → Left E m w c marks
     with-none P = record { kept = kept; keeps = K; x = 0; first = 0; second = 0; places = P; h = λ _. []; way = λ i l. absurd (omega arith) }
 
-    with-one : (p : ℕ) → FreePlaces marks kept 1 p 0 → Left m w c marks
+    with-one : (p : ℕ) → FreePlaces marks kept 1 p 0 → Left E m w c marks
     with-one p P = record { kept = kept; keeps = K; x = 1; first = p; second = 0; places = P; h = λ _. D .0; way = way }
       where
-        D : (h : List ℕ) × Direction w (p % w) (stretch w (p / w) kept) h
+        D : (h : List ℕ) × DirectionIn E w (p % w) (stretch w (p / w) kept) h
         D = direction p (P .not-kept 0 (omega arith))
 
-        way : (i : ℕ) → i < 1 → Direction w (freeAt p 0 i % w) (stretch w (freeAt p 0 i / w) kept) (D .0)
+        way : (i : ℕ) → i < 1 → DirectionIn E w (freeAt p 0 i % w) (stretch w (freeAt p 0 i / w) kept) (D .0)
         way zero l = D .1
         way (suc i) l = absurd (omega arith)
 
-    with-two : (p q : ℕ) → FreePlaces marks kept 2 p q → Left m w c marks
-    with-two p q P = record { kept = kept; keeps = K; x = 2; first = p; second = q; places = P; h = pairAt (D .0) (E .0); way = way }
+    with-two : (p q : ℕ) → FreePlaces marks kept 2 p q → Left E m w c marks
+    with-two p q P = record { kept = kept; keeps = K; x = 2; first = p; second = q; places = P; h = pairAt (D .0) (D′ .0); way = way }
       where
-        D : (h : List ℕ) × Direction w (p % w) (stretch w (p / w) kept) h
+        D : (h : List ℕ) × DirectionIn E w (p % w) (stretch w (p / w) kept) h
         D = direction p (P .not-kept 0 (omega arith))
 
-        E : (h : List ℕ) × Direction w (q % w) (stretch w (q / w) kept) h
-        E = direction q (P .not-kept 1 (omega arith))
+        D′ : (h : List ℕ) × DirectionIn E w (q % w) (stretch w (q / w) kept) h
+        D′ = direction q (P .not-kept 1 (omega arith))
 
-        way : (i : ℕ) → i < 2 → Direction w (freeAt p q i % w) (stretch w (freeAt p q i / w) kept) (pairAt (D .0) (E .0) i)
+        way : (i : ℕ) → i < 2 → DirectionIn E w (freeAt p q i % w) (stretch w (freeAt p q i / w) kept) (pairAt (D .0) (D′ .0) i)
         way zero l = D .1
-        way (suc i) l = E .1
+        way (suc i) l = D′ .1
 
-    left : Left m w c marks
+    left : Left E m w c marks
     left = elim (decLt (N .0) (length marks)) [
       | yes l ↦
           (let M = next marks kept (length marks - (N .0 + 1)) (N .0 + 1) (omega arith) in
@@ -151,12 +156,12 @@ module _ (m w c : ℕ) (good : Good m w c) (marks : List ℕ) (size : length mar
         N : (r : ℕ) × NextFree marks kept 0 r
         N = next marks kept (length marks) 0 (omega arith)
 
-  pub some-left : Left m w c marks
+  pub some-left : Left E m w c marks
   some-left = let K = keep m w c marks size m (le-refl m) in left (K .0) (kept-all m w c marks (K .0) size (K .1))
 
   -- ---- they are as many as the excess
   module _ (low : excess m w c marks ≤ 2) where
-    count : (L : Left m w c marks) → L .x ≡ excess m w c marks
+    count : (L : Left E m w c marks) → L .x ≡ excess m w c marks
     count L =
         let P = L .places in
         let e : countBelow (length marks) (free marks (L .kept)) ≡ excess m w c marks =
@@ -170,20 +175,20 @@ module _ (m w c : ℕ) (good : Good m w c) (marks : List ℕ) (size : length mar
 
   -- ---- and they are independent: the frame of the zero word
   module _ (low : excess m w c marks ≤ 2) where
-    independent : (L : Left m w c marks) → Independent m w c marks L
+    independent : (L : Left E m w c marks) → Independent E m w c marks L
     independent L = record {
       only-zero =
-          ways-independent bytes bytes-sound m w c (bytes-few (good .few)) wide (good .narrow) marks (L .kept) (blank (m * w)) (blank (m * w)) (L .x)
+          ways-independent E S m w c few wide narrow marks (L .kept) (blank (m * w)) (blank (m * w)) (L .x)
           (freeAt (L .first) (L .second)) (wayOf m w (freeAt (L .first) (L .second)) (L .h)) F low;
     }
       where
-        F : Frame bytes m w c marks (L .kept) (blank (m * w)) (blank (m * w)) (L .x) (freeAt (L .first) (L .second))
+        F : Frame E m w c marks (L .kept) (blank (m * w)) (blank (m * w)) (L .x) (freeAt (L .first) (L .second))
             (wayOf m w (freeAt (L .first) (L .second)) (L .h))
         F = frame m w c wide marks (L .kept) (blank (m * w)) (blank (m * w)) (blank (m * w)) (L .x) (L .first) (L .second) (L .h)
-            (blank-symbols bytes (m * w)) (blank-symbols bytes (m * w)) size (L .keeps) (L .places)
+            (blank-symbols E (m * w)) (blank-symbols E (m * w)) size (L .keeps) (L .places)
             (record { size = refl; present = λ p _ _. refl; zero = λ p _ _. blank-at (m * w) p })
-            (record { size = refl; present = λ p _. refl; zero = λ g _ e _. blank-group bytes (m * w) w g _ }) (L .way)
+            (record { size = refl; present = λ p _. refl; zero = λ g _ e _. blank-group E (m * w) w g _ }) (L .way)
 
     -- "for every good shape and such marks the one or two columns left for the equations across are independent"
-    pub columns-independent : ColumnsIndependent m w c marks
+    pub columns-independent : ColumnsIndependent E m w c marks
     columns-independent = record { some = some-left; count = count low; independent = independent }

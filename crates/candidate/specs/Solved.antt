@@ -3,8 +3,9 @@ use mathlib.Core.Path.{_≡_}
 use mathlib.Core.List.{List, [], _∷_}
 use Prim.Native.Nat.{ℕ, zero, suc}
 use lib.ListN.{replicate}
-use Rattle.binary_field.specs.Product.{product}
 use Rattle.binary_field.specs.Inverse.{inverse}
+use Rattle.code.specs.Edition.{Edition, times}
+use Rattle.byte_edition.specs.Edition.{bytes}
 use Rattle.solve.specs.Kernel.{TrivialKernel}
 use Rattle.solve.specs.Solution.{OnlySolution}
 
@@ -22,10 +23,18 @@ pairAt u v zero = u
 pairAt u v (suc i) = v
 
 -- u and v are the only solution, where the coefficients have a trivial kernel
-abbrev pub Solved : ℕ → ℕ → ℕ → ℕ → ℕ → ℕ → ℕ → ℕ → Type 0
-Solved a₁ a₂ b₁ b₂ s t u v = TrivialKernel 8 285 (twoRows a₁ a₂ b₁ b₂ s t) 2 → OnlySolution 8 285 (twoRows a₁ a₂ b₁ b₂ s t) 2 4 (pairAt u v)
+abbrev pub SolvedIn : Edition → ℕ → ℕ → ℕ → ℕ → ℕ → ℕ → ℕ → ℕ → Type 0
+SolvedIn E a₁ a₂ b₁ b₂ s t u v = TrivialKernel (E .bits) (E .poly) (twoRows a₁ a₂ b₁ b₂ s t) 2 → OnlySolution (E .bits) (E .poly) (twoRows a₁ a₂ b₁ b₂ s t) 2 4 (pairAt u v)
 
 -- u solves the first equation, or the second where the first has no coefficient
-pub record SolvedOne (a b s t u : ℕ) : Type 0 where
-  pub by-first : (a ≡ 0 → ⊥) → u ≡ product 8 285 s (inverse 8 285 a)
-  pub by-second : a ≡ 0 → u ≡ product 8 285 t (inverse 8 285 b)
+pub record SolvedOneIn (E : Edition) (a b s t u : ℕ) : Type 0 where
+  pub by-first : (a ≡ 0 → ⊥) → u ≡ times E s (inverse (E .bits) (E .poly) a)
+  pub by-second : a ≡ 0 → u ≡ times E t (inverse (E .bits) (E .poly) b)
+
+-- of bytes: two unknowns
+abbrev pub Solved : ℕ → ℕ → ℕ → ℕ → ℕ → ℕ → ℕ → ℕ → Type 0
+Solved = SolvedIn bytes
+
+-- and one
+abbrev pub SolvedOne : ℕ → ℕ → ℕ → ℕ → ℕ → Type 0
+SolvedOne = SolvedOneIn bytes

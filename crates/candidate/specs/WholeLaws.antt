@@ -2,7 +2,7 @@
 use mathlib.Core.Path.{_≡_, refl, sym, ap, ap₂, _∙_, subst}
 use mathlib.Core.Bool.{Bool, true, false, not, _&&_}
 use mathlib.Core.List.{List, []}
-use Prim.Native.Nat.{ℕ, zero, suc, _+_, _*_, _/_, _%_, _<_, _≤_}
+use Prim.Native.Nat.{ℕ, zero, suc, _+_, _*_, _/_, _%_, _^_, _<_, _≤_}
 use native.Mathlib.Nat.{le-refl, mul-le-mul-right}
 use native.Mathlib.Omega.{arith}
 use lib.Dec.{T, eqb}
@@ -14,10 +14,8 @@ use Rattle.binary_field.specs.Xor.{_⊕_}
 use Rattle.binary_field.specs.XorLaws.{⊕-zero-r, ⊕-self}
 use Rattle.binary_field.specs.ProductLaws.{product-lt, product-zero}
 use Rattle.binary_field.specs.SumLaws.{sum-lt, sum-zero}
-use Rattle.shape.specs.Shapes.{Good}
-use Rattle.code.specs.Edition.{times}
-use Rattle.byte_edition.specs.Edition.{bytes}
-use Rattle.byte_edition.specs.EditionLaws.{bytes-sound, bytes-few}
+use Rattle.shape.specs.Shapes.{GoodIn}
+use Rattle.code.specs.Edition.{Edition, Sound, times}
 use Rattle.code.specs.Word.{groupSum, wordSum, localSum, Symbols}
 use Rattle.code.specs.WordLaws.{local-zero, zero-local}
 use Rattle.code.specs.Marks.{lost, lostIn, excess}
@@ -35,11 +33,11 @@ use Rattle.erasures.specs.Whole.{KeptAll}
 use Rattle.erasures.specs.Places.{FreePlaces, freeAt}
 use Rattle.candidate.specs.Frame.{Frame}
 use Rattle.candidate.specs.FrameLaws.{ways-present}
-use Rattle.candidate.specs.Steps.{Blanked, GroupsFilled, Direction}
+use Rattle.candidate.specs.Steps.{Blanked, GroupsFilledIn, DirectionIn}
 use Rattle.candidate.specs.AssemblyLaws.{wayOf, frame}
 use Rattle.candidate.specs.Solved.{pairAt}
 use Rattle.candidate.specs.SolvedLaws.{combined-length, combined-cong, combined-none, combined-two, found-none, found-one, found-two}
-use Rattle.candidate.specs.Mended.{MendedOne, MendedTwo, Mended, IsCandidate}
+use Rattle.candidate.specs.Mended.{MendedOneIn, MendedTwoIn, MendedIn, IsCandidateIn}
 
 -- a free place is lost and not kept
 free-parts : (marks kept : List ℕ) (p : ℕ) → T (free marks kept p) → (lost marks p ≡ true) × (lost kept p ≡ false)
@@ -57,18 +55,24 @@ no-free marks kept p n e = go (lost marks p) refl
     go true d = sym (ap₂ (λ a b. a && not b) d e) ∙ n
     go false d = refl
 
-word-lt : (m w : ℕ) (word : List ℕ) (h : ℕ → ℕ → ℕ) → wordSum bytes m w word h < 256
+word-lt : (E : Edition) (m w : ℕ) (word : List ℕ) (h : ℕ → ℕ → ℕ) → wordSum E m w word h < 2 ^ E .bits
 unfolding wordSum groupSum
-word-lt m w word h = sum-lt 8 m _ (λ g _. sum-lt 8 w _ (λ j _. product-lt 8 285 _ _))
+word-lt E m w word h = sum-lt (E .bits) m _ (λ g _. sum-lt (E .bits) w _ (λ j _. product-lt (E .bits) (E .poly) _ _))
 
-module _ (m w c : ℕ) (good : Good m w c) (marks kept word blanked base out : List ℕ)
-    (word-symbols : Symbols bytes (m * w) word) (base-symbols : Symbols bytes (m * w) base) (size : length marks ≡ m * w)
-    (K : KeptAll m w c marks kept) (B : Blanked marks word blanked) (G : GroupsFilled m w kept blanked base) where
+module _ {E : Edition} (S : Sound E) (m w c : ℕ) (good : GoodIn (E .limits) m w c) (marks kept word blanked base out : List ℕ)
+    (word-symbols : Symbols E (m * w) word) (base-symbols : Symbols E (m * w) base) (size : length marks ≡ m * w)
+    (K : KeptAll m w c marks kept) (B : Blanked marks word blanked) (G : GroupsFilledIn E m w kept blanked base) where
+  few : m ≤ S .r
+  few = let h = good .few in let k = S .groups-few in omega arith
+
+  narrow : w ≤ E .small
+  narrow = let h = good .narrow in let k = S .width-narrow in omega arith
+
   wide : 0 < w
   wide = let k = good .wide in omega arith
 
   -- ---- a group that some filling satisfies
-  module _ (g : ℕ) (l : g < m) (y : List ℕ) (Y : Satisfies bytes w c (stretch w g marks) (stretch w g word) y) where
+  module _ (g : ℕ) (l : g < m) (y : List ℕ) (Y : Satisfies E w c (stretch w g marks) (stretch w g word) y) where
     part-length : (xs : List ℕ) → length xs ≡ m * w → length (stretch w g xs) ≡ w
     part-length xs e = stretch-length w g xs (subst (λ n. suc g * w ≤ n) (sym e) (mul-le-mul-right w l))
 
@@ -81,11 +85,11 @@ module _ (m w c : ℕ) (good : Good m w c) (marks kept word blanked base out : L
         ext-getD 0 (stretch w g base) y (part-length base (base-symbols .size) ∙ sym y-length) λ j h.
         let k : j < w = subst (λ n. j < n) (part-length base (base-symbols .size)) h in
         subst (λ n. getD (stretch w g base) n 0 ≡ getD y n 0) (own-place w j)
-        (local-unique bytes bytes-sound w (lostIn w kept g) 0 wide (good .narrow) (stretch w g kept) (stretch w g base) y
-        (stretch-below w g base 256 (base-symbols .each))
-        (filling-symbols bytes w (stretch w g marks) (stretch w g word) y
-        (record { size = part-length word (word-symbols .size); each = stretch-below w g word 256 (word-symbols .each) }) (Y .fills) .each)
-        (λ e i. stretch-sum bytes w g base _ ∙ G .zero g l e i ∙ sym (local-zero bytes w c y 0 (Y .passes) e (let q = K .kept-few g l in omega arith)))
+        (local-unique E S w (lostIn w kept g) 0 wide narrow (stretch w g kept) (stretch w g base) y
+        (stretch-below w g base (2 ^ E .bits) (base-symbols .each))
+        (filling-symbols E w (stretch w g marks) (stretch w g word) y
+        (record { size = part-length word (word-symbols .size); each = stretch-below w g word (2 ^ E .bits) (word-symbols .each) }) (Y .fills) .each)
+        (λ e i. stretch-sum E w g base _ ∙ G .zero g l e i ∙ sym (local-zero E w c y 0 (Y .passes) e (let q = K .kept-few g l in omega arith)))
         (λ i b e. subst (λ n. getD (stretch w g base) n 0 ≡ getD y n 0) (sym (own-place w i)) (present i b (sym (stretch-lost w g kept i b) ∙ e)))
         (subst (λ n. n ≤ lostIn w kept g) (sym (stretch-count w g kept)) (le-refl (lostIn w kept g))) j k)
       where
@@ -98,50 +102,50 @@ module _ (m w c : ℕ) (good : Good m w c) (marks kept word blanked base out : L
             ∙ sym (Y .fills .present i (subst (λ n. i < n) (sym (part-length word (word-symbols .size))) b)
             (ap (λ b. eqb b 1) (stretch-at w g marks i b) ∙ none i b e))
 
-    base-local : (e : ℕ) → e < c → localSum bytes w base g e ≡ 0
+    base-local : (e : ℕ) → e < c → localSum E w base g e ≡ 0
     base-local e h = go (anyBelow w (λ j. free marks kept (g * w + j))) refl
       where
-        go : (v : Bool) → anyBelow w (λ j. free marks kept (g * w + j)) ≡ v → localSum bytes w base g e ≡ 0
+        go : (v : Bool) → anyBelow w (λ j. free marks kept (g * w + j)) ≡ v → localSum E w base g e ≡ 0
         go true t =
             let a = any-at w (λ j. free marks kept (g * w + j)) (subst T (sym t) tt) in
             let f = free-parts marks kept (g * w + a .0) (a .2) in
             G .zero g l e (subst (λ n. e < n) (sym (K .kept-full g (a .0) l (a .1) (f .0) (f .1))) h)
         go false t =
-            sym (stretch-sum bytes w g base _)
-            ∙ ap (λ s. localSum bytes w s 0 e) (base-filled (λ j b q. no-free marks kept (g * w + j) (none-at w (λ j. free marks kept (g * w + j)) t j b) q))
-            ∙ local-zero bytes w c y 0 (Y .passes) e h
+            sym (stretch-sum E w g base _)
+            ∙ ap (λ s. localSum E w s 0 e) (base-filled (λ j b q. no-free marks kept (g * w + j) (none-at w (λ j. free marks kept (g * w + j)) t j b) q))
+            ∙ local-zero E w c y 0 (Y .passes) e h
 
   -- from a frame and multiples that give the codeword
-  of-frame : (x : ℕ) (f : ℕ → ℕ) (H : ℕ → List ℕ) (u : ℕ → ℕ) → Frame bytes m w c marks kept word base x f H → out ≡ combined bytes (m * w) base x u H
-      → (excess m w c marks ≤ 2 → (y : List ℕ) → Agrees bytes m w c marks word y → combined bytes (m * w) base x u H ≡ y) → IsCandidate m w c marks word out
+  of-frame : (x : ℕ) (f : ℕ → ℕ) (H : ℕ → List ℕ) (u : ℕ → ℕ) → Frame E m w c marks kept word base x f H → out ≡ combined E (m * w) base x u H
+      → (excess m w c marks ≤ 2 → (y : List ℕ) → Agrees E m w c marks word y → combined E (m * w) base x u H ≡ y) → IsCandidateIn E m w c marks word out
   of-frame x f H u F is only = record {
-    size = ap length is ∙ combined-length bytes (m * w) x base u H;
+    size = ap length is ∙ combined-length E (m * w) x base u H;
     present = λ p l e.
-        ap (λ s. getD s p 0) is ∙ combined-at bytes m w x base u H p l
-        ∙ ap₂ _⊕_ (F .base-present p l e) (ways-present bytes bytes-sound m w c (bytes-few (good .few)) wide (good .narrow) marks kept word base x f H F u p l e)
+        ap (λ s. getD s p 0) is ∙ combined-at E m w x base u H p l
+        ∙ ap₂ _⊕_ (F .base-present p l e) (ways-present E S m w c few wide narrow marks kept word base x f H F u p l e)
         ∙ ⊕-zero-r (getD word p 0);
     only = λ low y A. is ∙ only low y A;
-    satisfied = λ g l y Y. zero-local bytes w c out g (λ e h.
-        ap (λ s. localSum bytes w s g e) is ∙ combined-group bytes m w x base u H g _ l
-        ∙ ap₂ _⊕_ (base-local g l y Y e h) (sum-zero x _ (λ i k. ap (times bytes (u i)) (F .way-local i k g l e h) ∙ product-zero 8 285 (u i))) ∙ ⊕-self 0);
+    satisfied = λ g l y Y. zero-local E w c out g (λ e h.
+        ap (λ s. localSum E w s g e) is ∙ combined-group E m w x base u H g _ l
+        ∙ ap₂ _⊕_ (base-local g l y Y e h) (sum-zero x _ (λ i k. ap (times E (u i)) (F .way-local i k g l e h) ∙ product-zero (E .bits) (E .poly) (u i))) ∙ ⊕-self 0);
   }
 
   module _ (p q : ℕ) where
-    with-none : FreePlaces marks kept 0 p q → out ≡ base → IsCandidate m w c marks word out
+    with-none : FreePlaces marks kept 0 p q → out ≡ base → IsCandidateIn E m w c marks word out
     with-none P e =
         of-frame 0 (freeAt p q) (wayOf m w (freeAt p q) (λ _. [])) (λ _. 0) F (e ∙ sym same)
-        (λ low y A. same ∙ found-none m w c (good .few) wide (good .narrow) marks kept word base _ _ low y A F)
+        (λ low y A. same ∙ found-none E S m w c few wide narrow marks kept word base _ _ low y A F)
       where
-        F : Frame bytes m w c marks kept word base 0 (freeAt p q) (wayOf m w (freeAt p q) (λ _. []))
+        F : Frame E m w c marks kept word base 0 (freeAt p q) (wayOf m w (freeAt p q) (λ _. []))
         F = frame m w c wide marks kept word blanked base 0 p q (λ _. []) word-symbols base-symbols size K P B G (λ i l. absurd (omega arith))
 
-        same : combined bytes (m * w) base 0 (λ _. 0) (wayOf m w (freeAt p q) (λ _. [])) ≡ base
-        same = combined-none bytes m w base _ _ (base-symbols .size)
+        same : combined E (m * w) base 0 (λ _. 0) (wayOf m w (freeAt p q) (λ _. [])) ≡ base
+        same = combined-none E m w base _ _ (base-symbols .size)
 
-    with-one : FreePlaces marks kept 1 p q → MendedOne m w c p kept base out → IsCandidate m w c marks word out
+    with-one : FreePlaces marks kept 1 p q → MendedOneIn E m w c p kept base out → IsCandidateIn E m w c marks word out
     with-one P M =
-        of-frame 1 (freeAt p q) H (λ _. M .u) F (M .is ∙ combined-cong bytes (m * w) base 1 (λ _ _. refl) (λ i l. ways i l))
-        (λ low y A. found-one m w c (good .few) wide (good .narrow) marks kept word base _ H low y A F (M .u) (word-lt m w _ _) (word-lt m w _ _) (M .solved))
+        of-frame 1 (freeAt p q) H (λ _. M .u) F (M .is ∙ combined-cong E (m * w) base 1 (λ _ _. refl) (λ i l. ways i l))
+        (λ low y A. found-one E S m w c few wide narrow marks kept word base _ H low y A F (M .u) (word-lt E m w _ _) (word-lt E m w _ _) (M .solved))
       where
         H : ℕ → List ℕ
         H = wayOf m w (freeAt p q) (λ _. M .h)
@@ -150,18 +154,18 @@ module _ (m w c : ℕ) (good : Good m w c) (marks kept word blanked base out : L
         ways zero l = refl
         ways (suc i) l = absurd (omega arith)
 
-        D : (i : ℕ) → i < 1 → Direction w (freeAt p q i % w) (stretch w (freeAt p q i / w) kept) (M .h)
+        D : (i : ℕ) → i < 1 → DirectionIn E w (freeAt p q i % w) (stretch w (freeAt p q i / w) kept) (M .h)
         D zero l = M .way
         D (suc i) l = absurd (omega arith)
 
-        F : Frame bytes m w c marks kept word base 1 (freeAt p q) H
+        F : Frame E m w c marks kept word base 1 (freeAt p q) H
         F = frame m w c wide marks kept word blanked base 1 p q (λ _. M .h) word-symbols base-symbols size K P B G D
 
-    with-two : FreePlaces marks kept 2 p q → MendedTwo m w c p q kept base out → IsCandidate m w c marks word out
+    with-two : FreePlaces marks kept 2 p q → MendedTwoIn E m w c p q kept base out → IsCandidateIn E m w c marks word out
     with-two P M =
         of-frame 2 (freeAt p q) H (pairAt (M .u) (M .v)) F
-        (M .second ∙ ap (λ s. combined bytes (m * w) s 1 (λ _. M .v) (λ _. H 1)) (M .first) ∙ combined-two bytes m w base (M .u) (M .v) H)
-        (λ low y A. found-two m w c (good .few) wide (good .narrow) marks kept word base _ H low y A F (M .u) (M .v) (M .solved))
+        (M .second ∙ ap (λ s. combined E (m * w) s 1 (λ _. M .v) (λ _. H 1)) (M .first) ∙ combined-two E m w base (M .u) (M .v) H)
+        (λ low y A. found-two E S m w c few wide narrow marks kept word base _ H low y A F (M .u) (M .v) (M .solved))
       where
         h : ℕ → List ℕ
         h = pairAt (M .h₁) (M .h₂)
@@ -169,16 +173,16 @@ module _ (m w c : ℕ) (good : Good m w c) (marks kept word blanked base out : L
         H : ℕ → List ℕ
         H = wayOf m w (freeAt p q) h
 
-        D : (i : ℕ) → i < 2 → Direction w (freeAt p q i % w) (stretch w (freeAt p q i / w) kept) (h i)
+        D : (i : ℕ) → i < 2 → DirectionIn E w (freeAt p q i % w) (stretch w (freeAt p q i / w) kept) (h i)
         D zero l = M .way₁
         D (suc zero) l = M .way₂
         D (suc (suc i)) l = absurd (omega arith)
 
-        F : Frame bytes m w c marks kept word base 2 (freeAt p q) H
+        F : Frame E m w c marks kept word base 2 (freeAt p q) H
         F = frame m w c wide marks kept word blanked base 2 p q h word-symbols base-symbols size K P B G D
 
   -- what is mended is the candidate
-  pub is-candidate : Mended m w c marks kept base out → IsCandidate m w c marks word out
-  is-candidate (Mended.none {p} {q} P e) = with-none p q P e
-  is-candidate (Mended.one {p} {q} P M) = with-one p q P M
-  is-candidate (Mended.two {p} {q} P M) = with-two p q P M
+  pub is-candidate : MendedIn E m w c marks kept base out → IsCandidateIn E m w c marks word out
+  is-candidate (MendedIn.none {p} {q} P e) = with-none p q P e
+  is-candidate (MendedIn.one {p} {q} P M) = with-one p q P M
+  is-candidate (MendedIn.two {p} {q} P M) = with-two p q P M

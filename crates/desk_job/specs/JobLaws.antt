@@ -14,6 +14,7 @@ use Rattle.counting.specs.Test.{allBelow}
 use Rattle.counting.specs.TestLaws.{all-at, all-intro}
 use Rattle.code.specs.Marks.{excess}
 use Rattle.code.specs.DeterminedLaws.{list-length, list-at}
+use Rattle.shape.specs.Shapes.{byteLimits}
 use Rattle.shape.specs.RefusalsLaws.{orElse-zero}
 use Rattle.shape.specs.Laws.{places-most}
 use Rattle.marks.specs.Refusal.{Marked}
@@ -50,9 +51,9 @@ good-iff job = (
   λ e.
       let z = eqb-true (judgedNumberOf (job .m) (job .w) (job .c) (marksOf job)) 0 e in
       let M = judged-marked (job .m) (job .w) (job .c) (marksOf job) z in
-      (M, zero-excess (job .m) (job .w) (job .c) (marksOf job) (marks-of-good (job .m) (job .w) (job .c) (marksOf job) M) .0 z),
+      (M, zero-excess byteLimits (job .m) (job .w) (job .c) (marksOf job) (marks-of-good (job .m) (job .w) (job .c) (marksOf job) M) .0 z),
   λ p. eq-eqb (judgedNumberOf (job .m) (job .w) (job .c) (marksOf job)) 0
-      (zero-excess (job .m) (job .w) (job .c) (marksOf job) (marks-of-good (job .m) (job .w) (job .c) (marksOf job) (p .0)) .1 (p .1)),
+      (zero-excess byteLimits (job .m) (job .w) (job .c) (marksOf job) (marks-of-good (job .m) (job .w) (job .c) (marksOf job) (p .0)) .1 (p .1)),
 )
 
 -- ---- the figures

@@ -11,7 +11,7 @@ use Rattle.shape.specs.Laws.{word-of-good}
 use Rattle.code.specs.Word.{isCodeword, Codeword}
 use Rattle.byte_edition.specs.Edition.{bytes}
 use Rattle.byte_edition.specs.EditionLaws.{bytes-sound}
-use Rattle.word_check.specs.Answer.{checkedAt, wholeGroup, checkedOf}
+use Rattle.word_check.specs.Answer.{checkedAt, wholeGroup, checkedIn, checkedOf}
 use Rattle.edit.specs.Service.{editOf, editIn, editRefusalIn}
 use Rattle.edit.specs.Demand.{Call, Edited, EitherOrder, AllEdited, Refusals, asChecked}
 use Rattle.edit.specs.Laws.{edited, either-order, all-edited, refusals, number-of-sold}
@@ -37,7 +37,7 @@ edit-all m w c s word C carried size small = all-edited bytes-sound s word C car
 -- past the number Edit answers as Check does: done where Check says yes, and 9 with Check's group where it says no
 pub edit-as-checked : (m w c : ℕ) (word : List ℕ) (number : ℕ) → Sold m w c → length word ≡ m * w → number < dataCount m w c
     → editOf m w c word number ≡ asChecked (checkedOf m w c word)
-unfolding editIn editRefusalIn checkedOf
+unfolding editIn editRefusalIn checkedIn
 edit-as-checked m w c word number s size l =
     ap (λ r. mendingAt (r orElse refuse 9 (not (isCodeword bytes m w c word))) (wholeGroup m w c word)) (number-of-sold m w c (length word) number s size l)
     ∙ go (isCodeword bytes m w c word)

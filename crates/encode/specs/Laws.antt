@@ -14,12 +14,11 @@ use Rattle.counting.specs.CountLaws.{total-ext, total-suc, total-zero, count-ex
 use Rattle.shape.specs.Answers.{answerAt}
 use Rattle.shape.specs.Refusals.{unlessRefused}
 use Rattle.shape.specs.RefusalsLaws.{orElse-zero}
-use Rattle.shape.specs.Shapes.{Limits, GoodIn, Good, SoldIn, placeCount, dataCount, saleRefusalIn, bufferRefusalIn}
+use Rattle.shape.specs.Shapes.{Limits, GoodIn, SoldIn, placeCount, dataCount, saleRefusalIn, bufferRefusalIn}
 use Rattle.shape.specs.Laws.{Unshaped, word-of-good, good-of-buffers, buffers-of-good, refusal-of-sold, retired-of-good, sale-unshaped}
-use Rattle.places.specs.Places.{isCheck, extractOf, placedOf, placedWord, checkMarks, mark}
+use Rattle.places.specs.Places.{isCheck, extractOf, placedOf, placedWordIn, checkMarks, mark}
 use Rattle.places.specs.Laws.{checks-inner, checks-last, marks-length, marks-at, marks-small, placed-length, placed-word, placed-below, extract-placed, extract-agree, agree-extract}
 use Rattle.marks.specs.RefusalLaws.{marks-of-good}
-use Rattle.byte_edition.specs.EditionLaws.{bytes-sound}
 use Rattle.code.specs.Edition.{Edition, Sound}
 use Rattle.code.specs.Word.{Symbols, Codeword}
 use Rattle.code.specs.Marks.{lost, lostIn, excess}
@@ -27,8 +26,8 @@ use Rattle.code.specs.Answer.{Outcome, written}
 use Rattle.code.specs.Recovery.{Agrees, recovered}
 use Rattle.code.specs.RecoveryLaws.{recovered-done, only-one}
 use Rattle.code.specs.EncodingLaws.{carried, carried-agrees}
-use Rattle.recover.specs.Service.{unlessBefore, recoverRefusalIn, recoverOf, recoverIn}
-use Rattle.encode.specs.Service.{encodedIn, encodeRefusalIn, encodeIn, encodedBufferIn, encodedWord, encodeRefusal, encodedBuffer}
+use Rattle.recover.specs.Service.{unlessBefore, recoverRefusalIn, recoverIn}
+use Rattle.encode.specs.Service.{encodedIn, encodeRefusalIn, encodeIn, encodedBufferIn, encodeRefusal}
 use Rattle.encode.specs.DemandTwo.{Encoded, DemandTwo, Retired}
 
 module _ {E : Edition} (S : Sound E) {m w c : ℕ} (good : GoodIn (E .limits) m w c) where
@@ -169,8 +168,9 @@ retired E m w c carries word g e =
     record { refused = ap answerAt z; stays = ap (λ r. unlessRefused r (encodedIn E m w c carries) word) z }
 
 -- a call whose buffers are not refused: the word after the data are placed, and at the end
-module _ (m w c : ℕ) (carries word after : List ℕ) (accepted : encodeRefusal m w c (length word) (length carries) ≡ 0) (put : after ≡ placedWord m w c carries word) where
-  G : Good m w c × (length word ≡ placeCount m w) × (length carries ≡ dataCount m w c)
+module _ (E : Edition) (m w c : ℕ) (carries word after : List ℕ) (accepted : encodeRefusalIn (E .limits) m w c (length word) (length carries) ≡ 0)
+    (put : after ≡ placedWordIn (E .limits) m w c carries word) where
+  G : GoodIn (E .limits) m w c × (length word ≡ placeCount m w) × (length carries ≡ dataCount m w c)
   G = good-of-encode m w c (length word) (length carries) accepted
 
   put-is : after ≡ placedOf m w c carries
@@ -179,8 +179,8 @@ module _ (m w c : ℕ) (carries word after : List ℕ) (accepted : encodeRefusal
   pub after-size : length after ≡ m * w
   after-size = ap length put-is ∙ placed-length m w c carries
 
-  pub buffer-end : ((i : ℕ) → getD carries i 0 < 256) → (end : List ℕ) → end ≡ (recoverOf m w c after (checkMarks m w c)) .word → end ≡ encodedBuffer m w c carries word
+  pub buffer-end : Sound E → ((i : ℕ) → getD carries i 0 < 2 ^ E .bits) → (end : List ℕ) → end ≡ (recoverIn E m w c after (checkMarks m w c)) .word → end ≡ encodedBufferIn E m w c carries word
   unfolding encodedBufferIn
-  buffer-end small end e =
-      e ∙ ap (λ u. (recoverOf m w c u (checkMarks m w c)) .word) put-is ∙ recovered-checks bytes-sound (G .0) carries (G .2) small
-      ∙ sym (ap (λ r. unlessRefused r (encodedWord m w c carries) word) accepted)
+  buffer-end S small end e =
+      e ∙ ap (λ u. (recoverIn E m w c u (checkMarks m w c)) .word) put-is ∙ recovered-checks S (G .0) carries (G .2) small
+      ∙ sym (ap (λ r. unlessRefused r (encodedIn E m w c carries) word) accepted)

@@ -17,7 +17,7 @@ pub struct Free {
 }
 
 // Clears the marks of the lost places after the first c.
-fn keep_part(part: &mut [u8], c: usize)
+pub fn keep_part(part: &mut [u8], c: usize)
     ensures { λ _. ⌜ now (part .exit) ≡ keptOf c (now (part .entry)) ⌝ }
 {
     let mut kept: usize = 0;

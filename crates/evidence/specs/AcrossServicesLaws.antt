@@ -9,7 +9,7 @@ use lib.Dec.{T, eqb}
 use lib.ListN.{length, getD}
 use Rattle.shape.specs.Refusals.{refuse, _orElse_}
 use Rattle.shape.specs.RefusalsLaws.{orElse-zero}
-use Rattle.shape.specs.Shapes.{Good, placeCount}
+use Rattle.shape.specs.Shapes.{byteLimits, Good, placeCount}
 use Rattle.shape.specs.Laws.{word-of-good}
 use Rattle.byte_edition.specs.Edition.{bytes}
 use Rattle.byte_edition.specs.EditionLaws.{bytes-sound}
@@ -25,7 +25,7 @@ use Rattle.recover.specs.AttemptLaws.{accepted, eight-exactly}
 use Rattle.recover.specs.DemandTwo.{Named}
 use Rattle.recover.specs.DemandTwoLaws.{good-start, demand-two, lost-bytes}
 use Rattle.word_check.specs.declared.Checked.{Checked}
-use Rattle.word_check.specs.Answer.{wholeGroup, checkedOf}
+use Rattle.word_check.specs.Answer.{wholeGroup, checkedIn, checkedOf}
 use Rattle.word_check.specs.Laws.{yes-exactly}
 use Rattle.stream.specs.NoneLost.{noneLost}
 use Rattle.stream.specs.NoneLostLaws.{none-marked, codeword-stays, other-nine}
@@ -42,15 +42,15 @@ pub recover-as-judge : (m w c : ℕ) (word marks : List ℕ) → Good m w c → 
     → length marks ≡ m * w → ((p : ℕ) → getD marks p 0 < 2) → ((recoverOf m w c word marks) .number ≡ 8) ↔ (judgedNumberOf m w c marks ≡ 8)
 recover-as-judge m w c word marks good size small marks-size each =
     let M : Marked m w c marks = record { good = good; size = marks-size; each = each } in
-    let R = eight-exactly m w c word marks (accepted m w c word marks 0 (sym (good-start m w c word marks M size)) refl) small in
-    let J = eight-excess m w c marks (marks-of-good m w c marks M) in
+    let R = eight-exactly bytes-sound m w c word marks (accepted m w c word marks 0 (sym (good-start m w c word marks M size)) refl) small in
+    let J = eight-excess byteLimits m w c marks (marks-of-good m w c marks M) in
     ((λ e. J .1 (R .0 e)), (λ e. R .1 (J .0 e)))
 
 module _ (m w c : ℕ) (word : List ℕ) (good : Good m w c) (s : Symbols bytes (m * w) word) where
   -- of a codeword
   checked-yes : Codeword bytes m w c word → CheckedAsRecovered m w c word
   checked-yes C =
-      let k = yes-exactly m w c word good s .1 C in
+      let k = yes-exactly bytes m w c word good s .1 C in
       let r : (recoverOf m w c word (noneLost word)) .number ≡ 0 = ap (λ o. o .number) (codeword-stays good word s C) in
       record {
         yes = ((λ _. r), (λ _. k));
@@ -60,7 +60,7 @@ module _ (m w c : ℕ) (word : List ℕ) (good : Good m w c) (s : Symbols bytes 
 
   -- of another word
   checked-other : isCodeword bytes m w c word ≡ false → checkedOf m w c word ≡ Checked.Other (wholeGroup m w c word)
-  unfolding checkedOf
+  unfolding checkedIn
   checked-other e = rw (word-of-good m w c (length word) good (s .size), e)
 
   checked-no : isCodeword bytes m w c word ≡ false → CheckedAsRecovered m w c word

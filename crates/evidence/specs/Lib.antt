@@ -1,10 +1,12 @@
 pub mod WordSums
 pub mod WordSumsLaws
+pub mod WideSumsLaws
 pub mod HandSums
 pub mod HandSumsLaws
 pub mod AcrossServices
 pub mod AcrossServicesLaws
 pub mod BytesLaws
+pub mod WideLaws
 pub mod PaperSession
 pub mod PaperSessionLaws
 pub mod NineLines

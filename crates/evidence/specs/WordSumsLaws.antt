@@ -5,7 +5,7 @@ use mathlib.Core.List.{List, [], _∷_}
 use Prim.Native.Nat.{ℕ, _<_, _≤_}
 use native.Mathlib.Omega.{arith}
 use native.Mathlib.Decide.{decLt}
-use lib.Dec.{T, ltb, ltb→lt, eqb, eqb→eq}
+use lib.Dec.{T, ltb, ltb→lt, eqb, eqb→eq, lit<}
 use lib.ListN.{length, getD, List·getD-eq-default}
 use Rattle.counting.specs.Test.{allBelow, either}
 use Rattle.counting.specs.TestLaws.{all-at}
@@ -38,12 +38,16 @@ use Rattle.stream.specs.NoneLostLaws.{other-nine}
 use Rattle.evidence.specs.WordSums.{number, outcomeList}
 
 -- ---- computed tests
--- all bytes of a list
-small : (xs : List ℕ) → T (allBelow (length xs) (λ p. ltb (getD xs p 0) 256)) → (p : ℕ) → getD xs p 0 < 256
-small xs t p = elim (decLt p (length xs)) [
-  | yes h ↦ ltb→lt (getD xs p 0) 256 (all-at (length xs) (λ p. ltb (getD xs p 0) 256) t p h)
-  | no h ↦ (let k : length xs ≤ p = omega arith in subst (λ n. n < 256) (sym (List·getD-eq-default xs 0 k)) (omega arith))
+-- all numbers of a list are below a bound
+pub below : (n : ℕ) → 0 < n → (xs : List ℕ) → T (allBelow (length xs) (λ p. ltb (getD xs p 0) n)) → (p : ℕ) → getD xs p 0 < n
+below n pos xs t p = elim (decLt p (length xs)) [
+  | yes h ↦ ltb→lt (getD xs p 0) n (all-at (length xs) (λ p. ltb (getD xs p 0) n) t p h)
+  | no h ↦ (let k : length xs ≤ p = omega arith in subst (λ v. v < n) (sym (List·getD-eq-default xs 0 k)) pos)
 ]
+
+-- all are bytes
+small : (xs : List ℕ) → T (allBelow (length xs) (λ p. ltb (getD xs p 0) 256)) → (p : ℕ) → getD xs p 0 < 256
+small = below 256 (lit< tt)
 
 -- two words at the present places
 agree : (n : ℕ) (marks x y : List ℕ) → T (allBelow n (λ p. either (lost marks p) (eqb (getD x p 0) (getD y p 0)))) → Agree n marks x y
@@ -108,7 +112,7 @@ unfolding called threeLost firstThree secondWord
 three-lost =
     let e = three-called .1 in
     ap outcomeList
-    (service-done 2 3 1 threeLost firstThree (accepted 2 3 1 threeLost firstThree 0 (three-called .0) refl) (small threeLost tt) secondWord (omega arith) three-agrees)
+    (service-done bytes-sound 2 3 1 threeLost firstThree (accepted 2 3 1 threeLost firstThree 0 (three-called .0) refl) (small threeLost tt) secondWord (omega arith) three-agrees)
 
 pub three-done : number ((recoverOf 2 3 1 (255 ∷ 255 ∷ 255 ∷ 78 ∷ 206 ∷ 128 ∷ []) (1 ∷ 1 ∷ 1 ∷ 0 ∷ 0 ∷ 0 ∷ [])) .number) ≡ number 0
 three-done = ap (λ l. number (getD l 0 0)) three-lost
@@ -130,7 +134,7 @@ pub five-lost : outcomeList (recoverOf 2 3 1 (1 ∷ 1 ∷ 0 ∷ 78 ∷ 206 ∷ 1
 unfolding called firstFive secondWord
 five-lost =
     let e = five-called .1 in
-    ap outcomeList (service-eight 2 3 1 secondWord firstFive (accepted 2 3 1 secondWord firstFive 0 (five-called .0) refl) (small secondWord tt) (omega arith))
+    ap outcomeList (service-eight bytes-sound 2 3 1 secondWord firstFive (accepted 2 3 1 secondWord firstFive 0 (five-called .0) refl) (small secondWord tt) (omega arith))
 
 pub five-excess : number (excess 2 3 1 (1 ∷ 1 ∷ 1 ∷ 1 ∷ 1 ∷ 0 ∷ [])) ≡ number 3
 unfolding called firstFive
@@ -157,7 +161,7 @@ pub two-lost : recoverOf 2 3 1 (1 ∷ 0 ∷ 0 ∷ 78 ∷ 0 ∷ 128 ∷ []) (0 �
 unfolding called twoLost secondFifth secondWord
 two-lost =
     let e = two-called .1 in
-    service-done 2 3 1 twoLost secondFifth (accepted 2 3 1 twoLost secondFifth 0 (two-called .0) refl) (small twoLost tt) secondWord (omega arith) two-agrees
+    service-done bytes-sound 2 3 1 twoLost secondFifth (accepted 2 3 1 twoLost secondFifth 0 (two-called .0) refl) (small twoLost tt) secondWord (omega arith) two-agrees
 
 -- the first five lost
 fiveLost : List ℕ
@@ -172,7 +176,7 @@ pub five-lost-again : recoverOf 2 3 1 (0 ∷ 0 ∷ 0 ∷ 0 ∷ 0 ∷ 128 ∷ [])
 unfolding called firstFive fiveLost
 five-lost-again =
     let e = five-again .1 in
-    service-eight 2 3 1 fiveLost firstFive (accepted 2 3 1 fiveLost firstFive 0 (five-again .0) refl) (small fiveLost tt) (omega arith)
+    service-eight bytes-sound 2 3 1 fiveLost firstFive (accepted 2 3 1 fiveLost firstFive 0 (five-again .0) refl) (small fiveLost tt) (omega arith)
 
 -- "Nothing lost, last byte 129: 9"
 lastChanged : List ℕ
@@ -221,7 +225,7 @@ unfolding called lastChanged lastLost secondWord
 last-lost =
     let e = lost-called .1 in
     ap outcomeList
-    (service-done 2 3 1 lastChanged lastLost (accepted 2 3 1 lastChanged lastLost 0 (lost-called .0) refl) (small lastChanged tt) secondWord (omega arith) lost-agrees)
+    (service-done bytes-sound 2 3 1 lastChanged lastLost (accepted 2 3 1 lastChanged lastLost 0 (lost-called .0) refl) (small lastChanged tt) secondWord (omega arith) lost-agrees)
 
 -- nothing lost, the bytes of the second group 0: each group meets its own equation and the equations across fail
 secondZero : List ℕ

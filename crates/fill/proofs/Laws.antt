@@ -16,9 +16,8 @@ use Rattle.binary_field.specs.Product.{product}
 use Rattle.binary_field.specs.ProductLaws.{product-comm}
 use Rattle.binary_field.specs.Sum.{sumBelow, innerProduct}
 use Rattle.binary_field.specs.SumLaws.{sum-ext}
-use Rattle.code.specs.Edition.{times, raised}
+use Rattle.code.specs.Edition.{Edition, Sound, times, raised}
 use Rattle.byte_edition.specs.Edition.{bytes}
-use Rattle.byte_edition.specs.EditionLaws.{bytes-sound}
 use Rattle.code.specs.Word.{groupSum, localSum}
 use Rattle.code.specs.Marks.{lost, lostIn}
 use Rattle.code.specs.StretchLaws.{own-place}
@@ -26,12 +25,12 @@ use Rattle.coefficients.specs.Rows.{powerRows, noRow}
 use Rattle.coefficients.specs.RowsLaws.{power-at}
 use Rattle.solve.specs.Elimination.{entry, eliminated}
 use Rattle.solve.specs.Steps.{System}
-use Rattle.solve.specs.BytesLaws.{solution}
+use Rattle.solve.specs.SolutionLaws.{solution}
 use Rattle.fill.specs.Positions.{Positions}
 use Rattle.fill.specs.Placed.{placed}
 use Rattle.fill.specs.PlacedLaws.{length-placed, placed-other, placed-at, placed-sum}
-use Rattle.fill.specs.EquationsLaws.{Equations, independent}
-use Rattle.fill.specs.Filled.{Filled}
+use Rattle.fill.specs.EquationsLaws.{EquationsIn, independent}
+use Rattle.fill.specs.Filled.{FilledIn}
 
 -- what holds of each element before i, and of v, holds up to i once v is written there
 pub each-set : {A : Type 0} (P : ℕ → A → Type 0) (xs : List A) (i : ℕ) (v d : A) → i < length xs → ((j : ℕ) → j < i → P j (getD xs j d)) → P i v
@@ -79,8 +78,8 @@ syndrome part e h l =
 
 -- ---- the lost places filled
 -- more than four are lost
-pub unchanged : (marks xs : List ℕ) (t : ℕ) → t ≡ lostIn (length marks) marks 0 → 4 < t → Filled marks xs xs
-unchanged marks xs t e h = record {
+pub unchanged : (E : Edition) (marks xs : List ℕ) (t : ℕ) → t ≡ lostIn (length marks) marks 0 → 4 < t → FilledIn E marks xs xs
+unchanged E marks xs t e h = record {
   size = refl;
   present = λ _ _. refl;
   zero = λ _ s l. let q = ap (λ w. lostIn w marks 0) s in absurd (omega arith);
@@ -116,22 +115,23 @@ module _ (marks xs ys zs at : List ℕ) (Z M N : List (List ℕ)) (t : ℕ) (P :
     | no l ↦ (let a = P .ascending j i (omega arith) hi in omega arith)
   ]
 
-  module _ (blank : (i : ℕ) → entry Z i 4 ≡ 0) (fits : length xs ≤ 16) (S : System 8 M t) (Q : Equations ys at t M) (hN : N ≡ eliminated 8 285 M t) where
-    solved : (e : ℕ) → e < t → sumBelow t (λ i. times bytes (entry N i 4) (raised bytes (bytes .locator (getD at i 0)) e)) ≡ localSum bytes (length ys) ys 0 e
+  module _ (E : Edition) (T : Sound E) (blank : (i : ℕ) → entry Z i 4 ≡ 0) (fits : length xs ≤ E .small) (S : System (E .bits) M t) (Q : EquationsIn E ys at t M)
+      (hN : N ≡ eliminated (E .bits) (E .poly) M t) where
+    solved : (e : ℕ) → e < t → sumBelow t (λ i. times E (entry N i 4) (raised E (E .locator (getD at i 0)) e)) ≡ localSum E (length ys) ys 0 e
     solved e h =
-        sum-ext t _ _ (λ i l. product-comm 8 285 _ _ ∙ ap₂ (product 8 285) (sym (Q e h .left i l)) (ap (λ A. entry A i 4) hN))
-        ∙ solution M t S
-        (independent bytes bytes-sound t (λ i. getD at i 0) (λ i l. let b = P .inside i l in omega arith) apart M (λ e i he hi. Q e he .left i hi)) 4 .solves e h
+        sum-ext t _ _ (λ i l. product-comm (E .bits) (E .poly) _ _ ∙ ap₂ (times E) (sym (Q e h .left i l)) (ap (λ A. entry A i 4) hN))
+        ∙ solution (E .bits) (E .poly) (T .facts .pos) (T .facts .values) (T .facts .tested) M t S
+        (independent E T t (λ i. getD at i 0) (λ i l. let b = P .inside i l in omega arith) apart M (λ e i he hi. Q e he .left i hi)) 4 .solves e h
         ∙ Q e h .right
 
-    sums-zero : (e : ℕ) → e < t → localSum bytes (length ys) zs 0 e ≡ 0
+    sums-zero : (e : ℕ) → e < t → localSum E (length ys) zs 0 e ≡ 0
     sums-zero e h =
-        ap (λ l. localSum bytes (length ys) l 0 e) hz
-        ∙ placed-sum ys at N t (P .ascending) (λ i l. rw same-size (P .inside i l)) bytes
+        ap (λ l. localSum E (length ys) l 0 e) hz
+        ∙ placed-sum ys at N t (P .ascending) (λ i l. rw same-size (P .inside i l)) E
         (λ i l. ap (λ l. getD l (getD at i 0) 0) hy ∙ placed-at xs at Z t (P .ascending) (P .inside) i l ∙ blank i) e
-        ∙ ap (λ s. localSum bytes (length ys) ys 0 e ⊕ s) (solved e h) ∙ ⊕-self _
+        ∙ ap (λ s. localSum E (length ys) ys 0 e ⊕ s) (solved e h) ∙ ⊕-self _
 
-    pub filled : length marks ≡ length xs → t ≤ 4 → t ≡ lostIn (length xs) marks 0 → Filled marks xs zs
+    pub filled : length marks ≡ length xs → t ≤ 4 → t ≡ lostIn (length xs) marks 0 → FilledIn E marks xs zs
     filled same few ht = record {
       size = ap length hz ∙ length-placed ys at N t ∙ same-size;
       present = kept;

@@ -22,13 +22,21 @@ use Rattle.solve.specs.Elimination.{row, entry}
 use Rattle.solve.specs.Kernel.{TrivialKernel}
 
 -- the equation e of t positions: the powers of their locators, and on the right side the syndrome of the rest
-pub record Equation (part at : List ℕ) (t e : ℕ) (r : List ℕ) : Type 0 where
-  pub left : (i : ℕ) → i < t → getD r i 0 ≡ raised bytes (bytes .locator (getD at i 0)) e
-  pub right : getD r 4 0 ≡ localSum bytes (length part) part 0 e
+pub record EquationIn (E : Edition) (part at : List ℕ) (t e : ℕ) (r : List ℕ) : Type 0 where
+  pub left : (i : ℕ) → i < t → getD r i 0 ≡ raised E (E .locator (getD at i 0)) e
+  pub right : getD r 4 0 ≡ localSum E (length part) part 0 e
 
 -- the first t of them
+abbrev pub EquationsIn : Edition → List ℕ → List ℕ → ℕ → List (List ℕ) → Type 0
+EquationsIn E part at t M = (e : ℕ) → e < t → EquationIn E part at t e (row M e)
+
+-- one of bytes
+abbrev pub Equation : List ℕ → List ℕ → ℕ → ℕ → List ℕ → Type 0
+Equation = EquationIn bytes
+
+-- and the first t
 abbrev pub Equations : List ℕ → List ℕ → ℕ → List (List ℕ) → Type 0
-Equations part at t M = (e : ℕ) → e < t → Equation part at t e (row M e)
+Equations = EquationsIn bytes
 
 -- any t columns of t rows of powers of different locators are independent
 module _ (E : Edition) (S : Sound E) (t : ℕ) (at : ℕ → ℕ) (inside : (i : ℕ) → i < t → at i < E .small)

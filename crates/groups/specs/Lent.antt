@@ -3,9 +3,13 @@ use mathlib.Core.Path.{_≡_}
 use mathlib.Core.List.{List}
 use Prim.Native.Nat.{ℕ, _*_}
 use lib.ListN.{length}
-use Rattle.shape.specs.Shapes.{Good}
+use Rattle.shape.specs.Shapes.{Limits, GoodIn, byteLimits}
 
 -- a good shape and a list of its length
-pub record Lent (m w c : ℕ) (xs : List ℕ) : Type 0 where
-  pub good : Good m w c
+pub record LentIn (B : Limits) (m w c : ℕ) (xs : List ℕ) : Type 0 where
+  pub good : GoodIn B m w c
   pub size : length xs ≡ m * w
+
+-- in the edition of bytes
+abbrev pub Lent : ℕ → ℕ → ℕ → List ℕ → Type 0
+Lent = LentIn byteLimits

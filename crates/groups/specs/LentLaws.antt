@@ -6,14 +6,18 @@ use native.Mathlib.Nat.{suc-mul, mul-le-mul-right}
 use native.Mathlib.Omega.{arith}
 use lib.ListN.{length, take, drop}
 use lib.Seq.{drop-drop}
-use Rattle.shape.specs.Shapes.{wordRefusal}
+use Rattle.shape.specs.Shapes.{Limits, byteLimits, wordRefusalIn, wordRefusal}
 use Rattle.shape.specs.Laws.{good-of-word, word-of-good}
 use Rattle.code.specs.Stretch.{stretch, withStretch}
 use Rattle.code.specs.StretchLaws.{stretch-length}
-use Rattle.groups.specs.Lent.{Lent}
+use Rattle.groups.specs.Lent.{LentIn, Lent}
 
+pub lent-in : (B : Limits) (m w c : ℕ) (xs : List ℕ) → wordRefusalIn B m w c (length xs) ≡ 0 → LentIn B m w c xs
+lent-in B m w c xs e = let g = good-of-word m w c (length xs) e in record { good = g .0; size = g .1 }
+
+-- in the edition of bytes
 pub lent : (m w c : ℕ) (xs : List ℕ) → wordRefusal m w c (length xs) ≡ 0 → Lent m w c xs
-lent m w c xs e = let g = good-of-word m w c (length xs) e in record { good = g .0; size = g .1 }
+lent m w c xs e = lent-in byteLimits m w c xs e
 
 pub not-refused : (m w c : ℕ) (xs : List ℕ) → Lent m w c xs → wordRefusal m w c (length xs) ≡ 0
 not-refused m w c xs L = word-of-good m w c (length xs) (L .good) (L .size)
@@ -23,7 +27,7 @@ pub stretch-lent : (w g : ℕ) (xs : List ℕ) → take (g * w + w - g * w) (dro
 unfolding stretch
 stretch-lent w g xs = let e : g * w + w - g * w ≡ w = omega arith in ap (λ n. take n (drop (g * w) xs)) e
 
-module _ {m w c : ℕ} {xs : List ℕ} (L : Lent m w c xs) (g : ℕ) (l : g < m) where
+module _ {B : Limits} {m w c : ℕ} {xs : List ℕ} (L : LentIn B m w c xs) (g : ℕ) (l : g < m) where
   -- the stretch of group g lies within the list
   pub group-fits : suc g * w ≤ length xs
   group-fits = subst (λ n. suc g * w ≤ n) (sym (L .size)) (mul-le-mul-right w l)
@@ -39,8 +43,8 @@ module _ {m w c : ℕ} {xs : List ℕ} (L : Lent m w c xs) (g : ℕ) (l : g < m)
     pub part-length : length part ≡ w
     part-length = ap length part-stretch ∙ stretch-length w g xs group-fits
 
-    pub part-narrow : length part ≤ 16
-    part-narrow = subst (λ n. n ≤ 16) (sym part-length) (L .good .narrow)
+    pub part-narrow : length part ≤ B .width
+    part-narrow = subst (λ n. n ≤ B .width) (sym part-length) (L .good .narrow)
 
 -- the list with the part from g·w to g·w + w replaced
 pub with-lent : (w g : ℕ) (xs part : List ℕ) → take (g * w) xs ++ (part ++ drop (g * w + w - g * w) (drop (g * w) xs)) ≡ withStretch w g xs part

@@ -22,8 +22,12 @@ judgedAt zero = Judged.Determined
 judgedAt (suc r) = Judged.Refused (suc r)
 
 -- of any call
-unfoldable pub judgedOf : ℕ → ℕ → ℕ → List ℕ → Judged
-judgedOf m w c marks = judgedAt (judgedNumberOf m w c marks)
+unfoldable pub judgedIn : Limits → ℕ → ℕ → ℕ → List ℕ → Judged
+judgedIn L m w c marks = judgedAt (judgedNumberIn L m w c marks)
+
+-- in the edition of bytes
+abbrev pub judgedOf : ℕ → ℕ → ℕ → List ℕ → Judged
+judgedOf = judgedIn byteLimits
 
 -- the number given back, 0 for determined
 abbrev pub judgedNumber : Judged → ℕ

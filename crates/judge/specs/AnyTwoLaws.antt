@@ -5,29 +5,30 @@ use mathlib.Core.List.{List}
 use Prim.Native.Nat.{ℕ, _≤_, _<_}
 use native.Mathlib.Decide.{decLe}
 use native.Mathlib.Omega.{arith}
-use Rattle.byte_edition.specs.Edition.{bytes}
-use Rattle.byte_edition.specs.EditionLaws.{bytes-sound, bytes-few}
+use Rattle.code.specs.Edition.{Edition, Sound}
 use Rattle.code.specs.Marks.{excess}
 use Rattle.code.specs.Determined.{Ambiguous}
 use Rattle.code.specs.DeterminedLaws.{beyond}
-use Rattle.marks.specs.Refusal.{marksRefusal}
+use Rattle.marks.specs.Refusal.{marksRefusalIn}
 use Rattle.marks.specs.RefusalLaws.{good-of-marks}
-use Rattle.judge.specs.Answer.{judgedNumberOf}
+use Rattle.judge.specs.Answer.{judgedNumberIn}
 use Rattle.judge.specs.Laws.{zero-excess}
 
-module _ (m w c : ℕ) (marks : List ℕ) (accepted : marksRefusal m w c marks ≡ 0) (h₁ h₂ : ℕ → ℕ → ℕ) where
+module _ {E : Edition} (S : Sound E) (m w c : ℕ) (marks : List ℕ) (accepted : marksRefusalIn (E .limits) m w c marks ≡ 0) (h₁ h₂ : ℕ → ℕ → ℕ) where
   -- "For every pattern with excess above 2 there are then two different words that meet those equations and agree at all present places."
-  pub any-two : 2 < excess m w c marks → Ambiguous bytes m w c marks h₁ h₂
+  pub any-two : 2 < excess m w c marks → Ambiguous E m w c marks h₁ h₂
   any-two l =
       let g = good-of-marks m w c marks accepted .good in
-      let wide : 0 < w = omega arith in
-      beyond bytes bytes-sound m w c (bytes-few (g .few)) wide (g .narrow) marks h₁ h₂ l
+      let few : m ≤ S .r = omega (arith, S .groups-few, g .few) in
+      let wide : 0 < w = omega (arith, g .wide) in
+      let narrow : w ≤ E .small = omega (arith, S .width-narrow, g .narrow) in
+      beyond E S m w c few wide narrow marks h₁ h₂ l
 
   -- "our two mend all that any two could"
-  pub none-better : ¬ Ambiguous bytes m w c marks h₁ h₂ → judgedNumberOf m w c marks ≡ 0
-  none-better clear = zero-excess m w c marks accepted .1 (few clear)
+  pub none-better : ¬ Ambiguous E m w c marks h₁ h₂ → judgedNumberIn (E .limits) m w c marks ≡ 0
+  none-better clear = zero-excess (E .limits) m w c marks accepted .1 (few clear)
     where
-      few : ¬ Ambiguous bytes m w c marks h₁ h₂ → excess m w c marks ≤ 2
+      few : ¬ Ambiguous E m w c marks h₁ h₂ → excess m w c marks ≤ 2
       few clear = elim (decLe (excess m w c marks) 2) [
         | yes h ↦ h
         | no h ↦ absurd (clear (any-two (omega arith)))

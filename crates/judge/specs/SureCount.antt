@@ -4,16 +4,21 @@ use mathlib.Core.List.{List}
 use Prim.Native.Nat.{ℕ, _*_, _≤_}
 use Rattle.counting.specs.Count.{countBelow}
 use Rattle.code.specs.Marks.{lost}
-use Rattle.marks.specs.Refusal.{marksRefusal}
-use Rattle.judge.specs.Answer.{judgedNumberOf}
+use Rattle.shape.specs.Shapes.{Limits, byteLimits}
+use Rattle.marks.specs.Refusal.{marksRefusalIn}
+use Rattle.judge.specs.Answer.{judgedNumberIn}
 
 -- "every pattern of that many losses or fewer is judged 0"
-abbrev pub IsSure : ℕ → ℕ → ℕ → ℕ → Type 0
-IsSure m w c s = (marks : List ℕ) → marksRefusal m w c marks ≡ 0 → countBelow (m * w) (lost marks) ≤ s → judgedNumberOf m w c marks ≡ 0
+abbrev pub IsSureIn : Limits → ℕ → ℕ → ℕ → ℕ → Type 0
+IsSureIn L m w c s = (marks : List ℕ) → marksRefusalIn L m w c marks ≡ 0 → countBelow (m * w) (lost marks) ≤ s → judgedNumberIn L m w c marks ≡ 0
 
 -- a pattern of so many losses that is judged 8
-pub record Fails (m w c losses : ℕ) : Type 0 where
+pub record FailsIn (L : Limits) (m w c losses : ℕ) : Type 0 where
   pub marks : List ℕ
-  pub accepted : marksRefusal m w c marks ≡ 0
+  pub accepted : marksRefusalIn L m w c marks ≡ 0
   pub count : countBelow (m * w) (lost marks) ≡ losses
-  pub eight : judgedNumberOf m w c marks ≡ 8
+  pub eight : judgedNumberIn L m w c marks ≡ 8
+
+-- in the edition of bytes
+abbrev pub IsSure : ℕ → ℕ → ℕ → ℕ → Type 0
+IsSure = IsSureIn byteLimits

@@ -8,7 +8,7 @@ use native.Mathlib.Decide.{decLt, ℕ-discrete}
 use lib.ListN.{length, getD}
 use Rattle.counting.specs.Count.{totalBelow, countBelow, one}
 use Rattle.counting.specs.CountLaws.{total-none, total-suc, total-zero, total-first, total-rows, total-mono}
-use Rattle.shape.specs.Shapes.{Good, sureCount}
+use Rattle.shape.specs.Shapes.{Limits, GoodIn, sureCount}
 use Rattle.shape.specs.Laws.{sure-narrow, sure-wide}
 use Rattle.code.specs.Marks.{lost, lostIn, groupExcess, excess}
 use Rattle.marks.specs.CountsLaws.{lost-most}
@@ -102,8 +102,8 @@ many-lost m w c i r l h k =
     (omega arith, omega arith)
 
 -- one loss more than the sure count: "two groups, 2c+3 places in all" if w = c+2, one group and c+3 places otherwise
-pub first-many : {m w c : ℕ} → Good m w c → (sureCount w c + 1 ≤ m * w) × (2 < excess m w c (firstLost (m * w) (sureCount w c + 1)))
-first-many {m} {w} {c} g = elim (ℕ-discrete w (c + 2)) [
+pub first-many : {L : Limits} {m w c : ℕ} → GoodIn L m w c → (sureCount w c + 1 ≤ m * w) × (2 < excess m w c (firstLost (m * w) (sureCount w c + 1)))
+first-many {L} {m} {w} {c} g = elim (ℕ-discrete w (c + 2)) [
   | yes e ↦
       (let s = sure-narrow w c e in
       let d : w - c ≡ 2 = omega arith in

@@ -9,7 +9,8 @@ use Rattle.counting.specs.Count.{totalBelow, countBelow, one}
 use Rattle.counting.specs.CountLaws.{total-none, total-suc, total-ext, count-le}
 use Rattle.code.specs.Marks.{lost, lostIn, groupExcess, excess}
 use Rattle.code.specs.StretchLaws.{own-place, stretch-count}
-use Rattle.groups.specs.Lent.{Lent}
+use Rattle.shape.specs.Shapes.{Limits}
+use Rattle.groups.specs.Lent.{LentIn}
 use Rattle.groups.specs.LentLaws.{part-stretch, part-length}
 
 -- the places of one group's stretch, counted
@@ -31,9 +32,9 @@ unfolding excess
 excess-none w c marks = total-none _
 
 -- one turn of an excess: the part that is lent is the group's stretch
-pub excess-turn : {m w c : ℕ} {marks : List ℕ} (L : Lent m w c marks) (g : ℕ) → g < m → {part : List ℕ} → part ≡ take (g * w + w - g * w) (drop (g * w) marks)
+pub excess-turn : {B : Limits} {m w c : ℕ} {marks : List ℕ} (L : LentIn B m w c marks) (g : ℕ) → g < m → {part : List ℕ} → part ≡ take (g * w + w - g * w) (drop (g * w) marks)
     → excess (g + 1) w c marks ≡ excess g w c marks + (lostIn (length part) part 0 - c)
 unfolding excess
-excess-turn {m} {w} {c} {marks} L g l is =
+excess-turn {B} {m} {w} {c} {marks} L g l is =
     ap (λ n. totalBelow n (groupExcess w c marks)) (add-one g) ∙ total-suc g _
     ∙ ap (λ n. excess g w c marks + (n - c)) (sym (ap₂ (λ n x. lostIn n x 0) (part-length L g l is) (part-stretch L g l is) ∙ stretch-count w g marks))

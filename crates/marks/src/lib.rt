@@ -7,7 +7,7 @@ ghost use Rattle.code.specs.Marks.{lostIn, excess};
 ghost use Rattle.marks.specs.Refusal.{areMarks, marksRefusal};
 
 // Whether every mark is 0 or 1.
-fn are_marks(marks: &[u8]) -> bool
+pub fn are_marks(marks: &[u8]) -> bool
     ensures { λ r. ⌜ r ≡ areMarks (now (marks .entry)) ⌝ }
 {
     let mut i: usize = 0;
@@ -47,14 +47,14 @@ pub fn lost_in(part: &[u8]) -> usize
 }
 
 // l less c, or 0 if that is negative.
-fn less(l: usize, c: usize) -> usize
+pub fn less(l: usize, c: usize) -> usize
     ensures { λ r. ⌜ r ≡ l - c ⌝ }
 {
     if c < l { l - c } else { 0 }
 }
 
 // The smaller of two numbers.
-fn smaller(l: usize, c: usize) -> usize
+pub fn smaller(l: usize, c: usize) -> usize
     ensures { λ r. ⌜ r ≡ min l c ⌝ }
 {
     if l < c { l } else { c }

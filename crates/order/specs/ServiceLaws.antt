@@ -21,8 +21,6 @@ use Rattle.shape.specs.Shapes.{GoodIn, wordRefusalIn}
 use Rattle.shape.specs.Laws.{good-of-word}
 use Rattle.marks.specs.Refusal.{marksRefusalIn}
 use Rattle.marks.specs.RefusalLaws.{good-of-marks}
-use Rattle.byte_edition.specs.Edition.{bytes}
-use Rattle.byte_edition.specs.EditionLaws.{bytes-sound}
 use Rattle.code.specs.Edition.{Edition, Sound}
 use Rattle.code.specs.Word.{isLocal}
 use Rattle.code.specs.Marks.{excess, lostIn}
@@ -36,9 +34,9 @@ use Rattle.code.specs.Stretch.{stretch, withStretch}
 use Rattle.code.specs.StretchLaws.{stretch-length, stretch-below, with-before, with-inside, with-after, place-cases}
 use Rattle.code.specs.Order.{Held, pickHeld, afterRepair, afterRepairs, Fits, SameRecovery}
 use Rattle.code.specs.OrderLaws.{repairs-fit, order}
-use Rattle.recover.specs.Service.{unlessBefore, recoverRefusalIn, recoverOf, recoverIn}
+use Rattle.recover.specs.Service.{unlessBefore, recoverRefusalIn, recoverIn}
 use Rattle.recover.specs.DemandTwoLaws.{good-start}
-use Rattle.repair.specs.Service.{repairOf, repairIn, repairRefusalIn}
+use Rattle.repair.specs.Service.{repairIn, repairRefusalIn}
 use Rattle.repair.specs.ServiceLaws.{service-refused, refused-early}
 use Rattle.order.specs.Service.{held, leftBy, heldAfter, heldAfterList, recoverHeld, recoverAfter, Ready, OrderHolds}
 
@@ -207,45 +205,45 @@ module _ {E : Edition} (S : Sound E) (m w c : ℕ) (list word marks : List ℕ) 
   ]
 
 -- ---- a turn of the loop over the list, and its end
-module _ (m w c : ℕ) (list : List ℕ) (i : ℕ) (word marks : List ℕ) (end : Held) (left : heldAfterList bytes m w c (drop i list) (held word marks) ≡ end) where
-  pub list-turn : i < length list → (word′ marks′ : List ℕ) → word′ ≡ (repairOf m w c (getD list i 0) word marks) .word
-      → marks′ ≡ (repairOf m w c (getD list i 0) word marks) .marks → heldAfterList bytes m w c (drop (i + 1) list) (held word′ marks′) ≡ end
+module _ (E : Edition) (m w c : ℕ) (list : List ℕ) (i : ℕ) (word marks : List ℕ) (end : Held) (left : heldAfterList E m w c (drop i list) (held word marks) ≡ end) where
+  pub list-turn : i < length list → (word′ marks′ : List ℕ) → word′ ≡ (repairIn E m w c (getD list i 0) word marks) .word
+      → marks′ ≡ (repairIn E m w c (getD list i 0) word marks) .marks → heldAfterList E m w c (drop (i + 1) list) (held word′ marks′) ≡ end
   unfolding heldAfterList heldAfter
   list-turn l word′ marks′ p q =
-      ap₂ (λ x y. heldAfterList bytes m w c (drop (i + 1) list) (held x y)) p q
-      ∙ ap (λ n. heldAfterList bytes m w c (drop n list) (heldAfter bytes m w c (getD list i 0) (held word marks))) (add-one i)
-      ∙ ap (λ gs. heldAfterList bytes m w c gs (held word marks)) (sym (drop-cons list i 0 l)) ∙ left
+      ap₂ (λ x y. heldAfterList E m w c (drop (i + 1) list) (held x y)) p q
+      ∙ ap (λ n. heldAfterList E m w c (drop n list) (heldAfter E m w c (getD list i 0) (held word marks))) (add-one i)
+      ∙ ap (λ gs. heldAfterList E m w c gs (held word marks)) (sym (drop-cons list i 0 l)) ∙ left
 
   pub list-end : length list ≤ i → held word marks ≡ end
   unfolding heldAfterList
-  list-end l = ap (λ gs. heldAfterList bytes m w c gs (held word marks)) (sym (drop-of-length-le list l)) ∙ left
+  list-end l = ap (λ gs. heldAfterList E m w c gs (held word marks)) (sym (drop-of-length-le list l)) ∙ left
 
 -- ---- the contract, from what the calls say: word₁ and marks₁ stand before the recovery, word₂ and marks₂ after it
-module _ (m w c : ℕ) (list word marks word₁ marks₁ word₂ marks₂ : List ℕ) (r : Mending) (small : (p : ℕ) → getD word p 0 < 256)
-    (before : held word₁ marks₁ ≡ heldAfterList bytes m w c list (held word marks)) (answer-is : r ≡ mendingAt ((recoverOf m w c word₁ marks₁) .number) ((recoverOf m w c word₁ marks₁) .group))
-    (word-is : word₂ ≡ (recoverOf m w c word₁ marks₁) .word) (marks-is : marks₂ ≡ (recoverOf m w c word₁ marks₁) .marks) where
-  outcome : recoverOf m w c word₁ marks₁ ≡ recoverAfter bytes m w c list word marks
-  outcome = ap (recoverHeld bytes m w c) before
+module _ {E : Edition} (sound : Sound E) (m w c : ℕ) (list word marks word₁ marks₁ word₂ marks₂ : List ℕ) (r : Mending) (small : (p : ℕ) → getD word p 0 < 2 ^ E .bits)
+    (before : held word₁ marks₁ ≡ heldAfterList E m w c list (held word marks)) (answer-is : r ≡ mendingAt ((recoverIn E m w c word₁ marks₁) .number) ((recoverIn E m w c word₁ marks₁) .group))
+    (word-is : word₂ ≡ (recoverIn E m w c word₁ marks₁) .word) (marks-is : marks₂ ≡ (recoverIn E m w c word₁ marks₁) .marks) where
+  outcome : recoverIn E m w c word₁ marks₁ ≡ recoverAfter E m w c list word marks
+  outcome = ap (recoverHeld E m w c) before
 
-  S : SameEnd (recoverAfter bytes m w c list word marks) (recoverOf m w c word marks)
-  S = same-recovery bytes-sound m w c list word marks small
+  S : SameEnd (recoverAfter E m w c list word marks) (recoverIn E m w c word marks)
+  S = same-recovery sound m w c list word marks small
 
-  pub after-answer : r ≡ mendingAt ((recoverAfter bytes m w c list word marks) .number) ((recoverAfter bytes m w c list word marks) .group)
+  pub after-answer : r ≡ mendingAt ((recoverAfter E m w c list word marks) .number) ((recoverAfter E m w c list word marks) .group)
   after-answer = answer-is ∙ ap (λ o. mendingAt (o .number) (o .group)) outcome
 
-  pub after-word : word₂ ≡ (recoverAfter bytes m w c list word marks) .word
+  pub after-word : word₂ ≡ (recoverAfter E m w c list word marks) .word
   after-word = word-is ∙ ap (λ o. o .word) outcome
 
-  pub after-marks : marks₂ ≡ (recoverAfter bytes m w c list word marks) .marks
+  pub after-marks : marks₂ ≡ (recoverAfter E m w c list word marks) .marks
   after-marks = marks-is ∙ ap (λ o. o .marks) outcome
 
   -- the clauses in their order
-  pub contract : (r ≡ mendingAt ((recoverAfter bytes m w c list word marks) .number) ((recoverAfter bytes m w c list word marks) .group))
-      × ((word₂ ≡ (recoverAfter bytes m w c list word marks) .word)
-      × ((marks₂ ≡ (recoverAfter bytes m w c list word marks) .marks)
-      × ((r ≡ mendingAt ((recoverOf m w c word marks) .number) ((recoverOf m w c word marks) .group))
-      × (((recoverOf m w c word marks) .number ≡ 0 → word₂ ≡ (recoverOf m w c word marks) .word)
-      × ((recoverOf m w c word marks) .number ≡ 0 → marks₂ ≡ (recoverOf m w c word marks) .marks)))))
+  pub contract : (r ≡ mendingAt ((recoverAfter E m w c list word marks) .number) ((recoverAfter E m w c list word marks) .group))
+      × ((word₂ ≡ (recoverAfter E m w c list word marks) .word)
+      × ((marks₂ ≡ (recoverAfter E m w c list word marks) .marks)
+      × ((r ≡ mendingAt ((recoverIn E m w c word marks) .number) ((recoverIn E m w c word marks) .group))
+      × (((recoverIn E m w c word marks) .number ≡ 0 → word₂ ≡ (recoverIn E m w c word marks) .word)
+      × ((recoverIn E m w c word marks) .number ≡ 0 → marks₂ ≡ (recoverIn E m w c word marks) .marks)))))
   contract = (
     after-answer,
     (

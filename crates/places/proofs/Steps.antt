@@ -8,7 +8,7 @@ use native.Mathlib.Numerals.{add-one}
 use native.Mathlib.Omega.{arith}
 use lib.ListN.{length, getD, take, set}
 use lib.Seq.{take-suc-set, take-all}
-use Rattle.shape.specs.Shapes.{Good, placeCount, dataCount}
+use Rattle.shape.specs.Shapes.{Limits, GoodIn, placeCount, dataCount}
 use Rattle.places.specs.Laws.{data-length}
 use Rattle.places.specs.Places.{isCheck, othersFrom, dataPlaces, bytesAt, extractOf}
 
@@ -42,7 +42,7 @@ module _ (check : ℕ → Bool) (p n : ℕ) (l : n ≤ p) where
   copy-end word d i h = rw (others-end, append-nil, take-all i d h)
 
 module _ (m w c n : ℕ) (e : n ≡ placeCount m w) where
-  pub others-start : Good m w c → length (othersFrom (isCheck m w c) 0 (n - 0)) ≡ dataCount m w c
+  pub others-start : {L : Limits} → GoodIn L m w c → length (othersFrom (isCheck m w c) 0 (n - 0)) ≡ dataCount m w c
   unfolding dataPlaces
   others-start g = rw (sub-zero n, e) (data-length g)
 

@@ -9,9 +9,9 @@ use native.Mathlib.Omega.{arith}
 use lib.Dec.{eqb, leb}
 use lib.ListN.{length, getD, length-map}
 use borrow.Author.Tests.{le-leb, lt-leb, eq-eqb, ne-eqb}
-use Rattle.shape.specs.Shapes.{Limits, GoodIn, Good, placeCount, dataCount}
+use Rattle.shape.specs.Shapes.{Limits, GoodIn, placeCount, dataCount}
 use Rattle.shape.specs.Laws.{data-and-checks, word-of-good, buffers-of-good}
-use Rattle.places.specs.Places.{isCheck, othersFrom, dataPlaces, bytesAt, extractOf, placedOf, mark, checkMarks, extractedData, placedWord, markedChecks}
+use Rattle.places.specs.Places.{isCheck, othersFrom, dataPlaces, bytesAt, extractOf, placedOf, mark, checkMarks, extractedDataIn, placedWordIn, markedChecksIn}
 use Rattle.counting.specs.Count.{totalBelow, countBelow, one}
 use Rattle.counting.specs.CountLaws.{total-append, count-ext}
 use Rattle.places.specs.CountLaws.{count-from}
@@ -79,18 +79,18 @@ module _ {L : Limits} {m w c : ℕ} (good : GoodIn L m w c) where
   unfolding extractOf placedOf dataPlaces bytesAt
   extract-placed bytes e = FromLaws.others-spread (isCheck m w c) 0 (placeCount m w) [] bytes refl (e ∙ sym data-length)
 
--- of bytes: what a call that is not refused leaves
-module _ {m w c : ℕ} (good : Good m w c) where
-  pub extracted-data : (word bytes : List ℕ) → length word ≡ placeCount m w → length bytes ≡ dataCount m w c → extractedData m w c word bytes ≡ extractOf m w c word
-  unfolding extractedData
+-- what a call that is not refused leaves
+module _ {L : Limits} {m w c : ℕ} (good : GoodIn L m w c) where
+  pub extracted-data : (word bytes : List ℕ) → length word ≡ placeCount m w → length bytes ≡ dataCount m w c → extractedDataIn L m w c word bytes ≡ extractOf m w c word
+  unfolding extractedDataIn
   extracted-data word bytes e f = rw (buffers-of-good m w c (length word) (length bytes) good e f)
 
-  pub placed-word : (bytes word : List ℕ) → length word ≡ placeCount m w → length bytes ≡ dataCount m w c → placedWord m w c bytes word ≡ placedOf m w c bytes
-  unfolding placedWord
+  pub placed-word : (bytes word : List ℕ) → length word ≡ placeCount m w → length bytes ≡ dataCount m w c → placedWordIn L m w c bytes word ≡ placedOf m w c bytes
+  unfolding placedWordIn
   placed-word bytes word e f = rw (buffers-of-good m w c (length word) (length bytes) good e f)
 
-  pub marked-checks : (marks : List ℕ) → length marks ≡ placeCount m w → markedChecks m w c marks ≡ checkMarks m w c
-  unfolding markedChecks
+  pub marked-checks : (marks : List ℕ) → length marks ≡ placeCount m w → markedChecksIn L m w c marks ≡ checkMarks m w c
+  unfolding markedChecksIn
   marked-checks marks e = rw (word-of-good m w c (length marks) good e)
 
 module _ (m w c : ℕ) where

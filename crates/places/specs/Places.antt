@@ -5,7 +5,7 @@ use Prim.Native.Nat.{ℕ, zero, suc, _+_, _/_, _%_}
 use lib.Dec.{eqb, leb}
 use lib.ListN.{length, getD, drop}
 use Rattle.shape.specs.Refusals.{unlessRefused}
-use Rattle.shape.specs.Shapes.{placeCount, wordRefusal, bufferRefusal}
+use Rattle.shape.specs.Shapes.{Limits, byteLimits, placeCount, wordRefusalIn, bufferRefusalIn}
 use Rattle.shape.specs.declared.Answer.{Answer}
 use Rattle.shape.specs.Answers.{answerAt}
 
@@ -56,17 +56,33 @@ unfoldable pub checkMarks : ℕ → ℕ → ℕ → List ℕ
 checkMarks m w c = marksFrom (isCheck m w c) 0 (placeCount m w)
 
 -- what Extract answers
-unfoldable pub extractedOf : ℕ → ℕ → ℕ → List ℕ → List ℕ → Answer
-extractedOf m w c word bytes = answerAt (bufferRefusal m w c (length word) (length bytes))
+unfoldable pub extractedIn : Limits → ℕ → ℕ → ℕ → List ℕ → List ℕ → Answer
+extractedIn L m w c word bytes = answerAt (bufferRefusalIn L m w c (length word) (length bytes))
 
 -- the data buffer at the end
-unfoldable pub extractedData : ℕ → ℕ → ℕ → List ℕ → List ℕ → List ℕ
-extractedData m w c word bytes = unlessRefused (bufferRefusal m w c (length word) (length bytes)) (extractOf m w c word) bytes
+unfoldable pub extractedDataIn : Limits → ℕ → ℕ → ℕ → List ℕ → List ℕ → List ℕ
+extractedDataIn L m w c word bytes = unlessRefused (bufferRefusalIn L m w c (length word) (length bytes)) (extractOf m w c word) bytes
 
 -- the word buffer after place, and the marks after mark_checks
-unfoldable pub placedWord : ℕ → ℕ → ℕ → List ℕ → List ℕ → List ℕ
-placedWord m w c bytes word = unlessRefused (bufferRefusal m w c (length word) (length bytes)) (placedOf m w c bytes) word
+unfoldable pub placedWordIn : Limits → ℕ → ℕ → ℕ → List ℕ → List ℕ → List ℕ
+placedWordIn L m w c bytes word = unlessRefused (bufferRefusalIn L m w c (length word) (length bytes)) (placedOf m w c bytes) word
 
 -- unless shape or length is refused
-unfoldable pub markedChecks : ℕ → ℕ → ℕ → List ℕ → List ℕ
-markedChecks m w c marks = unlessRefused (wordRefusal m w c (length marks)) (checkMarks m w c) marks
+unfoldable pub markedChecksIn : Limits → ℕ → ℕ → ℕ → List ℕ → List ℕ
+markedChecksIn L m w c marks = unlessRefused (wordRefusalIn L m w c (length marks)) (checkMarks m w c) marks
+
+-- Extract in the edition of bytes: its answer
+abbrev pub extractedOf : ℕ → ℕ → ℕ → List ℕ → List ℕ → Answer
+extractedOf = extractedIn byteLimits
+
+-- and the data buffer at the end
+abbrev pub extractedData : ℕ → ℕ → ℕ → List ℕ → List ℕ → List ℕ
+extractedData = extractedDataIn byteLimits
+
+-- the word buffer after place
+abbrev pub placedWord : ℕ → ℕ → ℕ → List ℕ → List ℕ → List ℕ
+placedWord = placedWordIn byteLimits
+
+-- and the marks after mark_checks
+abbrev pub markedChecks : ℕ → ℕ → ℕ → List ℕ → List ℕ
+markedChecks = markedChecksIn byteLimits

@@ -14,7 +14,7 @@ use Rattle.shape.specs.RefusalsLaws.{orElse-zero, orElse-first}
 use Rattle.marks.specs.Refusal.{areMarks, marksRefusal, marksRefusalIn}
 use Rattle.marks.specs.RefusalLaws.{good-of-marks, marks-most}
 use Rattle.code.specs.Marks.{excess, lostIn}
-use Rattle.shape.specs.Shapes.{wordRefusalIn, shapeRefusalIn}
+use Rattle.shape.specs.Shapes.{byteLimits, wordRefusalIn, shapeRefusalIn}
 use Rattle.counting.specs.Count.{totalBelow}
 use Rattle.judge.specs.Answer.{judgedNumberOf, judgedNumberIn}
 use Rattle.judge.specs.Laws.{zero-excess}
@@ -197,7 +197,7 @@ module _ (m w c : ℕ) (marks : List ℕ) where
       let S = shown-is (x .0) (x .1) in
       let h = excess-outside m w c marks (x .0) (S .size) in
       let l = S .leaves in
-      zero-excess m w c marks a .1 (omega arith)
+      zero-excess byteLimits m w c marks a .1 (omega arith)
 
   -- a 28 is given only where 1 to 6 don't apply, and then no such set is
   pub none-fits : profiledNumberOf m w c marks ≡ 28 → (marksRefusal m w c marks ≡ 0) × ((t : List ℕ) → length t ≤ c → 2 < outside m w marks t)

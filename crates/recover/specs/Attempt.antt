@@ -4,6 +4,7 @@ use mathlib.Core.Bool.{true, false}
 use mathlib.Core.List.{List}
 use Prim.Native.Nat.{ℕ, _*_, _≤_}
 use lib.ListN.{length}
+use Rattle.code.specs.Edition.{Edition}
 use Rattle.byte_edition.specs.Edition.{bytes}
 use Rattle.code.specs.Marks.{excess}
 use Rattle.code.specs.Contradiction.{contradictingGroup}
@@ -14,10 +15,10 @@ use Rattle.recover.specs.Service.{recoverRefusalIn}
 
 -- where it succeeds the codeword that agrees is written; else nothing is, the contradicting group is named, and for an excess of at most two
 -- no codeword agrees
-pub record Attempt (m w c : ℕ) (marks before after : List ℕ) (tested : Tested) : Type 0 where
-  pub done : tested .codeword ≡ true → Agrees bytes m w c marks before after
-  pub failed : tested .codeword ≡ false → (after ≡ before) × (excess m w c marks ≤ 2 → (y : List ℕ) → Agrees bytes m w c marks before y → ⊥)
-  pub group : tested .group ≡ contradictingGroup bytes m w c before marks
+pub record AttemptIn (E : Edition) (m w c : ℕ) (marks before after : List ℕ) (tested : Tested) : Type 0 where
+  pub done : tested .codeword ≡ true → Agrees E m w c marks before after
+  pub failed : tested .codeword ≡ false → (after ≡ before) × (excess m w c marks ≤ 2 → (y : List ℕ) → Agrees E m w c marks before y → ⊥)
+  pub group : tested .group ≡ contradictingGroup E m w c before marks
 
 -- a call that is not refused by its shape, lengths or marks
 pub record AcceptedIn (L : Limits) (m w c : ℕ) (word marks : List ℕ) : Type 0 where
@@ -26,6 +27,10 @@ pub record AcceptedIn (L : Limits) (m w c : ℕ) (word marks : List ℕ) : Type 
   pub word-size : length word ≡ m * w
   pub marks-size : length marks ≡ m * w
 
--- in the edition of bytes
+-- in the edition of bytes: an attempt
+abbrev pub Attempt : ℕ → ℕ → ℕ → List ℕ → List ℕ → List ℕ → Tested → Type 0
+Attempt = AttemptIn bytes
+
+-- and a call that is not refused
 abbrev pub Accepted : ℕ → ℕ → ℕ → List ℕ → List ℕ → Type 0
 Accepted = AcceptedIn byteLimits

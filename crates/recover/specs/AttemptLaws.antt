@@ -9,8 +9,7 @@ use native.Mathlib.Omega.{arith}
 use borrow.Author.Tests.{le-ltb}
 use lib.Dec.{T, ltb}
 use lib.ListN.{length, getD}
-use Rattle.byte_edition.specs.Edition.{bytes}
-use Rattle.byte_edition.specs.EditionLaws.{bytes-sound, bytes-few}
+use Rattle.code.specs.Edition.{Edition, Sound}
 use Rattle.code.specs.Word.{isCodeword, Symbols}
 use Rattle.code.specs.Marks.{excess}
 use Rattle.code.specs.Answer.{refused, contradictory, written}
@@ -24,18 +23,18 @@ use Rattle.shape.specs.Shapes.{Limits, wordRefusalIn, wordRefusal}
 use Rattle.shape.specs.Laws.{good-of-word, word-most}
 use Rattle.marks.specs.Refusal.{marksRefusalIn}
 use Rattle.marks.specs.RefusalLaws.{good-of-marks, marks-most}
-use Rattle.syndrome.specs.Tests.{brokenGroup}
-use Rattle.candidate.specs.Mended.{IsCandidate}
-use Rattle.recover.specs.Service.{unlessBefore, recoverRefusal, recoverRefusalIn, recoverOf, recoverIn}
+use Rattle.syndrome.specs.Tests.{brokenGroupIn}
+use Rattle.candidate.specs.Mended.{IsCandidateIn}
+use Rattle.recover.specs.Service.{unlessBefore, recoverRefusal, recoverRefusalIn, recoverIn}
 use Rattle.recover.specs.ServiceLaws.{unless-before}
-use Rattle.recover.specs.Attempt.{Attempt, AcceptedIn, Accepted}
+use Rattle.recover.specs.Attempt.{AttemptIn, AcceptedIn}
 
-module _ (m w c : ℕ) (marks word x : List ℕ) (size : length word ≡ m * w) (small : (p : ℕ) → getD x p 0 < 256) (C : IsCandidate m w c marks word x) where
-  group-named : brokenGroup m w c x ≡ contradictingGroup bytes m w c word marks
-  unfolding brokenGroup
-  group-named = same-groups bytes m w c word marks x size (C .size) small (C .present) (C .satisfied)
+module _ {E : Edition} (m w c : ℕ) (marks word x : List ℕ) (size : length word ≡ m * w) (small : (p : ℕ) → getD x p 0 < 2 ^ E .bits) (C : IsCandidateIn E m w c marks word x) where
+  group-named : brokenGroupIn E m w c x ≡ contradictingGroup E m w c word marks
+  unfolding brokenGroupIn
+  group-named = same-groups E m w c word marks x size (C .size) small (C .present) (C .satisfied)
 
-  pub attempt-done : isCodeword bytes m w c x ≡ true → Attempt m w c marks word x (record { codeword = true; group = brokenGroup m w c x })
+  pub attempt-done : isCodeword E m w c x ≡ true → AttemptIn E m w c marks word x (record { codeword = true; group = brokenGroupIn E m w c x })
   attempt-done e = record {
     done = λ _. record {
       codeword = record { symbols = record { size = C .size; each = small }; zero = subst T (sym e) tt };
@@ -45,10 +44,10 @@ module _ (m w c : ℕ) (marks word x : List ℕ) (size : length word ≡ m * w) 
     group = group-named;
   }
 
-  pub attempt-failed : isCodeword bytes m w c x ≡ false → Attempt m w c marks word word (record { codeword = false; group = brokenGroup m w c x })
+  pub attempt-failed : isCodeword E m w c x ≡ false → AttemptIn E m w c marks word word (record { codeword = false; group = brokenGroupIn E m w c x })
   attempt-failed e = record {
     done = λ f. absurd (let z : _≡_ {A = ℕ} 0 1 = cc in omega arith);
-    failed = λ _. (refl, λ low y A. subst T (ap (isCodeword bytes m w c) (sym (C .only low y A)) ∙ e) (A .codeword .zero));
+    failed = λ _. (refl, λ low y A. subst T (ap (isCodeword E m w c) (sym (C .only low y A)) ∙ e) (A .codeword .zero));
     group = group-named;
   }
 
@@ -66,40 +65,46 @@ recover-most m w c word marks =
     orElse-most 6 (wordRefusal m w c (length word)) _ (let h = word-most m w c (length word) in omega arith) (marks-most m w c marks)
 
 -- what the service answers, by how the call goes
-pub service-refused : (m w c : ℕ) (word marks : List ℕ) (r : ℕ) → r ≡ recoverRefusal m w c word marks → (r ≡ 0 → ⊥) → recoverOf m w c word marks ≡ refused r word marks
+pub service-refused : (E : Edition) (m w c : ℕ) (word marks : List ℕ) (r : ℕ) → r ≡ recoverRefusalIn (E .limits) m w c word marks → (r ≡ 0 → ⊥) → recoverIn E m w c word marks ≡ refused r word marks
 unfolding recoverIn
-service-refused m w c word marks r e n =
-    ap (λ q. unlessBefore q (recovered bytes m w c word marks) word marks) (sym e) ∙ unless-before r (recovered bytes m w c word marks) word marks n
+service-refused E m w c word marks r e n =
+    ap (λ q. unlessBefore q (recovered E m w c word marks) word marks) (sym e) ∙ unless-before r (recovered E m w c word marks) word marks n
 
-module _ (m w c : ℕ) (word marks : List ℕ) (A : Accepted m w c word marks) (small : (p : ℕ) → getD word p 0 < 256) where
-  symbols : Symbols bytes (m * w) word
+module _ {E : Edition} (S : Sound E) (m w c : ℕ) (word marks : List ℕ) (A : AcceptedIn (E .limits) m w c word marks) (small : (p : ℕ) → getD word p 0 < 2 ^ E .bits) where
+  symbols : Symbols E (m * w) word
   symbols = record { size = A .word-size; each = small }
 
-  service : recoverOf m w c word marks ≡ recovered bytes m w c word marks
+  service : recoverIn E m w c word marks ≡ recovered E m w c word marks
   unfolding recoverIn
-  service = ap (λ r. unlessBefore r (recovered bytes m w c word marks) word marks) (A .refusal)
+  service = ap (λ r. unlessBefore r (recovered E m w c word marks) word marks) (A .refusal)
+
+  few : m ≤ S .r
+  few = let h = A .good .few in let k = S .groups-few in omega arith
+
+  narrow : w ≤ E .small
+  narrow = let h = A .good .narrow in let k = S .width-narrow in omega arith
 
   wide : 0 < w
   wide = let g = A .good in omega arith
 
-  pub service-eight : 2 < excess m w c marks → recoverOf m w c word marks ≡ refused 8 word marks
-  service-eight h = service ∙ recovered-eight bytes bytes-sound m w c (bytes-few (A .good .few)) wide (A .good .narrow) word marks symbols h
+  pub service-eight : 2 < excess m w c marks → recoverIn E m w c word marks ≡ refused 8 word marks
+  service-eight h = service ∙ recovered-eight E S m w c few wide narrow word marks symbols h
 
-  pub service-nine : excess m w c marks ≤ 2 → ((y : List ℕ) → Agrees bytes m w c marks word y → ⊥) → recoverOf m w c word marks ≡ contradictory (contradictingGroup bytes m w c word marks) word marks
-  service-nine h never = service ∙ recovered-nine bytes bytes-sound m w c (bytes-few (A .good .few)) wide (A .good .narrow) word marks symbols h never
+  pub service-nine : excess m w c marks ≤ 2 → ((y : List ℕ) → Agrees E m w c marks word y → ⊥) → recoverIn E m w c word marks ≡ contradictory (contradictingGroup E m w c word marks) word marks
+  service-nine h never = service ∙ recovered-nine E S m w c few wide narrow word marks symbols h never
 
-  pub service-done : (x : List ℕ) → excess m w c marks ≤ 2 → Agrees bytes m w c marks word x → recoverOf m w c word marks ≡ written x marks
-  service-done x h B = service ∙ recovered-done bytes bytes-sound m w c (bytes-few (A .good .few)) wide (A .good .narrow) word marks symbols x h B
+  pub service-done : (x : List ℕ) → excess m w c marks ≤ 2 → Agrees E m w c marks word x → recoverIn E m w c word marks ≡ written x marks
+  service-done x h B = service ∙ recovered-done E S m w c few wide narrow word marks symbols x h B
 
   -- "no step after the test of the excess can answer 8"
-  pub eight-above : (recoverOf m w c word marks) .number ≡ 8 → 2 < excess m w c marks
+  pub eight-above : (recoverIn E m w c word marks) .number ≡ 8 → 2 < excess m w c marks
   eight-above e = elim (decLe (excess m w c marks) 2) [
     | yes h ↦
-        (let t = eight-large (2 ^ bytes .bits) (isCodeword bytes m w c) (ltb 2 (excess m w c marks)) (contradictingGroup bytes m w c word marks) word marks (sym (ap (λ o. o .number) service) ∙ e) in
+        (let t = eight-large (2 ^ E .bits) (isCodeword E m w c) (ltb 2 (excess m w c marks)) (contradictingGroup E m w c word marks) word marks (sym (ap (λ o. o .number) service) ∙ e) in
         absurd (subst T (sym t ∙ le-ltb 2 (excess m w c marks) h) tt))
     | no h ↦ omega arith
   ]
 
   -- 8 exactly if the excess is above 2, and then as Judge says
-  pub eight-exactly : ((recoverOf m w c word marks) .number ≡ 8) ↔ (2 < excess m w c marks)
+  pub eight-exactly : ((recoverIn E m w c word marks) .number ≡ 8) ↔ (2 < excess m w c marks)
   eight-exactly = (eight-above, λ h. ap (λ o. o .number) (service-eight h))

@@ -30,6 +30,10 @@ abbrev pub repairOf : ℕ → ℕ → ℕ → ℕ → List ℕ → List ℕ → 
 repairOf = repairIn bytes
 
 -- where an attempt on a stretch succeeds the filling is written; else nothing is, and no filling satisfies the group's equations
-pub record PartAttempt (w c : ℕ) (marks before after : List ℕ) (ok : Bool) : Type 0 where
-  pub done : ok ≡ true → Satisfies bytes w c marks before after
-  pub failed : ok ≡ false → (after ≡ before) × ((y : List ℕ) → Satisfies bytes w c marks before y → ⊥)
+pub record PartAttemptIn (E : Edition) (w c : ℕ) (marks before after : List ℕ) (ok : Bool) : Type 0 where
+  pub done : ok ≡ true → Satisfies E w c marks before after
+  pub failed : ok ≡ false → (after ≡ before) × ((y : List ℕ) → Satisfies E w c marks before y → ⊥)
+
+-- in the edition of bytes
+abbrev pub PartAttempt : ℕ → ℕ → List ℕ → List ℕ → List ℕ → Bool → Type 0
+PartAttempt = PartAttemptIn bytes

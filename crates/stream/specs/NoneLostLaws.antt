@@ -22,6 +22,7 @@ use Rattle.recover.specs.Service.{recoverOf}
 use Rattle.recover.specs.Attempt.{Accepted}
 use Rattle.recover.specs.AttemptLaws.{accepted, service-done, service-nine}
 use Rattle.recover.specs.DemandTwoLaws.{good-start}
+use Rattle.byte_edition.specs.EditionLaws.{bytes-sound}
 use Rattle.stream.specs.NoneLost.{noneLost}
 
 module _ {m w c : ℕ} (g : Good m w c) (word : List ℕ) (s : Symbols bytes (m * w) word) where
@@ -46,7 +47,7 @@ module _ {m w c : ℕ} (g : Good m w c) (word : List ℕ) (s : Symbols bytes (m 
   pub codeword-stays : Codeword bytes m w c word → recoverOf m w c word (noneLost word) ≡ written word (noneLost word)
   codeword-stays C =
       let e = none-excess in
-      service-done m w c word (noneLost word) none-accepted (s .each) word (omega arith) (record { codeword = C; agree = λ p l e. refl })
+      service-done bytes-sound m w c word (noneLost word) none-accepted (s .each) word (omega arith) (record { codeword = C; agree = λ p l e. refl })
 
   -- a word that agrees at every place is the word
   agreeing-same : (y : List ℕ) → Agrees bytes m w c (noneLost word) word y → y ≡ word
@@ -59,5 +60,5 @@ module _ {m w c : ℕ} (g : Good m w c) (word : List ℕ) (s : Symbols bytes (m 
       → recoverOf m w c word (noneLost word) ≡ contradictory (contradictingGroup bytes m w c word (noneLost word)) word (noneLost word)
   other-nine e =
       let x = none-excess in
-      service-nine m w c word (noneLost word) none-accepted (s .each) (omega arith)
+      service-nine bytes-sound m w c word (noneLost word) none-accepted (s .each) (omega arith)
       (λ y Y. subst T (ap (isCodeword bytes m w c) (agreeing-same y Y) ∙ e) (Y .codeword .zero))

@@ -18,7 +18,7 @@ use Rattle.code.specs.Edition.{Edition, times, raised}
 use Rattle.byte_edition.specs.Edition.{bytes}
 use Rattle.code.specs.Word.{groupSum, localSum, wordSum, coefficient, twisted, isLocal}
 use Rattle.code.specs.StretchLaws.{own-place, stretch-sum}
-use Rattle.groups.specs.Lent.{Lent}
+use Rattle.groups.specs.Lent.{LentIn}
 use Rattle.groups.specs.LentLaws.{part-stretch, part-length}
 use Rattle.coefficients.specs.Rows.{powerRows, firstRows, secondRows, noRow}
 use Rattle.coefficients.specs.RowsLaws.{power-at, first-at, second-at}
@@ -74,26 +74,26 @@ module _ (part : List ℕ) (narrow : length part ≤ 16) where
     second-group = inner-group part _ _ narrow (λ j l. second-at (c - 1) j (omega arith) l ∙ ap (λ n. raised bytes (coefficient bytes n j) 16) same-count)
 
 -- ---- all groups
-pub word-none : (w : ℕ) (word : List ℕ) (h : ℕ → ℕ → ℕ) → wordSum bytes 0 w word h ≡ 0
+pub word-none : (E : Edition) (w : ℕ) (word : List ℕ) (h : ℕ → ℕ → ℕ) → wordSum E 0 w word h ≡ 0
 unfolding wordSum
-word-none w word h = sum-none _
+word-none E w word h = sum-none _
 
-word-more : (g w : ℕ) (word : List ℕ) (h : ℕ → ℕ → ℕ) → wordSum bytes (g + 1) w word h ≡ wordSum bytes g w word h ⊕ groupSum bytes w word g (h g)
+word-more : (E : Edition) (g w : ℕ) (word : List ℕ) (h : ℕ → ℕ → ℕ) → wordSum E (g + 1) w word h ≡ wordSum E g w word h ⊕ groupSum E w word g (h g)
 unfolding wordSum
-word-more g w word h = ap (λ n. wordSum bytes n w word h) (add-one g) ∙ sum-suc g _
+word-more E g w word h = ap (λ n. wordSum E n w word h) (add-one g) ∙ sum-suc g _
 
-module _ {m w c : ℕ} {word : List ℕ} (L : Lent m w c word) (g : ℕ) (l : g < m) {part : List ℕ} (is : part ≡ take (g * w + w - g * w) (drop (g * w) word)) where
+module _ (E : Edition) {m w c : ℕ} {word : List ℕ} (L : LentIn (E .limits) m w c word) (g : ℕ) (l : g < m) {part : List ℕ} (is : part ≡ take (g * w + w - g * w) (drop (g * w) word)) where
   -- one turn of a sum across
-  pub sum-turn : (h : ℕ → ℕ → ℕ) (s r : ℕ) → s ≡ wordSum bytes g w word h → r ≡ groupSum bytes (length part) part 0 (h g)
-      → bitXor s r ≡ wordSum bytes (g + 1) w word h
+  pub sum-turn : (h : ℕ → ℕ → ℕ) (s r : ℕ) → s ≡ wordSum E g w word h → r ≡ groupSum E (length part) part 0 (h g)
+      → bitXor s r ≡ wordSum E (g + 1) w word h
   sum-turn h s r p q =
       ⊕-bits s r
-      ∙ ap₂ _⊕_ p (q ∙ ap₂ (λ n x. groupSum bytes n x 0 (h g)) (part-length L g l is) (part-stretch L g l is) ∙ stretch-sum bytes w g word (h g))
-      ∙ sym (word-more g w word h)
+      ∙ ap₂ _⊕_ p (q ∙ ap₂ (λ n x. groupSum E n x 0 (h g)) (part-length L g l is) (part-stretch L g l is) ∙ stretch-sum E w g word (h g))
+      ∙ sym (word-more E g w word h)
 
   -- the group's own equations
-  pub part-local : isLocal bytes (length part) c part 0 ≡ isLocal bytes w c word g
+  pub part-local : isLocal E (length part) c part 0 ≡ isLocal E w c word g
   unfolding isLocal
   part-local =
-      ap₂ (λ n x. isLocal bytes n c x 0) (part-length L g l is) (part-stretch L g l is)
-      ∙ (λ i. allBelow c (λ e. eqb (stretch-sum bytes w g word (λ j. raised bytes (bytes .locator j) e) i) 0))
+      ap₂ (λ n x. isLocal E n c x 0) (part-length L g l is) (part-stretch L g l is)
+      ∙ (λ i. allBelow c (λ e. eqb (stretch-sum E w g word (λ j. raised E (E .locator j) e) i) 0))

@@ -3,18 +3,27 @@ use mathlib.Core.Bool.{Bool, false, not}
 use mathlib.Core.List.{List}
 use Prim.Native.Nat.{ℕ}
 use Rattle.counting.specs.First.{firstBelow}
+use Rattle.code.specs.Edition.{Edition}
 use Rattle.byte_edition.specs.Edition.{bytes}
 use Rattle.code.specs.Word.{isLocal, isCodeword}
 use Rattle.syndrome.specs.declared.Tested.{Tested}
 
 -- the lowest group whose local sums are not all zero; m if there is none
-unfoldable pub brokenGroup : ℕ → ℕ → ℕ → List ℕ → ℕ
-brokenGroup m w c word = firstBelow m (λ g. not (isLocal bytes w c word g))
+unfoldable pub brokenGroupIn : Edition → ℕ → ℕ → ℕ → List ℕ → ℕ
+brokenGroupIn E m w c word = firstBelow m (λ g. not (isLocal E w c word g))
 
 -- whether the word is a codeword, and that group
-abbrev pub testedOf : ℕ → ℕ → ℕ → List ℕ → Tested
-testedOf m w c word = record { codeword = isCodeword bytes m w c word; group = brokenGroup m w c word }
+abbrev pub testedIn : Edition → ℕ → ℕ → ℕ → List ℕ → Tested
+testedIn E m w c word = record { codeword = isCodeword E m w c word; group = brokenGroupIn E m w c word }
 
 -- what is given for a word that is not of a good shape's length
 abbrev pub notTested : Tested
 notTested = record { codeword = false; group = 0 }
+
+-- in the edition of bytes
+abbrev pub brokenGroup : ℕ → ℕ → ℕ → List ℕ → ℕ
+brokenGroup = brokenGroupIn bytes
+
+-- and what is found
+abbrev pub testedOf : ℕ → ℕ → ℕ → List ℕ → Tested
+testedOf = testedIn bytes

@@ -4,7 +4,8 @@ use mathlib.Core.List.{List, [], _∷_}
 use Prim.Native.Nat.{ℕ, zero, suc}
 use lib.ListN.{length, replicate}
 use Rattle.shape.specs.Refusals.{unlessRefused}
-use Rattle.shape.specs.Shapes.{wordRefusal}
+use Rattle.shape.specs.Shapes.{wordRefusalIn}
+use Rattle.code.specs.Edition.{Edition}
 use Rattle.byte_edition.specs.Edition.{bytes}
 use Rattle.code.specs.Word.{isCodeword}
 use Rattle.code.specs.Contradiction.{contradictingGroup}
@@ -17,12 +18,12 @@ checkedAt zero false group = Checked.Other group
 checkedAt (suc r) b group = Checked.Refused (suc r)
 
 -- the group that contradicts where every place is present
-abbrev pub wholeGroup : ℕ → ℕ → ℕ → List ℕ → ℕ
-wholeGroup m w c word = contradictingGroup bytes m w c word (replicate (length word) 0)
+abbrev pub wholeGroupIn : Edition → ℕ → ℕ → ℕ → List ℕ → ℕ
+wholeGroupIn E m w c word = contradictingGroup E m w c word (replicate (length word) 0)
 
 -- "Check: yes exactly if the word is a codeword."
-unfoldable pub checkedOf : ℕ → ℕ → ℕ → List ℕ → Checked
-checkedOf m w c word = checkedAt (wordRefusal m w c (length word)) (isCodeword bytes m w c word) (wholeGroup m w c word)
+unfoldable pub checkedIn : Edition → ℕ → ℕ → ℕ → List ℕ → Checked
+checkedIn E m w c word = checkedAt (wordRefusalIn (E .limits) m w c (length word)) (isCodeword E m w c word) (wholeGroupIn E m w c word)
 
 -- the number given back, 0 for an answer
 abbrev pub checkedNumber : Checked → ℕ
@@ -37,6 +38,18 @@ checkedFigures (Checked.Other group) = 0 ∷ group ∷ []
 checkedFigures (Checked.Refused r) = []
 
 -- the figure of any call
-unfoldable pub figuresOf : ℕ → ℕ → ℕ → List ℕ → List ℕ
-figuresOf m w c word =
-    unlessRefused (wordRefusal m w c (length word)) (cond (isCodeword bytes m w c word) (1 ∷ []) (0 ∷ wholeGroup m w c word ∷ [])) []
+unfoldable pub figuresIn : Edition → ℕ → ℕ → ℕ → List ℕ → List ℕ
+figuresIn E m w c word =
+    unlessRefused (wordRefusalIn (E .limits) m w c (length word)) (cond (isCodeword E m w c word) (1 ∷ []) (0 ∷ wholeGroupIn E m w c word ∷ [])) []
+
+-- in the edition of bytes
+abbrev pub wholeGroup : ℕ → ℕ → ℕ → List ℕ → ℕ
+wholeGroup = wholeGroupIn bytes
+
+-- what Check answers there
+abbrev pub checkedOf : ℕ → ℕ → ℕ → List ℕ → Checked
+checkedOf = checkedIn bytes
+
+-- and its figures
+abbrev pub figuresOf : ℕ → ℕ → ℕ → List ℕ → List ℕ
+figuresOf = figuresIn bytes

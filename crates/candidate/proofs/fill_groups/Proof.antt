@@ -81,7 +81,7 @@ loop-again c =
     let x : List ℕ = s .loop .base in (
       omega arith,
       rw (with-lent w g x (f .fill .last .0))
-          (group-filled (a .args .m) w (a .args .c) g (a .pre .0) kept (a .args .base .now) x (f .fill .last .0) (omega arith) (omega arith) (omega arith)
+          (group-filled (a .args .m) w (a .args .c) g (a .pre .0 .narrow) (a .pre .0 .few-checks) kept (a .args .base .now) x (f .fill .last .0) (omega arith) (omega arith) (omega arith)
           (a .pre .1 .1 .1 g (omega arith)) (rw (stretch-lent w g kept, stretch-lent w g x) at (f .fill .ensures)) (s .loop .inv .1)),
     )
 

@@ -1,7 +1,7 @@
 use mathlib.Core.Path.{_≡_, refl}
 use native.Mathlib.Omega.{arith}
 use borrow.Author.Needs.{needs}
-use Rattle.candidate.specs.Mended.{Mended}
+use Rattle.candidate.specs.Mended.{MendedIn}
 use Rattle.candidate.proofs.Laws.{few-at}
 use Rattle.candidate.proofs.mend.Statement.{statement}
 use Rattle.candidate.proofs.mend.Tie as tie
@@ -24,7 +24,7 @@ returns : tie.Need-returns
 returns c =
     let g = c .before .before in
     let t = g .before .before in
-    Mended.one (rw (t .if1 .taken) at (t .before .before .free-places .ensures .0)) (g .mend-one .ensures)
+    MendedIn.one (rw (t .if1 .taken) at (t .before .before .free-places .ensures .0)) (g .mend-one .ensures)
 
 mend-two-requires : tie.Need-mend-two-requires
 mend-two-requires c κs =
@@ -50,14 +50,14 @@ returns-2 : tie.Need-returns-2
 returns-2 c =
     let g = c .before .before in
     let t = g .before .before in
-    Mended.two (rw (t .if2 .taken) at (t .before .before .before .before .free-places .ensures .0)) (g .mend-two .ensures)
+    MendedIn.two (rw (t .if2 .taken) at (t .before .before .before .before .free-places .ensures .0)) (g .mend-two .ensures)
 
 returns-3 : tie.Need-returns-3
 returns-3 c =
     let f = c .before .before .before .before in
     let k = f .free-places .ensures .0 .most in
     let e : f .free-places .result .count ≡ 0 = omega arith in
-    Mended.none (rw e at (f .free-places .ensures .0)) refl
+    MendedIn.none (rw e at (f .free-places .ensures .0)) refl
 
 pub mend-spec : {M : Type 1} → statement M
 mend-spec =

@@ -1,6 +1,7 @@
 use mathlib.Core.Path.{sym, _∙_}
 use borrow.Author.Needs.{needs}
 use Rattle.erasures.specs.Whole.{KeptAll}
+use Rattle.byte_edition.specs.EditionLaws.{bytes-sound}
 use Rattle.candidate.specs.WholeLaws.{is-candidate}
 use Rattle.candidate.proofs.Laws.{kept-copy}
 use Rattle.candidate.proofs.rebuild.Statement.{statement}
@@ -54,7 +55,7 @@ returns c =
     let x = k .before .before .before .before .before .before .before .before .before in
     let s = x .before in
     let a = s .args in
-    is-candidate (a .m) (a .w) (a .c) (s .pre .0) (a .marks .now) _ (a .word .now) _ _ _ (record { size = s .pre .1 .0; each = λ p. x .shared-slice-known .given p .fits })
+    is-candidate bytes-sound (a .m) (a .w) (a .c) (s .pre .0) (a .marks .now) _ (a .word .now) _ _ _ (record { size = s .pre .1 .0; each = λ p. x .shared-slice-known .given p .fits })
     (record { size = f .fill-groups .ensures .size ∙ b .blank-lost .ensures .size ∙ s .pre .1 .0; each = λ p. y .slice-known6 .given p .fits }) (s .pre .1 .1 .0)
     (keeps k) (b .blank-lost .ensures) (f .fill-groups .ensures) (e .mend .ensures)
 

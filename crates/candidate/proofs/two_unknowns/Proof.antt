@@ -1,4 +1,5 @@
 use borrow.Author.Needs.{needs}
+use Rattle.byte_edition.specs.EditionLaws.{bytes-sound}
 use Rattle.candidate.proofs.Laws.{two-solved}
 use Rattle.candidate.proofs.two_unknowns.Statement.{statement}
 use Rattle.candidate.proofs.two_unknowns.Tie as tie
@@ -22,7 +23,7 @@ returns : tie.Need-returns
 returns c =
     let e = c .before .before in
     let f = e .before .fits in
-    two-solved (f .a1 .fits) (f .a2 .fits) (f .b1 .fits) (f .b2 .fits) (f .s .fits) (f .t .fits) (e .eliminate .ensures)
+    two-solved bytes-sound (f .a1 .fits) (f .a2 .fits) (f .b1 .fits) (f .b2 .fits) (f .s .fits) (f .t .fits) (e .eliminate .ensures)
 
 pub two-unknowns-spec : {M : Type 1} → statement M
 two-unknowns-spec =

@@ -1,6 +1,7 @@
 use mathlib.Core.Path.{_≡_, refl, sym, ap, _∙_, subst}
 use Prim.Native.Nat.{_<_}
 use native.Mathlib.Omega.{arith}
+use Rattle.shape.specs.Shapes.{byteLimits}
 use Rattle.shape.specs.Laws.{places-most}
 use Rattle.marks.specs.Refusal.{Marked}
 use Rattle.marks.specs.RefusalLaws.{marks-of-good}
@@ -89,7 +90,7 @@ cast-t21 c =
     let f = c .before .before in
     let a = f .before .before .before .before .before .before .before .args in
     let M = marked (f .before .before .before) in
-    let l = zero-excess (a .m) (a .w) (a .c) (a .marks .now) (marks-of-good (a .m) (a .w) (a .c) (a .marks .now) M) .0 (parts (f .before .before .before) .judged) in
+    let l = zero-excess byteLimits (a .m) (a .w) (a .c) (a .marks .now) (marks-of-good (a .m) (a .w) (a .c) (a .marks .now) M) .0 (parts (f .before .before .before) .judged) in
     let e = ap (λ (x : Figures). x .excess) (worked f) in
     omega arith
 

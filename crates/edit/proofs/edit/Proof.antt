@@ -10,7 +10,7 @@ use Rattle.byte_edition.specs.Edition.{bytes}
 use Rattle.code.specs.ContradictionLaws.{whole-groups}
 use Rattle.code.specs.Word.{isCodeword}
 use Rattle.syndrome.specs.declared.Tested.{Tested}
-use Rattle.syndrome.specs.Tests.{brokenGroup, testedOf}
+use Rattle.syndrome.specs.Tests.{brokenGroupIn, testedOf}
 use Rattle.syndrome.specs.TestsLaws.{broken-most}
 use Rattle.edit.specs.Service.{numberRefusal}
 use Rattle.edit.specs.Laws.{good-of-number}
@@ -49,13 +49,13 @@ cast-t13 c =
     let e = t .before .before in
     let a = e .before .before .before .args in
     let g = good-of-number (a .m) (a .w) (a .c) (length (a .word .now)) (a .number) (fair e) in
-    omega (arith, ap (λ (x : Tested). x .group) (found t), broken-most (a .m) (a .w) (a .c) (a .word .now), g .0 .few)
+    omega (arith, ap (λ (x : Tested). x .group) (found t), broken-most bytes (a .m) (a .w) (a .c) (a .word .now), g .0 .few)
 
 same-length : tie.Need-same-length
 same-length c = search needs
 
 returns-2 : tie.Need-returns-2
-unfolding brokenGroup
+unfolding brokenGroupIn
 returns-2 c =
     let t = c .before .before .before in
     let e = t .before .before in

@@ -5,10 +5,11 @@ use borrow.Author.Needs.{needs}
 use borrow.Author.Tests.{lt-ltb, le-ltb}
 use lib.Dec.{ltb}
 use Rattle.shape.specs.Refusals.{refuse}
+use Rattle.shape.specs.Shapes.{byteLimits}
 use Rattle.marks.specs.Refusal.{marksRefusal}
 use Rattle.marks.specs.RefusalLaws.{good-of-marks}
 use Rattle.shape.specs.RefusalsLaws.{orElse-first}
-use Rattle.judge.specs.Answer.{judgedNumberOf, judgedNumberIn, judgedAt, judgedOf, judgedNumber}
+use Rattle.judge.specs.Answer.{judgedNumberOf, judgedNumberIn, judgedAt, judgedIn, judgedOf, judgedNumber}
 use Rattle.judge.specs.Laws.{judged-refused, judged-number, number-of}
 use Rattle.judge.specs.declared.Judged.{Judged}
 use Rattle.judge.proofs.judge.Statement.{statement}
@@ -17,13 +18,13 @@ use Rattle.judge.proofs.judge.Tie as tie
 -- the number follows from the answer
 whole : (m w c : ℕ) (marks : List ℕ) (r : Judged) → r ≡ judgedOf m w c marks
     → (r ≡ judgedOf m w c marks) × (judgedNumber r ≡ judgedNumberOf m w c marks)
-whole m w c marks r e = (e, ap judgedNumber e ∙ judged-number m w c marks)
+whole m w c marks r e = (e, ap judgedNumber e ∙ judged-number byteLimits m w c marks)
 
 marks-refusal-requires : tie.Need-marks-refusal-requires
 marks-refusal-requires c κs = search needs
 
 returns : tie.Need-returns
-unfolding judgedOf judgedNumberIn
+unfolding judgedIn judgedNumberIn
 returns c =
     let a = c .before .before .before .args in
     let e = c .before .marks-refusal .ensures in
@@ -37,13 +38,13 @@ answered : (c : tie.After-excess-of)
     → judgedAt (refuse 8 (ltb 2 (c .excess-of .result)))
     ≡ judgedOf (c .before .before .before .before .args .m) (c .before .before .before .before .args .w) (c .before .before .before .before .args .c)
     (c .before .before .before .before .args .marks .now)
-unfolding judgedOf
+unfolding judgedIn
 answered c =
     let t = c .before in
     let a = t .before .before .before .args in
     let e : marksRefusal (a .m) (a .w) (a .c) (a .marks .now) ≡ 0 = sym (t .before .marks-refusal .ensures) ∙ t .if1 .left in
     let g = good-of-marks (a .m) (a .w) (a .c) (a .marks .now) e in
-    ap judgedAt (ap (λ n. refuse 8 (ltb 2 n)) (c .excess-of .ensures .0 (g .good) (g .size)) ∙ sym (number-of (a .m) (a .w) (a .c) (a .marks .now) e))
+    ap judgedAt (ap (λ n. refuse 8 (ltb 2 n)) (c .excess-of .ensures .0 (g .good) (g .size)) ∙ sym (number-of byteLimits (a .m) (a .w) (a .c) (a .marks .now) e))
 
 returns-2 : tie.Need-returns-2
 returns-2 c =

@@ -46,7 +46,7 @@ loop-again c =
     let E = t .repair .ensures in (
       c .before .before .before .word .given ∙ s .loop .inv .0,
       c .before .marks .given ∙ s .loop .inv .1,
-      list-turn (a .m) (a .w) (a .c) (a .list .now) (s .loop .i) (s .loop .word) (s .loop .marks) _ (s .loop .inv .2) (omega arith) _ _ (E .1 .0) (E .1 .1),
+      list-turn bytes (a .m) (a .w) (a .c) (a .list .now) (s .loop .i) (s .loop .word) (s .loop .marks) _ (s .loop .inv .2) (omega arith) _ _ (E .1 .0) (E .1 .1),
     )
 
 same-length : tie.Need-same-length Inv-loop μ-loop
@@ -59,7 +59,7 @@ returns : tie.Need-returns Inv-loop μ-loop
 returns c =
     let s = c .before in
     let a = s .before .before .before .before .args in
-    list-end (a .m) (a .w) (a .c) (a .list .now) (s .loop .i) (s .loop .word) (s .loop .marks) _ (s .loop .inv .2) (omega arith)
+    list-end bytes (a .m) (a .w) (a .c) (a .list .now) (s .loop .i) (s .loop .word) (s .loop .marks) _ (s .loop .inv .2) (omega arith)
 
 pub repair-list-spec : {M : Type 1} → statement M
 repair-list-spec =

@@ -1,3 +1,4 @@
+use Rattle.byte_edition.specs.EditionLaws.{bytes-sound}
 use Rattle.order.specs.ServiceLaws.{contract}
 use borrow.Author.Needs.{needs}
 use Rattle.order.proofs.repair_then_recover.Statement.{statement}
@@ -26,7 +27,7 @@ returns c =
     let k = l .before .before .before .before .before in
     let a = k .before .args in
     let E = r .recover .ensures in
-    contract (a .m) (a .w) (a .c) (a .list .now) (a .word .now) (a .marks .now) _ _ _ _ (r .recover .result) (λ p. k .slice-known .given p .fits)
+    contract bytes-sound (a .m) (a .w) (a .c) (a .list .now) (a .word .now) (a .marks .now) _ _ _ _ (r .recover .result) (λ p. k .slice-known .given p .fits)
     (l .repair-list .ensures) (E .0) (E .1 .0) (E .1 .1)
 
 pub repair-then-recover-spec : {M : Type 1} → statement M

@@ -3,7 +3,7 @@ use lib.ListN.{length}
 use Rattle.shape.specs.RefusalsLaws.{unless-refused}
 use Rattle.shape.specs.Shapes.{byteLimits, bufferRefusal}
 use Rattle.shape.specs.Laws.{good-of-buffers}
-use Rattle.places.specs.Places.{extractedOf, extractedData}
+use Rattle.places.specs.Places.{extractedOf, extractedIn, extractedData, extractedDataIn}
 use Rattle.shape.specs.AnswersLaws.{answer-refused}
 use borrow.Author.Needs.{needs}
 use Rattle.places.proofs.extract.Statement.{statement}
@@ -13,7 +13,7 @@ buffer-refusal-requires : tie.Need-buffer-refusal-requires
 buffer-refusal-requires c κs = search needs
 
 returns : tie.Need-returns
-unfolding extractedOf extractedData
+unfolding extractedIn extractedDataIn
 returns c =
     let r = c .before .buffer-refusal in
     let e = r .ensures in (
@@ -31,7 +31,7 @@ same-length : tie.Need-same-length
 same-length c = search needs
 
 returns-2 : tie.Need-returns-2
-unfolding extractedOf extractedData
+unfolding extractedIn extractedDataIn
 returns-2 c =
     let a = c .before .before .before .before .before .before .before .before .args in
     let z : bufferRefusal (a .m) (a .w) (a .c) (length (a .word .now)) (length (a .bytes .now)) ≡ 0 = cc in

@@ -3,7 +3,7 @@ use lib.ListN.{length}
 use Rattle.shape.specs.RefusalsLaws.{unless-refused}
 use Rattle.shape.specs.Shapes.{byteLimits, wordRefusal}
 use Rattle.shape.specs.Laws.{good-of-word}
-use Rattle.places.specs.Places.{markedChecks}
+use Rattle.places.specs.Places.{markedChecks, markedChecksIn}
 use borrow.Author.Needs.{needs}
 use Rattle.places.proofs.mark_checks.Statement.{statement}
 use Rattle.places.proofs.mark_checks.Tie as tie
@@ -12,7 +12,7 @@ word-refusal-requires : tie.Need-word-refusal-requires
 word-refusal-requires c κs = search needs
 
 returns : tie.Need-returns
-unfolding markedChecks
+unfolding markedChecksIn
 returns c =
     let r = c .before .word-refusal in
     let e = r .ensures in
@@ -28,7 +28,7 @@ same-length : tie.Need-same-length
 same-length c = search needs
 
 returns-2 : tie.Need-returns-2
-unfolding markedChecks
+unfolding markedChecksIn
 returns-2 c =
     let a = c .before .before .before .before .before .before .before .args in
     let z : wordRefusal (a .m) (a .w) (a .c) (length (a .marks .now)) ≡ 0 = cc in

@@ -3,7 +3,7 @@ use lib.ListN.{length}
 use Rattle.shape.specs.RefusalsLaws.{unless-refused}
 use Rattle.shape.specs.Shapes.{byteLimits, bufferRefusal}
 use Rattle.shape.specs.Laws.{good-of-buffers}
-use Rattle.places.specs.Places.{placedWord}
+use Rattle.places.specs.Places.{placedWord, placedWordIn}
 use borrow.Author.Needs.{needs}
 use Rattle.places.proofs.place.Statement.{statement}
 use Rattle.places.proofs.place.Tie as tie
@@ -12,7 +12,7 @@ buffer-refusal-requires : tie.Need-buffer-refusal-requires
 buffer-refusal-requires c κs = search needs
 
 returns : tie.Need-returns
-unfolding placedWord
+unfolding placedWordIn
 returns c =
     let r = c .before .buffer-refusal in
     let e = r .ensures in
@@ -28,7 +28,7 @@ same-length : tie.Need-same-length
 same-length c = search needs
 
 returns-2 : tie.Need-returns-2
-unfolding placedWord
+unfolding placedWordIn
 returns-2 c =
     let a = c .before .before .before .before .before .before .before .before .args in
     let z : bufferRefusal (a .m) (a .w) (a .c) (length (a .word .now)) (length (a .bytes .now)) ≡ 0 = cc in

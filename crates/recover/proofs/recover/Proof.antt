@@ -8,6 +8,8 @@ use Rattle.recover.specs.Attempt.{Accepted}
 use Rattle.recover.specs.AttemptLaws.{accepted, recover-most, service-refused, service-eight}
 use borrow.Author.Needs.{needs}
 use Rattle.recover.proofs.recover.Statement.{statement}
+use Rattle.byte_edition.specs.EditionLaws.{bytes-sound}
+use Rattle.byte_edition.specs.Edition.{bytes}
 use Rattle.recover.proofs.recover.Tie as tie
 
 refusal-requires : tie.Need-refusal-requires
@@ -23,7 +25,7 @@ returns : tie.Need-returns
 returns c =
     let r = c .before in
     let a = r .before .before .before .before .before in
-    let e = service-refused (a .args .m) (a .args .w) (a .args .c) (a .args .word .now) (a .args .marks .now) (r .refusal .result) (r .refusal .ensures) (c .if1 .taken) in
+    let e = service-refused bytes (a .args .m) (a .args .w) (a .args .c) (a .args .word .now) (a .args .marks .now) (r .refusal .result) (r .refusal .ensures) (c .if1 .taken) in
     let few = recover-most (a .args .m) (a .args .w) (a .args .c) (a .args .word .now) (a .args .marks .now) in
     let n : r .refusal .result ≡ 9 → ⊥ = (λ z. let k = r .refusal .ensures in omega arith) in
     (sym (mending-refused (r .refusal .result) 0 (c .if1 .taken) n) ∙ ap (λ o. mendingAt (o .number) (o .group)) (sym e), (ap (λ o. o .word) (sym e), ap (λ o. o .marks) (sym e)))
@@ -51,7 +53,7 @@ returns-2 c =
     let k = t .before .before .before .before .before in
     let a = k .before .args in
     let h = x .excess-of .ensures .0 (fair t .good) (fair t .marks-size) in
-    let e = service-eight (a .m) (a .w) (a .c) (a .word .now) (a .marks .now) (fair t) (λ p. k .slice-known .given p .fits) (rw (← h) (c .if2 .taken)) in
+    let e = service-eight bytes-sound (a .m) (a .w) (a .c) (a .word .now) (a .marks .now) (fair t) (λ p. k .slice-known .given p .fits) (rw (← h) (c .if2 .taken)) in
     (ap (λ o. mendingAt (o .number) (o .group)) (sym e), (ap (λ o. o .word) (sym e), ap (λ o. o .marks) (sym e)))
 
 -- past the second test the excess is at most two

@@ -11,6 +11,7 @@ use Rattle.recover.specs.Attempt.{Accepted}
 use Rattle.recover.specs.AttemptLaws.{accepted, service-nine, service-done}
 use borrow.Author.Needs.{needs}
 use Rattle.recover.proofs.recover_determined.Statement.{statement}
+use Rattle.byte_edition.specs.EditionLaws.{bytes-sound}
 use Rattle.recover.proofs.recover_determined.Tie as tie
 
 -- the shape is good, and word and marks have its length
@@ -57,7 +58,7 @@ returns c =
     let n = not-true _ (d .if1 .taken) in
     let F = t .attempt .ensures .failed n in
     let g = t .attempt .ensures .group in
-    let e = service-nine (a .m) (a .w) (a .c) (a .word .now) (a .marks .now) (fair s) (λ p. k .slice-known .given p .fits) (s .pre .1) (F .1 (s .pre .1)) in (
+    let e = service-nine bytes-sound (a .m) (a .w) (a .c) (a .word .now) (a .marks .now) (fair s) (λ p. k .slice-known .given p .fits) (s .pre .1) (F .1 (s .pre .1)) in (
       ap Mending.Contradictory g ∙ ap (λ o. mendingAt (o .number) (o .group)) (sym e),
       (F .0 ∙ ap (λ o. o .word) (sym e), (cl .clear-if .ensures .1 n ∙ ap (λ o. o .marks) (sym e), λ z. omega arith)),
     )
@@ -77,7 +78,7 @@ returns-2 c =
     let a = s .args in
     let y = not-false _ (c .if1 .left) in
     let D = t .attempt .ensures .done y in
-    let e = service-done (a .m) (a .w) (a .c) (a .word .now) (a .marks .now) (fair s) (λ p. k .slice-known .given p .fits) _ (s .pre .1) D in (
+    let e = service-done bytes-sound (a .m) (a .w) (a .c) (a .word .now) (a .marks .now) (fair s) (λ p. k .slice-known .given p .fits) _ (s .pre .1) D in (
       ap (λ o. mendingAt (o .number) (o .group)) (sym e),
       (ap (λ o. o .word) (sym e), (cl .clear-if .ensures .0 y ∙ ap (λ o. o .marks) (sym e), λ z. omega arith)),
     )

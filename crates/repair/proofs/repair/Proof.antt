@@ -117,7 +117,7 @@ returns-3 c =
     let u = t .before .before .before .before in
     let a = u .before .before .before .before .before .before .args in
     let E = t .repair-part .ensures in
-    service-lent (a .m) (a .w) (a .c) (a .g) (a .word .now) (a .marks .now) (fair u) (omega arith) _ _ _ (E .0) (E .1 .0) (E .1 .1)
+    service-lent bytes (a .m) (a .w) (a .c) (a .g) (a .word .now) (a .marks .now) (fair u) (omega arith) _ _ _ (E .0) (E .1 .0) (E .1 .1)
 
 pub repair-spec : {M : Type 1} → statement M
 repair-spec =

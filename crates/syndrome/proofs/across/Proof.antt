@@ -39,8 +39,8 @@ loop-holds c =
     let a = c .before .before .before .args in (
       lent (a .m) (a .w) (a .c) (a .word .now) (sym (c .before .word-refusal .ensures) ∙ c .if1 .left),
       omega arith,
-      sym (word-none (a .w) (a .word .now) (λ _. coefficient bytes (a .c))),
-      sym (word-none (a .w) (a .word .now) (twisted bytes (a .c))),
+      sym (word-none bytes (a .w) (a .word .now) (λ _. coefficient bytes (a .c))),
+      sym (word-none bytes (a .w) (a .word .now) (twisted bytes (a .c))),
       sym (power-zero 8 285 2),
     )
 
@@ -90,8 +90,8 @@ loop-again c =
     let p : List ℕ = take (g * a .w + a .w - g * a .w) (drop (g * a .w) (a .word .now)) in (
       L,
       omega arith,
-      sum-turn L g l refl (λ _. coefficient bytes (a .c)) _ _ (s .loop .inv .2) (ap (λ s. s .first) (q .padded-sums .ensures)),
-      sum-turn L g l refl (twisted bytes (a .c)) _ _ (s .loop .inv .3)
+      sum-turn bytes L g l refl (λ _. coefficient bytes (a .c)) _ _ (s .loop .inv .2) (ap (λ s. s .first) (q .padded-sums .ensures)),
+      sum-turn bytes L g l refl (twisted bytes (a .c)) _ _ (s .loop .inv .3)
           (c .before .shifted-product .ensures ∙ ap₂ (product 8 285) (s .loop .inv .4) (ap (λ s. s .second) (q .padded-sums .ensures))
           ∙ twisted-group bytes (length p) (a .c) g p),
       c .double .ensures ∙ ap (double 8 285) (s .loop .inv .4) ∙ sym (power-next g) ∙ ap (power 8 285 2) (sym (add-one g)),

@@ -51,13 +51,13 @@ tested c =
     let s = t .before in
     let L = s .loop .inv .0 in
     let n = part-narrow L (s .loop .g) (t .loop-test .taken) refl in
-    c .local-zero .ensures .0 n (L .good .few-checks) ∙ part-local L (s .loop .g) (t .loop-test .taken) refl
+    c .local-zero .ensures .0 n (L .good .few-checks) ∙ part-local bytes L (s .loop .g) (t .loop-test .taken) refl
 
 returns : tie.Need-returns Inv-loop μ-loop
 returns c =
     let s = c .before .before .before .before in
     let a = s .before .before .args in
-    broken-is (a .m) (a .w) (a .c) (a .word .now) (s .loop .g) (omega arith) (s .loop .inv .2) (sym (tested (c .before)) ∙ not-true _ (c .if1 .taken))
+    broken-is bytes (a .m) (a .w) (a .c) (a .word .now) (s .loop .g) (omega arith) (s .loop .inv .2) (sym (tested (c .before)) ∙ not-true _ (c .if1 .taken))
 
 add-g : tie.Need-add-g Inv-loop μ-loop
 add-g c = omega arith
@@ -76,7 +76,7 @@ returns-2 : tie.Need-returns-2 Inv-loop μ-loop
 returns-2 c =
     let s = c .before in
     let a = s .before .before .args in
-    broken-none (a .m) (a .w) (a .c) (a .word .now) (s .loop .g) (s .loop .inv .1) (omega arith) (s .loop .inv .2)
+    broken-none bytes (a .m) (a .w) (a .c) (a .word .now) (s .loop .g) (s .loop .inv .1) (omega arith) (s .loop .inv .2)
 
 pub broken-group-spec : {M : Type 1} → statement M
 broken-group-spec =

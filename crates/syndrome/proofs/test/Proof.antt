@@ -35,7 +35,7 @@ returns-2 c =
     let b = c .before in
     let L = fair (b .before) in
     let a = b .before .before .before .before .args in
-    (λ _ _. ap₂ (λ v g. record { codeword = v; group = g }) (sym (broken-other (a .m) (a .w) (a .c) (a .word .now) (λ e. c .if2 .taken (b .broken-group .ensures ∙ e)))) (b .broken-group .ensures), λ k. absurd (k (L .good) (L .size)))
+    (λ _ _. ap₂ (λ v g. record { codeword = v; group = g }) (sym (broken-other bytes (a .m) (a .w) (a .c) (a .word .now) (λ e. c .if2 .taken (b .broken-group .ensures ∙ e)))) (b .broken-group .ensures), λ k. absurd (k (L .good) (L .size)))
 
 across-requires : tie.Need-across-requires
 across-requires c κs = search needs
@@ -49,7 +49,7 @@ decided c =
     let L = fair (b .before) in
     let a = b .before .before .before .before .args in
     ap (λ (s : Sums). both (eqb (s .first) 0) (eqb (s .second) 0)) (c .across .ensures .0 (L .good) (L .size))
-    ∙ sym (across-decide (a .m) (a .w) (a .c) (a .word .now) (sym (b .broken-group .ensures) ∙ t .if2 .left))
+    ∙ sym (across-decide bytes (a .m) (a .w) (a .c) (a .word .now) (sym (b .broken-group .ensures) ∙ t .if2 .left))
 
 returns-3 : tie.Need-returns-3
 returns-3 c =

@@ -1,0 +1,92 @@
+use mathlib.Core.Path.{_≡_, refl, ap₂, _∙_}
+use mathlib.Core.List.{List}
+use Prim.Native.Nat.{ℕ, _-_, _≤_, _<_}
+use native.Mathlib.Omega.{arith}
+use lib.ListN.{length, getD, length-set}
+use borrow.Author.Needs.{needs}
+use Rattle.binary_field.specs.Xor.{_⊕_}
+use Rattle.binary_field.specs.XorLaws.{⊕-bits}
+use Rattle.code.specs.Edition.{times}
+use Rattle.wide_edition.specs.Edition.{wide}
+use Rattle.fill.proofs.Laws.{each-set}
+use Rattle.candidate.proofs.Laws.{rest-set}
+use Rattle.wide_candidate.proofs.add_multiple.Statement.{statement}
+use Rattle.wide_candidate.proofs.add_multiple.Tie as tie
+
+abbrev Inv-loop : tie.InvT-loop
+Inv-loop u h part₀ i₀ part i =
+    (i ≤ length part₀) × (length part ≡ length part₀) × ((k : ℕ) → k < i → getD part k 0 ≡ getD part₀ k 0 ⊕ times wide u (getD h k 0))
+    × ((k : ℕ) → i ≤ k → getD part k 0 ≡ getD part₀ k 0)
+
+abbrev μ-loop : tie.MeasureT-loop
+μ-loop u h part₀ i₀ part i = length part₀ - i
+
+loop-holds : tie.Need-loop-holds Inv-loop μ-loop
+loop-holds c = (omega arith, refl, λ k l. absurd (omega arith), λ k l. refl)
+
+mul-part : tie.Need-mul-part Inv-loop μ-loop
+mul-part c = omega arith
+
+slice-read-part : tie.Need-slice-read-part Inv-loop μ-loop
+slice-read-part c = omega arith
+
+mul-product : tie.Need-mul-product Inv-loop μ-loop
+mul-product c = omega arith
+
+shared-slice-read-product : tie.Need-shared-slice-read-product Inv-loop μ-loop
+shared-slice-read-product c = omega arith
+
+product-requires : tie.Need-product-requires Inv-loop μ-loop
+product-requires c κs = search needs
+
+mul-part-2 : tie.Need-mul-part-2 Inv-loop μ-loop
+mul-part-2 c = omega arith
+
+slice-write-part : tie.Need-slice-write-part Inv-loop μ-loop
+slice-write-part c = omega arith
+
+add-i : tie.Need-add-i Inv-loop μ-loop
+add-i c = omega arith
+
+loop-less : tie.Need-loop-less Inv-loop μ-loop
+loop-less c = omega arith
+
+loop-again : tie.Need-loop-again Inv-loop μ-loop
+loop-again c =
+    let s = c .before .before .before .before in
+    let a = s .before .before .before .args in
+    let i : ℕ = s .loop .i in
+    let x : List ℕ = s .loop .part in
+    let x₀ : List ℕ = a .part .now in (
+      omega arith,
+      simp length-set (omega arith),
+      each-set (λ k v. v ≡ getD x₀ k 0 ⊕ times wide (a .u) (getD (a .h .now) k 0)) x i _ 0 (omega arith) (s .loop .inv .2)
+          (⊕-bits _ _ ∙ ap₂ _⊕_ (s .loop .inv .3 i (omega arith)) (c .product .ensures)),
+      rest-set (λ k. getD x₀ k 0) x i _ 0 (s .loop .inv .3),
+    )
+
+same-length : tie.Need-same-length Inv-loop μ-loop
+same-length c = omega arith
+
+returns : tie.Need-returns Inv-loop μ-loop
+returns c = let s = c .before in record { size = s .loop .inv .1; each = λ k l. s .loop .inv .2 k (omega arith) }
+
+pub add-multiple-spec : {M : Type 1} → statement M
+add-multiple-spec =
+    tie.close
+    (tie.spec
+    Inv-loop
+    μ-loop
+    loop-holds
+    mul-part
+    slice-read-part
+    mul-product
+    shared-slice-read-product
+    product-requires
+    mul-part-2
+    slice-write-part
+    add-i
+    loop-less
+    loop-again
+    same-length
+    returns)

@@ -1,0 +1,75 @@
+use mathlib.Core.Path.{refl, sym, _∙_}
+use native.Mathlib.Omega.{arith}
+use lib.ListN.{length, length-take}
+use borrow.Author.Needs.{needs}
+use Rattle.shape.specs.Laws.{word-of-good, places-most}
+use Rattle.groups.specs.Lent.{LentIn}
+use Rattle.groups.specs.LentLaws.{lent-in}
+use Rattle.wide_edition.specs.Edition.{wideLimits}
+use Rattle.wide_candidate.proofs.candidate.Statement.{statement}
+use Rattle.wide_candidate.proofs.candidate.Tie as tie
+
+word-refusal-requires : tie.Need-word-refusal-requires
+word-refusal-requires c κs = search needs
+
+returns : tie.Need-returns
+returns c =
+    let r = c .before in
+    let a = r .before .before .before .before .args in
+    (λ G e _ _. absurd (c .if1 .taken (r .word-refusal .ensures ∙ word-of-good (a .m) (a .w) (a .c) (length (a .word .now)) G e)), (refl, λ _. refl))
+
+-- past the first test the shape is good, and the word has its length
+shaped : (t : tie.Else1) → let a = t .before .before .before .before .before .args in LentIn wideLimits (a .m) (a .w) (a .c) (a .word .now)
+shaped t =
+    let r = t .before in
+    let a = r .before .before .before .before .args in
+    lent-in wideLimits (a .m) (a .w) (a .c) (a .word .now) (sym (r .word-refusal .ensures) ∙ t .if1 .left)
+
+returns-2 : tie.Need-returns-2
+returns-2 c = (λ _ e f _. absurd (c .if2 .taken (f ∙ sym e)), (refl, λ _. refl))
+
+returns-3 : tie.Need-returns-3
+returns-3 c = (λ _ e _ f. absurd (c .if3 .taken (f ∙ sym e)), (refl, λ _. refl))
+
+array-borrow-prefix-kept : tie.Need-array-borrow-prefix-kept
+array-borrow-prefix-kept c =
+    let t = c .before .before in
+    let L = shaped t in
+    let l = places-most (L .good) in
+    omega arith
+
+slice-aggregate-rebuild : tie.Need-slice-aggregate-rebuild
+slice-aggregate-rebuild c =
+    let t = c .before .before .before in
+    let L = shaped t in
+    let l = places-most (L .good) in
+    simp length-take (omega arith)
+
+rebuild-requires : tie.Need-rebuild-requires
+rebuild-requires c κs =
+    let t = c .before .before .before .before in
+    let L = shaped t in
+    let l = places-most (L .good) in
+    (L .good, (L .size, (omega arith, (simp length-take (omega arith), omega arith))))
+
+same-length : tie.Need-same-length
+same-length c = search needs
+
+returns-4 : tie.Need-returns-4
+returns-4 c =
+    let L = shaped (c .before .before .before .before .before .before .before .before) in
+    (search needs, (search needs, λ k. absurd (k (L .good) (L .size) (omega arith) (omega arith))))
+
+pub candidate-spec : {M : Type 1} → statement M
+candidate-spec =
+    tie.close
+    (tie.spec
+    word-refusal-requires
+    returns
+    returns-2
+    returns-3
+    array-borrow-prefix-kept
+    slice-aggregate-rebuild
+    rebuild-requires
+    same-length
+    returns-4)

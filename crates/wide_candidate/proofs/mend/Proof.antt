@@ -1,0 +1,73 @@
+use mathlib.Core.Path.{_≡_, refl}
+use native.Mathlib.Omega.{arith}
+use borrow.Author.Needs.{needs}
+use Rattle.candidate.specs.Mended.{MendedIn}
+use Rattle.candidate.proofs.Laws.{few-at}
+use Rattle.wide_candidate.proofs.mend.Statement.{statement}
+use Rattle.wide_candidate.proofs.mend.Tie as tie
+
+free-places-requires : tie.Need-free-places-requires
+free-places-requires c κs = search needs
+
+mend-one-requires : tie.Need-mend-one-requires
+mend-one-requires c κs =
+    let f = c .before .before .before in
+    let s = f .before .before .before .before in
+    let P = f .free-places .ensures .0 in
+    let l = P .less 0 (omega arith) in
+    (s .pre .0, (s .pre .1 .0, (omega arith, few-at (s .pre .1 .1 .1) P (s .pre .1 .1 .0) 0 (omega arith))))
+
+same-length : tie.Need-same-length
+same-length c = search needs
+
+returns : tie.Need-returns
+returns c =
+    let g = c .before .before in
+    let t = g .before .before in
+    MendedIn.one (rw (t .if1 .taken) at (t .before .before .free-places .ensures .0)) (g .mend-one .ensures)
+
+mend-two-requires : tie.Need-mend-two-requires
+mend-two-requires c κs =
+    let f = c .before .before .before .before .before in
+    let s = f .before .before .before .before in
+    let P = f .free-places .ensures .0 in
+    let l = P .less 0 (omega arith) in
+    let k = P .less 1 (omega arith) in (
+      s .pre .0,
+      (
+        s .pre .1 .0,
+        (
+          (omega arith, omega arith),
+          (few-at (s .pre .1 .1 .1) P (s .pre .1 .1 .0) 0 (omega arith), few-at (s .pre .1 .1 .1) P (s .pre .1 .1 .0) 1 (omega arith)),
+        ),
+      ),
+    )
+
+same-length-2 : tie.Need-same-length-2
+same-length-2 c = search needs
+
+returns-2 : tie.Need-returns-2
+returns-2 c =
+    let g = c .before .before in
+    let t = g .before .before in
+    MendedIn.two (rw (t .if2 .taken) at (t .before .before .before .before .free-places .ensures .0)) (g .mend-two .ensures)
+
+returns-3 : tie.Need-returns-3
+returns-3 c =
+    let f = c .before .before .before .before in
+    let k = f .free-places .ensures .0 .most in
+    let e : f .free-places .result .count ≡ 0 = omega arith in
+    MendedIn.none (rw e at (f .free-places .ensures .0)) refl
+
+pub mend-spec : {M : Type 1} → statement M
+mend-spec =
+    tie.close
+    (tie.spec
+    free-places-requires
+    mend-one-requires
+    same-length
+    returns
+    mend-two-requires
+    same-length-2
+    returns-2
+    returns-3)

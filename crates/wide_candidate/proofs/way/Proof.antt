@@ -1,0 +1,66 @@
+use native.Mathlib.Omega.{arith}
+use borrow.Author.Needs.{needs}
+use Rattle.groups.specs.LentLaws.{stretch-lent}
+use Rattle.candidate.proofs.Laws.{group-end, way-asked, way-given}
+use Rattle.wide_candidate.proofs.way.Statement.{statement}
+use Rattle.wide_candidate.proofs.way.Tie as tie
+
+div-g : tie.Need-div-g
+div-g c = search needs
+
+rem-j : tie.Need-rem-j
+rem-j c = search needs
+
+mul-a : tie.Need-mul-a
+mul-a c =
+    let s = c .before in
+    let a = s .args in
+    let e = group-end (a .m) (a .w) (a .c) (a .p) (s .pre .0) (s .pre .1 .0) in
+    omega arith
+
+add-e : tie.Need-add-e
+add-e c =
+    let s = c .before in
+    let a = s .args in
+    let e = group-end (a .m) (a .w) (a .c) (a .p) (s .pre .0) (s .pre .1 .0) in
+    omega arith
+
+sub-direction : tie.Need-sub-direction
+sub-direction c = search needs
+
+part-direction-start : tie.Need-part-direction-start
+part-direction-start c = search needs
+
+part-direction-end : tie.Need-part-direction-end
+part-direction-end c =
+    let s = c .before in
+    let a = s .args in
+    let e = group-end (a .m) (a .w) (a .c) (a .p) (s .pre .0) (s .pre .1 .0) in
+    omega arith
+
+direction-requires : tie.Need-direction-requires
+direction-requires c κs =
+    let s = c .before .before in
+    let a = s .args in
+    rw (stretch-lent (a .w) _ (a .kept .now)) (way-asked (a .m) (a .w) (a .c) (a .p) (s .pre .0) (s .pre .1 .0) (a .kept .now) (s .pre .1 .1))
+
+returns : tie.Need-returns
+returns c =
+    let s = c .before .before .before in
+    let a = s .args in
+    way-given (a .m) (a .w) (a .c) (a .p) (s .pre .0) (s .pre .1 .0) (a .kept .now) (s .pre .1 .1) (c .direction .result)
+    (rw (stretch-lent (a .w) _ (a .kept .now)) at (c .direction .ensures))
+
+pub way-spec : {M : Type 1} → statement M
+way-spec =
+    tie.close
+    (tie.spec
+    div-g
+    rem-j
+    mul-a
+    add-e
+    sub-direction
+    part-direction-start
+    part-direction-end
+    direction-requires
+    returns)

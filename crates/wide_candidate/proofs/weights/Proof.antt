@@ -1,0 +1,38 @@
+use native.Mathlib.Omega.{arith}
+use mathlib.Core.Path.{_≡_, sym, ap, ap₂, _∙_}
+use mathlib.Core.List.{List}
+use Prim.Native.Nat.{ℕ}
+use lib.ListN.{length, take, length-take}
+use Rattle.code.specs.Word.{groupSum, coefficient, twisted}
+use Rattle.code.specs.LoneLaws.{lone-word}
+use Rattle.wide_edition.specs.Edition.{wide}
+use borrow.Author.Needs.{needs}
+use Rattle.wide_candidate.proofs.weights.Statement.{statement}
+use Rattle.wide_candidate.proofs.weights.Tie as tie
+
+array-share-prefix-h : tie.Need-array-share-prefix-h
+array-share-prefix-h c = search needs
+
+slice-aggregate-group-sums : tie.Need-slice-aggregate-group-sums
+slice-aggregate-group-sums c = simp length-take (omega arith)
+
+group-sums-requires : tie.Need-group-sums-requires
+group-sums-requires c κs = search needs
+
+returns : tie.Need-returns
+returns c =
+    let s = c .before .before in
+    let a = s .args in
+    let h : List ℕ = take (a .w) (a .t5) in
+    let n = length-take (a .w) (a .t5) in
+    let long : length h ≡ a .w = omega arith in
+    ap₂ (λ x y. record { first = x; second = y })
+    (c .group-sums .ensures .0 (omega arith) (omega arith) ∙ ap (λ n. groupSum wide n h 0 (coefficient wide (a .c))) long
+    ∙ sym (lone-word (a .m) (a .w) (a .g) h (s .pre .1) long wide _))
+    (c .group-sums .ensures .1 .0 (omega arith) (omega arith) ∙ ap (λ n. groupSum wide n h 0 (twisted wide (a .c) (a .g))) long
+    ∙ sym (lone-word (a .m) (a .w) (a .g) h (s .pre .1) long wide _))
+
+pub weights-spec : {M : Type 1} → statement M
+weights-spec =
+    tie.close
+    (tie.spec array-share-prefix-h slice-aggregate-group-sums group-sums-requires returns)

@@ -1,0 +1,81 @@
+use mathlib.Core.Path.{_≡_, refl, sym, ap, _∙_, subst}
+use Prim.Native.Nat.{_≤_}
+use lib.ListN.{length}
+use lib.Seq.{length-take-le}
+use Rattle.shape.specs.RefusalsLaws.{unless-refused}
+use Rattle.shape.specs.Laws.{places-most}
+use Rattle.shape.specs.Answers.{answerAt}
+use Rattle.shape.specs.AnswersLaws.{answer-refused}
+use Rattle.encode.specs.Service.{encodeRefusalIn, encodeIn, encodedBufferIn}
+use Rattle.wide_edition.specs.Edition.{wide}
+use Rattle.wide_edition.specs.EditionLaws.{wide-sound}
+use Rattle.encode.specs.Laws.{good-of-encode, after-size, buffer-end}
+use borrow.Author.Needs.{needs}
+use Rattle.wide_edition.specs.Edition.{wideLimits}
+use Rattle.wide_encode.proofs.encode.Statement.{statement}
+use Rattle.wide_encode.proofs.encode.Tie as tie
+
+refusal-requires : tie.Need-refusal-requires
+refusal-requires c κs = search needs
+
+returns : tie.Need-returns
+unfolding encodeIn encodedBufferIn
+returns c =
+    let r = c .before .refusal in
+    let e = r .ensures in (
+      cc (answer-refused (r .result) (c .if1 .taken)),
+      (e, sym (rw (← e) (unless-refused (r .result) _ _ (c .if1 .taken)))),
+    )
+
+place-requires : tie.Need-place-requires
+place-requires c κs = search needs
+
+array-borrow-prefix-marks : tie.Need-array-borrow-prefix-marks
+array-borrow-prefix-marks c =
+    let p = c .before .before .before in
+    let r = p .before .before .before in
+    let a = r .before .before .before .args in
+    let z : encodeRefusalIn wideLimits (a .m) (a .w) (a .c) (length (a .word .now)) (length (a .symbols .now)) ≡ 0 = cc in
+    let g = good-of-encode (a .m) (a .w) (a .c) (length (a .word .now)) (length (a .symbols .now)) z in
+    subst (λ n. n ≤ 4096) (sym (after-size wide (a .m) (a .w) (a .c) (a .symbols .now) (a .word .now) _ z (p .place .ensures))) (places-most (g .0))
+
+slice-aggregate-fill-checks : tie.Need-slice-aggregate-fill-checks
+slice-aggregate-fill-checks c = sym (length-take-le _ _ (array-borrow-prefix-marks (c .before)))
+
+fill-checks-requires : tie.Need-fill-checks-requires
+fill-checks-requires c κs =
+    let p = c .before .before .before .before in
+    let r = p .before .before .before in
+    let a = r .before .before .before .args in
+    let z : encodeRefusalIn wideLimits (a .m) (a .w) (a .c) (length (a .word .now)) (length (a .symbols .now)) ≡ 0 = cc in
+    let g = good-of-encode (a .m) (a .w) (a .c) (length (a .word .now)) (length (a .symbols .now)) z in
+    (g .0, sym (slice-aggregate-fill-checks c) ∙ after-size wide (a .m) (a .w) (a .c) (a .symbols .now) (a .word .now) _ z (p .place .ensures))
+
+same-length : tie.Need-same-length
+same-length c = search needs
+
+returns-2 : tie.Need-returns-2
+unfolding encodeIn
+returns-2 c =
+    let f = c .before .before .before in
+    let p = f .before .before .before .before .before in
+    let r = p .before .before .before in
+    let k = r .before .before in
+    let a = k .before .args in
+    let z : encodeRefusalIn wideLimits (a .m) (a .w) (a .c) (length (a .word .now)) (length (a .symbols .now)) ≡ 0 = cc in (
+      sym (ap answerAt z),
+      (sym z, buffer-end wide (a .m) (a .w) (a .c) (a .symbols .now) (a .word .now) _ z (p .place .ensures) wide-sound (λ i. k .shared-slice-known .given i .fits) _ (f .fill-checks .ensures)),
+    )
+
+pub encode-spec : {M : Type 1} → statement M
+encode-spec =
+    tie.close
+    (tie.spec
+    refusal-requires
+    returns
+    place-requires
+    array-borrow-prefix-marks
+    slice-aggregate-fill-checks
+    fill-checks-requires
+    same-length
+    returns-2)

@@ -1,0 +1,6 @@
+pub mod Symbols
+pub mod SymbolsLaws
+pub mod Locators
+pub mod LocatorsLaws
+pub mod LocatorRow
+pub mod LocatorRowLaws

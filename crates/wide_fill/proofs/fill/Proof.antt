@@ -1,0 +1,74 @@
+use mathlib.Core.Path.{_≡_}
+use Prim.Native.Nat.{ℕ, min}
+use native.Mathlib.Omega.{arith}
+use lib.ListN.{length}
+use mir.Syntax.{w16}
+use Rattle.wide_edition.specs.Edition.{wide}
+use Rattle.wide_edition.specs.EditionLaws.{wide-sound}
+use Rattle.solve.proofs.Arrays.{array-system}
+use Rattle.fill.proofs.Laws.{zeros-at, unchanged, filled}
+use borrow.Author.Needs.{needs}
+use Rattle.wide_fill.proofs.fill.Statement.{statement}
+use Rattle.wide_fill.proofs.fill.Tie as tie
+
+returns : tie.Need-returns
+returns c = search needs
+
+returns-2 : tie.Need-returns-2
+returns-2 c = search needs
+
+find-requires : tie.Need-find-requires
+find-requires c κs = search needs
+
+returns-3 : tie.Need-returns-3
+returns-3 c = let f = c .before .find in unchanged wide _ _ (f .result .count) (f .ensures .all) (c .if3 .taken)
+
+place-requires : tie.Need-place-requires
+place-requires c κs = (omega arith, λ i l. let b = c .before .before .before .find .ensures .few (omega arith) .inside i (omega arith) in omega arith)
+
+equations-requires : tie.Need-equations-requires
+equations-requires c κs =
+    let f = c .before .before .before .before .before .before .before in
+    (omega arith, omega arith, λ i l. let b = f .find .ensures .few (omega arith) .inside i (omega arith) in omega arith)
+
+eliminate-requires : tie.Need-eliminate-requires
+eliminate-requires c κs = search needs
+
+place-requires-2 : tie.Need-place-requires-2
+place-requires-2 c κs =
+    let f = c .before .before .before .before .before .before .before .before .before .before in
+    (omega arith, λ i l. let b = f .find .ensures .few (omega arith) .inside i (omega arith) in omega arith)
+
+same-length : tie.Need-same-length
+same-length c = search needs
+
+returns-4 : tie.Need-returns-4
+returns-4 c =
+    let p = c .before .before in
+    let x = p .before .before in
+    let q = x .before in
+    let z = q .before .before .before .before in
+    let f = z .before .before .before .before in
+    let a = f .before .before .before .before .before .args in
+    let t : ℕ = f .find .result .count in
+    let m : min t 4 ≡ t = omega arith in
+    let w : length (a .marks .now) ≡ length (a .part .now) = omega arith in
+    filled (a .marks .now) (a .part .now) (z .place .last .0) (p .place2 .last .0) (f .find .result .at) _ (q .equations .result) (x .eliminate .result) t
+    (rw w at (f .find .ensures .few (omega arith))) (z .place .ensures) (p .place2 .ensures) wide wide-sound (λ i. zeros-at 4 16 i 4) (omega arith)
+    (array-system w16 16 4 (q .equations .result) _ (q .equations .ok) t (omega arith)) (q .equations .ensures) (rw m at (x .eliminate .ensures))
+    w (omega arith) (rw w at (f .find .ensures .all))
+
+pub fill-spec : {M : Type 1} → statement M
+fill-spec =
+    tie.close
+    (tie.spec
+    returns
+    returns-2
+    find-requires
+    returns-3
+    place-requires
+    equations-requires
+    eliminate-requires
+    place-requires-2
+    same-length
+    returns-4)

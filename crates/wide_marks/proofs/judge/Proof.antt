@@ -1,0 +1,61 @@
+use mathlib.Core.Path.{_≡_, sym, ap, _∙_}
+use mathlib.Core.List.{List}
+use Prim.Native.Nat.{ℕ}
+use borrow.Author.Needs.{needs}
+use borrow.Author.Tests.{lt-ltb, le-ltb}
+use lib.Dec.{ltb}
+use Rattle.shape.specs.Refusals.{refuse}
+use Rattle.wide_edition.specs.Edition.{wideLimits}
+use Rattle.marks.specs.Refusal.{marksRefusalIn}
+use Rattle.marks.specs.RefusalLaws.{good-of-marks}
+use Rattle.shape.specs.RefusalsLaws.{orElse-first}
+use Rattle.judge.specs.Answer.{judgedNumberOf, judgedNumberIn, judgedAt, judgedIn, judgedOf, judgedNumber}
+use Rattle.judge.specs.Laws.{judged-refused, judged-number, number-of}
+use Rattle.judge.specs.declared.Judged.{Judged}
+use Rattle.wide_marks.proofs.judge.Statement.{statement}
+use Rattle.wide_marks.proofs.judge.Tie as tie
+
+-- the number follows from the answer
+whole : (m w c : ℕ) (marks : List ℕ) (r : Judged) → r ≡ judgedIn wideLimits m w c marks
+    → (r ≡ judgedIn wideLimits m w c marks) × (judgedNumber r ≡ judgedNumberIn wideLimits m w c marks)
+whole m w c marks r e = (e, ap judgedNumber e ∙ judged-number wideLimits m w c marks)
+
+marks-refusal-requires : tie.Need-marks-refusal-requires
+marks-refusal-requires c κs = search needs
+
+returns : tie.Need-returns
+unfolding judgedIn judgedNumberIn
+returns c =
+    let a = c .before .before .before .args in
+    let e = c .before .marks-refusal .ensures in
+    whole (a .m) (a .w) (a .c) (a .marks .now) _
+    (sym (judged-refused _ (c .if1 .taken)) ∙ ap judgedAt (e ∙ sym (orElse-first _ _ (λ z. c .if1 .taken (e ∙ z)))))
+
+excess-of-requires : tie.Need-excess-of-requires
+excess-of-requires c κs = search needs
+
+answered : (c : tie.After-excess-of)
+    → judgedAt (refuse 8 (ltb 2 (c .excess-of .result)))
+    ≡ judgedIn wideLimits (c .before .before .before .before .args .m) (c .before .before .before .before .args .w) (c .before .before .before .before .args .c)
+    (c .before .before .before .before .args .marks .now)
+unfolding judgedIn
+answered c =
+    let t = c .before in
+    let a = t .before .before .before .args in
+    let e : marksRefusalIn wideLimits (a .m) (a .w) (a .c) (a .marks .now) ≡ 0 = sym (t .before .marks-refusal .ensures) ∙ t .if1 .left in
+    let g = good-of-marks (a .m) (a .w) (a .c) (a .marks .now) e in
+    ap judgedAt (ap (λ n. refuse 8 (ltb 2 n)) (c .excess-of .ensures .0 (g .good) (g .size)) ∙ sym (number-of wideLimits (a .m) (a .w) (a .c) (a .marks .now) e))
+
+returns-2 : tie.Need-returns-2
+returns-2 c =
+    let a = c .before .before .before .before .before .args in
+    whole (a .m) (a .w) (a .c) (a .marks .now) _ (ap (λ b. judgedAt (refuse 8 b)) (sym (lt-ltb _ _ (c .if2 .taken))) ∙ answered (c .before))
+
+returns-3 : tie.Need-returns-3
+returns-3 c =
+    let a = c .before .before .before .before .before .args in
+    whole (a .m) (a .w) (a .c) (a .marks .now) _ (ap (λ b. judgedAt (refuse 8 b)) (sym (le-ltb _ _ (c .if2 .left))) ∙ answered (c .before))
+
+pub judge-spec : {M : Type 1} → statement M
+judge-spec =
+    tie.close (tie.spec marks-refusal-requires returns excess-of-requires returns-2 returns-3)

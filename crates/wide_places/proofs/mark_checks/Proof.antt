@@ -1,0 +1,40 @@
+use mathlib.Core.Path.{_≡_, sym}
+use lib.ListN.{length}
+use Rattle.shape.specs.RefusalsLaws.{unless-refused}
+use Rattle.shape.specs.Shapes.{wordRefusalIn}
+use Rattle.shape.specs.Laws.{good-of-word}
+use Rattle.places.specs.Places.{markedChecksIn}
+use borrow.Author.Needs.{needs}
+use Rattle.wide_edition.specs.Edition.{wideLimits}
+use Rattle.wide_places.proofs.mark_checks.Statement.{statement}
+use Rattle.wide_places.proofs.mark_checks.Tie as tie
+
+word-refusal-requires : tie.Need-word-refusal-requires
+word-refusal-requires c κs = search needs
+
+returns : tie.Need-returns
+unfolding markedChecksIn
+returns c =
+    let r = c .before .word-refusal in
+    let e = r .ensures in
+    sym (rw (← e) (unless-refused (r .result) _ _ (c .if1 .taken)))
+
+write-marks-requires : tie.Need-write-marks-requires
+write-marks-requires c κs =
+    let a = c .before .before .before .before .args in
+    let z = good-of-word {L = wideLimits} (a .m) (a .w) (a .c) (length (a .marks .now)) (cc) in
+    (z .0, z .1)
+
+same-length : tie.Need-same-length
+same-length c = search needs
+
+returns-2 : tie.Need-returns-2
+unfolding markedChecksIn
+returns-2 c =
+    let a = c .before .before .before .before .before .before .before .args in
+    let z : wordRefusalIn wideLimits (a .m) (a .w) (a .c) (length (a .marks .now)) ≡ 0 = cc in
+    rw z (c .before .before .write-marks .ensures)
+
+pub mark-checks-spec : {M : Type 1} → statement M
+mark-checks-spec =
+    tie.close (tie.spec word-refusal-requires returns write-marks-requires same-length returns-2)

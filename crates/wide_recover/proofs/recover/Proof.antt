@@ -1,0 +1,95 @@
+use mathlib.Core.Path.{_≡_, sym, ap, _∙_}
+use Prim.Native.Nat.{_≤_}
+use native.Mathlib.Omega.{arith}
+use Rattle.shape.specs.Answers.{mendingAt}
+use Rattle.shape.specs.AnswersLaws.{mending-refused}
+use Rattle.code.specs.Marks.{excess}
+use Rattle.recover.specs.Attempt.{AcceptedIn}
+use Rattle.recover.specs.AttemptLaws.{accepted, service-refused, service-eight}
+use borrow.Author.Needs.{needs}
+use Rattle.wide_recover.specs.RefusalLaws.{not-nine}
+use Rattle.wide_recover.proofs.recover.Statement.{statement}
+use Rattle.wide_edition.specs.EditionLaws.{wide-sound}
+use Rattle.wide_edition.specs.Edition.{wideLimits}
+use Rattle.wide_edition.specs.Edition.{wide}
+use Rattle.wide_recover.proofs.recover.Tie as tie
+
+refusal-requires : tie.Need-refusal-requires
+refusal-requires c κs = search needs
+
+same-length : tie.Need-same-length
+same-length c = search needs
+
+same-length-2 : tie.Need-same-length-2
+same-length-2 c = search needs
+
+returns : tie.Need-returns
+returns c =
+    let r = c .before in
+    let a = r .before .before .before .before .before in
+    let e = service-refused wide (a .args .m) (a .args .w) (a .args .c) (a .args .word .now) (a .args .marks .now) (r .refusal .result) (r .refusal .ensures) (c .if1 .taken) in
+    let n : r .refusal .result ≡ 9 → ⊥ =
+    λ z. not-nine wideLimits (a .args .m) (a .args .w) (a .args .c) (a .args .word .now) (a .args .marks .now) (sym (r .refusal .ensures) ∙ z) in
+    (sym (mending-refused (r .refusal .result) 0 (c .if1 .taken) n) ∙ ap (λ o. mendingAt (o .number) (o .group)) (sym e), (ap (λ o. o .word) (sym e), ap (λ o. o .marks) (sym e)))
+
+-- past the first test the shape is good, and word and marks have its length
+fair : (t : tie.Else1) → let a = t .before .before .before .before .before .before .args in AcceptedIn wideLimits (a .m) (a .w) (a .c) (a .word .now) (a .marks .now)
+fair t =
+    let r = t .before in
+    let a = r .before .before .before .before .before .args in
+    accepted (a .m) (a .w) (a .c) (a .word .now) (a .marks .now) (r .refusal .result) (r .refusal .ensures) (omega arith)
+
+excess-of-requires : tie.Need-excess-of-requires
+excess-of-requires c κs = search needs
+
+same-length-3 : tie.Need-same-length-3
+same-length-3 c = search needs
+
+same-length-4 : tie.Need-same-length-4
+same-length-4 c = search needs
+
+returns-2 : tie.Need-returns-2
+returns-2 c =
+    let x = c .before in
+    let t = x .before .before in
+    let k = t .before .before .before .before .before in
+    let a = k .before .args in
+    let h = x .excess-of .ensures .0 (fair t .good) (fair t .marks-size) in
+    let e = service-eight wide-sound (a .m) (a .w) (a .c) (a .word .now) (a .marks .now) (fair t) (λ p. k .slice-known .given p .fits) (rw (← h) (c .if2 .taken)) in
+    (ap (λ o. mendingAt (o .number) (o .group)) (sym e), (ap (λ o. o .word) (sym e), ap (λ o. o .marks) (sym e)))
+
+-- past the second test the excess is at most two
+low : (t : tie.Else2) → let a = t .before .before .before .before .before .before .before .before .before .args in excess (a .m) (a .w) (a .c) (a .marks .now) ≤ 2
+low t =
+    let A = fair (t .before .before .before) in
+    let h = t .before .excess-of .ensures .0 (A .good) (A .marks-size) in
+    rw (← h) (t .if2 .left)
+
+recover-determined-requires : tie.Need-recover-determined-requires
+recover-determined-requires c κs = let t = c .before .before in (fair (t .before .before .before) .refusal, low t)
+
+same-length-5 : tie.Need-same-length-5
+same-length-5 c = search needs
+
+same-length-6 : tie.Need-same-length-6
+same-length-6 c = search needs
+
+returns-3 : tie.Need-returns-3
+returns-3 c = search needs
+
+pub recover-spec : {M : Type 1} → statement M
+recover-spec =
+    tie.close
+    (tie.spec
+    refusal-requires
+    same-length
+    same-length-2
+    returns
+    excess-of-requires
+    same-length-3
+    same-length-4
+    returns-2
+    recover-determined-requires
+    same-length-5
+    same-length-6
+    returns-3)

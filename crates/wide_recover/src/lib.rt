@@ -1,0 +1,84 @@
+// The service Recover of the sixteen-bit edition.
+use shape::Mending;
+use syndrome::Tested;
+ghost use mathlib.Core.Path.{_≡_};
+ghost use Prim.Native.Nat.{_*_, _≤_};
+ghost use lib.ListN.{length};
+ghost use Rattle.wide_edition.specs.Edition.{wideLimits, wide};
+ghost use Rattle.shape.specs.Shapes.{GoodIn};
+ghost use Rattle.shape.specs.Answers.{mendingAt, mendingNumber};
+ghost use Rattle.code.specs.Marks.{excess};
+ghost use Rattle.recover.specs.Service.{recoverRefusalIn, recoverIn};
+ghost use Rattle.recover.specs.Attempt.{AttemptIn};
+
+// The refusal of a call by its shape, its lengths and its marks, 1 to 4, 26, 5 and 6; 0 if there is none.
+pub fn refusal(m: usize, w: usize, c: usize, word: &[u16], marks: &[u8]) -> u8
+    ensures { λ r. ⌜ r ≡ recoverRefusalIn wideLimits m w c (now (word .entry)) (now (marks .entry)) ⌝ }
+{
+    let r = wide_shape::word_refusal(m, w, c, word.len());
+    if r != 0 {
+        return r;
+    }
+    wide_marks::marks_refusal(m, w, c, marks)
+}
+
+// Writes the candidate, made in found, into the word if it is a codeword; else it names the group that contradicts.
+fn attempt(
+    m: usize,
+    w: usize,
+    c: usize,
+    word: &mut [u16],
+    marks: &[u8],
+    found: &mut [u16],
+) -> Tested
+    requires { ⌜ GoodIn wideLimits m w c ⌝ }
+    requires { ⌜ length (now word) ≡ m * w ⌝ }
+    requires { ⌜ length (now marks) ≡ m * w ⌝ }
+    requires { ⌜ length (now found) ≡ m * w ⌝ }
+    ensures { λ r. ⌜ AttemptIn wide m w c (now (marks .entry)) (now (word .entry)) (now (word .exit)) r ⌝ }
+{
+    wide_candidate::candidate(m, w, c, word, marks, found);
+    let tested = wide_sums::test(m, w, c, found);
+    if !tested.codeword {
+        return tested;
+    }
+    let end = word.len();
+    wide_buffers::copy(&found[..end], &mut word[..end]);
+    tested
+}
+
+// What comes after the test of the excess: the codeword that agrees is written and all marks are cleared, or it answers 9 with the group that contradicts and changes nothing.
+fn recover_determined(m: usize, w: usize, c: usize, word: &mut [u16], marks: &mut [u8]) -> Mending
+    requires { ⌜ recoverRefusalIn wideLimits m w c (now word) (now marks) ≡ 0 ⌝ }
+    requires { ⌜ excess m w c (now marks) ≤ 2 ⌝ }
+    ensures answer { λ r. ⌜ r ≡ mendingAt ((recoverIn wide m w c (now (word .entry)) (now (marks .entry))) .number) ((recoverIn wide m w c (now (word .entry)) (now (marks .entry))) .group) ⌝ }
+    ensures word { λ _. ⌜ now (word .exit) ≡ (recoverIn wide m w c (now (word .entry)) (now (marks .entry))) .word ⌝ }
+    ensures marks { λ _. ⌜ now (marks .exit) ≡ (recoverIn wide m w c (now (word .entry)) (now (marks .entry))) .marks ⌝ }
+    ensures never_eight { λ r. ⌜ (mendingNumber r ≡ 8 → ⊥) ⌝ }
+{
+    let n = word.len();
+    let mut found = [0u16; 4096];
+    let tested = attempt(m, w, c, word, marks, &mut found[..n]);
+    let done = tested.codeword;
+    buffers::clear_if(done, marks);
+    if !done {
+        return Mending::Contradictory(tested.group as u8);
+    }
+    Mending::Done
+}
+
+// Recovers the whole word from its present symbols, or refuses and changes nothing.
+pub fn recover(m: usize, w: usize, c: usize, word: &mut [u16], marks: &mut [u8]) -> Mending
+    ensures answer { λ r. ⌜ r ≡ mendingAt ((recoverIn wide m w c (now (word .entry)) (now (marks .entry))) .number) ((recoverIn wide m w c (now (word .entry)) (now (marks .entry))) .group) ⌝ }
+    ensures word { λ _. ⌜ now (word .exit) ≡ (recoverIn wide m w c (now (word .entry)) (now (marks .entry))) .word ⌝ }
+    ensures marks { λ _. ⌜ now (marks .exit) ≡ (recoverIn wide m w c (now (word .entry)) (now (marks .entry))) .marks ⌝ }
+{
+    let r = refusal(m, w, c, word, marks);
+    if r != 0 {
+        return Mending::Refused(r);
+    }
+    if 2 < wide_marks::excess_of(m, w, c, marks) {
+        return Mending::Refused(8);
+    }
+    recover_determined(m, w, c, word, marks)
+}

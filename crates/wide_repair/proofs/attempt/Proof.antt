@@ -1,0 +1,82 @@
+use mathlib.Core.Path.{_≡_, refl, sym, ap, _∙_, subst}
+use mathlib.Core.Bool.{true, false}
+use native.Mathlib.Omega.{arith}
+use borrow.Author.Tests.{not-true, not-false}
+use Prim.Native.Nat.{_≤_}
+use lib.ListN.{length}
+use Rattle.wide_edition.specs.Edition.{wide}
+use Rattle.code.specs.Word.{isLocal}
+use Rattle.fill.specs.Filled.{FilledIn}
+use Rattle.repair.specs.Service.{PartAttemptIn}
+use Rattle.wide_edition.specs.EditionLaws.{wide-sound}
+use Rattle.repair.specs.ServiceLaws.{part-done, part-failed}
+use borrow.Author.Needs.{needs}
+use Rattle.wide_repair.proofs.attempt.Statement.{statement}
+use Rattle.wide_repair.proofs.attempt.Tie as tie
+
+copy-requires : tie.Need-copy-requires
+copy-requires c κs = search needs
+
+fill-requires : tie.Need-fill-requires
+fill-requires c κs = search needs
+
+local-zero-requires : tie.Need-local-zero-requires
+local-zero-requires c κs = search needs
+
+same-length : tie.Need-same-length
+same-length c = search needs
+
+same-length-2 : tie.Need-same-length-2
+same-length-2 c = search needs
+
+returns : tie.Need-returns
+returns c =
+    let z = c .before in
+    let k = z .before .before in
+    let f = k .before .before in
+    let cp = f .before .before .before .before in
+    let s = cp .before .before .before .before .before in
+    let a = s .before in
+    let p = a .pre in
+    part-failed wide-sound (length (a .args .part .now)) (a .args .c) (p .0) (p .1 .0) (p .1 .1 .0) (a .args .marks .now) (a .args .part .now) _ _ refl (p .1 .1 .1 .0)
+    (λ i. s .slice-known .given i .fits) (λ i. k .slice-known4 .given i .fits) (p .1 .1 .1 .1 .1)
+    (cp .copy .ensures .0 (sym (p .1 .1 .1 .1 .0))) (f .fill .ensures) _ (z .local-zero .ensures .0) (not-true _ (c .if1 .taken))
+
+copy-requires-2 : tie.Need-copy-requires-2
+copy-requires-2 c κs = search needs
+
+same-length-3 : tie.Need-same-length-3
+same-length-3 c = search needs
+
+same-length-4 : tie.Need-same-length-4
+same-length-4 c = search needs
+
+returns-2 : tie.Need-returns-2
+returns-2 c =
+    let cp2 = c .before .before in
+    let e = cp2 .before .before .before in
+    let z = e .before in
+    let k = z .before .before in
+    let f = k .before .before in
+    let cp = f .before .before .before .before in
+    let s = cp .before .before .before .before .before in
+    let a = s .before in
+    let p = a .pre in
+    part-done wide-sound (length (a .args .part .now)) (a .args .c) (p .0) (p .1 .0) (p .1 .1 .0) (a .args .marks .now) (a .args .part .now) _ _ refl (p .1 .1 .1 .0)
+    (λ i. s .slice-known .given i .fits) (λ i. k .slice-known4 .given i .fits) (p .1 .1 .1 .1 .1)
+    (cp .copy .ensures .0 (sym (p .1 .1 .1 .1 .0))) (f .fill .ensures) _ (z .local-zero .ensures .0) _ (not-false _ (e .if1 .left)) (cp2 .copy2 .ensures .0)
+
+pub attempt-spec : {M : Type 1} → statement M
+attempt-spec =
+    tie.close
+    (tie.spec
+    copy-requires
+    fill-requires
+    local-zero-requires
+    same-length
+    same-length-2
+    returns
+    copy-requires-2
+    same-length-3
+    same-length-4
+    returns-2)

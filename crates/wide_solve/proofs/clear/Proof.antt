@@ -1,0 +1,70 @@
+use mathlib.Core.Path.{_≡_, _∙_}
+use Prim.Native.Nat.{ℕ, _-_, _≤_}
+use native.Mathlib.Omega.{arith}
+use lib.ListN.{length}
+use borrow.Author.Needs.{needs}
+use Rattle.solve.specs.Elimination.{cleared}
+use Rattle.solve.specs.Flat.{rowsOf}
+use Rattle.solve.proofs.Laws.{clear-none, clear-pivot, clear-next}
+use Rattle.wide_solve.proofs.clear.Statement.{statement}
+use Rattle.wide_solve.proofs.clear.Tie as tie
+
+abbrev Inv-loop : tie.InvT-loop
+Inv-loop x₀ j t b i₀ x i = (i ≤ t) × (length x ≡ 64) × (rowsOf x ≡ cleared 16 69643 (rowsOf x₀) j i)
+
+abbrev μ-loop : tie.MeasureT-loop
+μ-loop x₀ j t b i₀ x i = t - i
+
+row-at-requires : tie.Need-row-at-requires Inv-loop μ-loop
+row-at-requires c κs = search needs
+
+loop-holds : tie.Need-loop-holds Inv-loop μ-loop
+loop-holds c = (omega arith, omega arith, clear-none 16 69643 _ _)
+
+slice-aggregate-clear-row : tie.Need-slice-aggregate-clear-row Inv-loop μ-loop
+slice-aggregate-clear-row c = search needs
+
+clear-row-requires : tie.Need-clear-row-requires Inv-loop μ-loop
+clear-row-requires c κs =
+    let s = c .before .before .before in
+    let r = s .before in
+    let a = r .before .before .before in
+    ((omega arith, omega arith, omega arith), r .row-at .ensures ∙ clear-pivot 16 69643 (rowsOf (a .args .x .now)) (a .args .j) (rowsOf (s .loop .x)) (s .loop .i) (s .loop .inv .2))
+
+add-i : tie.Need-add-i Inv-loop μ-loop
+add-i c = omega arith
+
+loop-less : tie.Need-loop-less Inv-loop μ-loop
+loop-less c = omega arith
+
+loop-again : tie.Need-loop-again Inv-loop μ-loop
+loop-again c =
+    let r = c .before .before in
+    let s = r .before .before .before .before in
+    let a = s .before .before .before .before .args in
+    (omega arith, search needs, r .clear-row .ensures ∙ clear-next 16 69643 (rowsOf (a .x .now)) (a .j) (rowsOf (s .loop .x)) (s .loop .i) (s .loop .inv .2))
+
+same-length : tie.Need-same-length Inv-loop μ-loop
+same-length c = omega arith
+
+returns : tie.Need-returns Inv-loop μ-loop
+returns c =
+    let s = c .before in
+    let e : s .loop .i ≡ s .before .before .before .before .args .t = omega arith in
+    cc
+
+pub clear-spec : {M : Type 1} → statement M
+clear-spec =
+    tie.close
+    (tie.spec
+    Inv-loop
+    μ-loop
+    row-at-requires
+    loop-holds
+    slice-aggregate-clear-row
+    clear-row-requires
+    add-i
+    loop-less
+    loop-again
+    same-length
+    returns)

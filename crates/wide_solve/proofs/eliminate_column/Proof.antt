@@ -1,0 +1,57 @@
+use mathlib.Core.Path.{ap, _∙_}
+use native.Mathlib.Omega.{arith}
+use Rattle.solve.specs.Elimination.{cleared}
+use Rattle.solve.specs.Flat.{rowsOf}
+use Rattle.solve.proofs.Laws.{column-found, column-none}
+use borrow.Author.Needs.{needs}
+use Rattle.wide_solve.proofs.eliminate_column.Statement.{statement}
+use Rattle.wide_solve.proofs.eliminate_column.Tie as tie
+
+pivot-requires : tie.Need-pivot-requires
+pivot-requires c κs = search needs
+
+same-length : tie.Need-same-length
+same-length c = search needs
+
+returns : tie.Need-returns
+returns c =
+    let p = c .before in
+    let a = p .before .before .before .args in
+    column-none 16 69643 (rowsOf (a .x .now)) (a .j) (a .t) (p .pivot .result) (p .pivot .ensures) (omega arith)
+
+exchange-requires : tie.Need-exchange-requires
+exchange-requires c κs = search needs
+
+normalize-requires : tie.Need-normalize-requires
+normalize-requires c κs =
+    let a = c .before .before .before .before .before .before .before .before .before in (search needs, omega arith)
+
+clear-requires : tie.Need-clear-requires
+clear-requires c κs =
+    let a = c .before .before .before .before .before .before .before .before .before .before .before .before .before in (search needs, omega arith, omega arith)
+
+same-length-2 : tie.Need-same-length-2
+same-length-2 c = search needs
+
+returns-2 : tie.Need-returns-2
+returns-2 c =
+    let k = c .before .before in
+    let n = k .before .before .before .before in
+    let e = n .before .before .before .before in
+    let p = e .before .before .before in
+    let a = p .before .before .before .args in
+    k .clear .ensures ∙ ap (λ A. cleared 16 69643 A (a .j) (a .t)) (n .normalize .ensures)
+    ∙ column-found 16 69643 (rowsOf (a .x .now)) (a .j) (a .t) (p .pivot .result) _ (p .pivot .ensures) (omega arith) (e .exchange .ensures)
+
+pub eliminate-column-spec : {M : Type 1} → statement M
+eliminate-column-spec =
+    tie.close
+    (tie.spec
+    pivot-requires
+    same-length
+    returns
+    exchange-requires
+    normalize-requires
+    clear-requires
+    same-length-2
+    returns-2)

@@ -1,0 +1,60 @@
+use mathlib.Core.Path.{_≡_, _∙_}
+use Prim.Native.Nat.{ℕ, _-_, _≤_}
+use native.Mathlib.Omega.{arith}
+use lib.ListN.{length}
+use borrow.Author.Needs.{needs}
+use Rattle.solve.specs.Elimination.{eliminatedTo, eliminated}
+use Rattle.solve.specs.Flat.{rowsOf}
+use Rattle.solve.proofs.Laws.{eliminate-none, eliminate-next}
+use Rattle.wide_solve.proofs.eliminate_columns.Statement.{statement}
+use Rattle.wide_solve.proofs.eliminate_columns.Tie as tie
+
+abbrev Inv-loop : tie.InvT-loop
+Inv-loop x₀ t j₀ x j = (j ≤ t) × (length x ≡ 64) × (rowsOf x ≡ eliminatedTo 16 69643 (rowsOf x₀) t j)
+
+abbrev μ-loop : tie.MeasureT-loop
+μ-loop x₀ t j₀ x j = t - j
+
+loop-holds : tie.Need-loop-holds Inv-loop μ-loop
+loop-holds c = (omega arith, omega arith, eliminate-none 16 69643 _ _)
+
+eliminate-column-requires : tie.Need-eliminate-column-requires Inv-loop μ-loop
+eliminate-column-requires c κs =
+    let a = c .before .before .before .before in (omega arith, omega arith, omega arith)
+
+add-j : tie.Need-add-j Inv-loop μ-loop
+add-j c = omega arith
+
+loop-less : tie.Need-loop-less Inv-loop μ-loop
+loop-less c = omega arith
+
+loop-again : tie.Need-loop-again Inv-loop μ-loop
+loop-again c =
+    let r = c .before .before in
+    let s = r .before .before .before in
+    let a = s .before .before .args in
+    (omega arith, search needs, r .eliminate-column .ensures ∙ eliminate-next 16 69643 (rowsOf (a .x .now)) (a .t) (rowsOf (s .loop .x)) (s .loop .j) (s .loop .inv .2))
+
+same-length : tie.Need-same-length Inv-loop μ-loop
+same-length c = omega arith
+
+returns : tie.Need-returns Inv-loop μ-loop
+unfolding eliminated
+returns c =
+    let s = c .before in
+    let e : s .loop .j ≡ s .before .before .args .t = omega arith in
+    cc
+
+pub eliminate-columns-spec : {M : Type 1} → statement M
+eliminate-columns-spec =
+    tie.close
+    (tie.spec
+    Inv-loop
+    μ-loop
+    loop-holds
+    eliminate-column-requires
+    add-j
+    loop-less
+    loop-again
+    same-length
+    returns)

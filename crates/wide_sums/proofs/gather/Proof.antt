@@ -1,0 +1,94 @@
+use mathlib.Core.Path.{_≡_, refl, sym, ap, _∙_, subst}
+use mathlib.Core.List.{List}
+use Prim.Native.Nat.{ℕ, suc, _+_, _-_, _≤_, _<_}
+use native.Mathlib.Omega.{arith}
+use lib.Dec.{lit<}
+use lib.ListN.{length, getD, replicate, length-set}
+use borrow.Author.Needs.{needs}
+use Rattle.code.specs.Word.{localSum}
+use Rattle.buffers.proofs.Laws.{passed-set}
+use Rattle.wide_edition.specs.Edition.{wide}
+use Rattle.wide_sums.specs.PowerSums.{Raised}
+use Rattle.wide_sums.specs.PowerSumsLaws.{raised-none, raised-next, raised-sum}
+use Rattle.wide_sums.proofs.gather.Statement.{statement}
+use Rattle.wide_sums.proofs.gather.Tie as tie
+
+abbrev Inv-loop : tie.InvT-loop
+Inv-loop x₀ row n sums₀ s e₀ x sums e =
+    (1 ≤ e) × (length sums ≡ 6) × Raised (e - 1) x₀ x × ((k : ℕ) → k < e → getD sums k 0 ≡ localSum wide (length x₀) x₀ 0 k)
+
+abbrev μ-loop : tie.MeasureT-loop
+μ-loop x₀ row n sums₀ s e₀ x sums e = n - e
+
+sum-requires : tie.Need-sum-requires Inv-loop μ-loop
+sum-requires c κs = search needs
+
+array-write-sums : tie.Need-array-write-sums Inv-loop μ-loop
+array-write-sums c = omega arith
+
+loop-holds : tie.Need-loop-holds Inv-loop μ-loop
+loop-holds c =
+    let x : List ℕ = c .before .before .before .before .args .x .now in
+    let R : Raised 0 x x = raised-none x (λ p. c .before .before .before .slice-known .given p .fits) in
+    (omega arith, refl, R, passed-set (λ k. localSum wide (length x) x 0 k) (replicate 6 0) 0 _ (lit< tt) (c .sum .ensures ∙ raised-sum R) (λ k l. absurd (omega arith)))
+
+multiply-requires : tie.Need-multiply-requires Inv-loop μ-loop
+multiply-requires c κs =
+    let s = c .before .before in
+    s .before .before .before .before .before .pre .0 ∙ sym (s .loop .inv .2 .size)
+
+sum-requires-2 : tie.Need-sum-requires-2 Inv-loop μ-loop
+sum-requires-2 c κs = search needs
+
+mul-sums : tie.Need-mul-sums Inv-loop μ-loop
+mul-sums c = omega arith
+
+array-write-sums-2 : tie.Need-array-write-sums-2 Inv-loop μ-loop
+array-write-sums-2 c = omega arith
+
+add-e : tie.Need-add-e Inv-loop μ-loop
+add-e c = omega arith
+
+loop-less : tie.Need-loop-less Inv-loop μ-loop
+loop-less c = omega arith
+
+loop-again : tie.Need-loop-again Inv-loop μ-loop
+loop-again c =
+    let s = c .before .before .before .before .before .before .before in
+    let a = s .before .before .before .before .before in
+    let x : List ℕ = a .args .x .now in
+    let e : ℕ = s .loop .e in
+    let y : List ℕ = c .before .before .before .before .multiply .last .0 in
+    let q : suc (e - 1) ≡ e = omega arith in
+    let R : Raised e x y = subst (λ n. Raised n x y) q (raised-next (s .loop .inv .2) (a .pre .1 .0) (c .before .before .before .before .multiply .ensures)) in
+    let z : e + 1 - 1 ≡ e = omega arith in (
+      omega arith,
+      simp length-set (s .loop .inv .1),
+      subst (λ n. Raised n x y) (sym z) R,
+      passed-set (λ k. localSum wide (length x) x 0 k) (s .loop .sums) e _ (omega arith) (c .sum2 .ensures ∙ raised-sum R) (s .loop .inv .3),
+    )
+
+same-length : tie.Need-same-length Inv-loop μ-loop
+same-length c = c .before .loop .inv .2 .size
+
+returns : tie.Need-returns Inv-loop μ-loop
+returns c = λ k l. c .before .loop .inv .3 k (omega arith)
+
+pub gather-spec : {M : Type 1} → statement M
+gather-spec =
+    tie.close
+    (tie.spec
+    Inv-loop
+    μ-loop
+    sum-requires
+    array-write-sums
+    loop-holds
+    multiply-requires
+    sum-requires-2
+    mul-sums
+    array-write-sums-2
+    add-e
+    loop-less
+    loop-again
+    same-length
+    returns)

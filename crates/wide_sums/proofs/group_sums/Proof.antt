@@ -1,0 +1,49 @@
+use mathlib.Core.Path.{_∙_}
+use native.Mathlib.Omega.{arith}
+use Rattle.wide_sums.specs.PowerSumsLaws.{sums-first, sums-second}
+use borrow.Author.Needs.{needs}
+use Rattle.wide_sums.proofs.group_sums.Statement.{statement}
+use Rattle.wide_sums.proofs.group_sums.Tie as tie
+
+returns : tie.Need-returns
+returns c = search needs
+
+returns-2 : tie.Need-returns-2
+returns-2 c = search needs
+
+power-of-two-requires : tie.Need-power-of-two-requires
+power-of-two-requires c κs = search needs
+
+add-power-sums : tie.Need-add-power-sums
+add-power-sums c = search needs
+
+power-sums-requires : tie.Need-power-sums-requires
+power-sums-requires c κs = search needs
+
+share-requires : tie.Need-share-requires
+share-requires c κs = search needs
+
+returns-3 : tie.Need-returns-3
+returns-3 c =
+    let p = c .before in
+    let w = p .before in
+    let a = w .before .before .before .before .args in (
+      λ narrow few. c .share .ensures .0 ∙ sums-first (a .part .now) (p .power-sums .result) (a .c) _ (p .power-sums .ensures .0 narrow (omega arith)) narrow (omega arith),
+      (
+        λ narrow few. c .share .ensures .1
+            ∙ sums-second (a .part .now) (p .power-sums .result) (a .c) _ (p .power-sums .ensures .0 narrow (omega arith)) narrow (omega arith) (a .g) _ (w .power-of-two .ensures),
+        λ n. absurd (n (omega arith) (omega arith)),
+      ),
+    )
+
+pub group-sums-spec : {M : Type 1} → statement M
+group-sums-spec =
+    tie.close
+    (tie.spec
+    returns
+    returns-2
+    power-of-two-requires
+    add-power-sums
+    power-sums-requires
+    share-requires
+    returns-3)

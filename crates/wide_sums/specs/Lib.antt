@@ -1,0 +1,4 @@
+pub mod PowerSums
+pub mod PowerSumsLaws
+pub mod Survey
+pub mod SurveyLaws
