@@ -10,7 +10,8 @@ use lib.ListN.{length, length-append, length-map}
 use Rattle.algebra.specs.Field.{Field, pow}
 use Rattle.algebra.specs.FieldLaws.{mul-one, mul-zero}
 use Rattle.algebra.specs.Lists.{_∈_, All, Distinct, below, filter}
-use Rattle.algebra.specs.ListsLaws.{distinct-members, length-below, below-less, in-below, below-distinct, in-filter, filter-count, in-flat, flat-in, distinct-flat, length-flat}
+use Rattle.algebra.specs.ListsLaws.{distinct-members, length-below, below-less, in-below, below-distinct, in-filter, filter-count, in-flat, flat-in}
+use Rattle.algebra.specs.ListsLaws.{distinct-flat, length-flat}
 use Rattle.algebra.specs.Sum.{dot}
 use Rattle.algebra.specs.SumLaws.{sum-ext, sum-zero, sum-single, sum-flat, dot-zero}
 use Rattle.algebra.specs.Vandermonde.{psum}

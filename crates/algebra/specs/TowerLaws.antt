@@ -7,7 +7,8 @@ use native.Mathlib.Omega.{arith}
 use native.Mathlib.Decide.{ℕ-discrete, decLt}
 use lib.ListN.{length}
 use Rattle.algebra.specs.Field.{Field, pow}
-use Rattle.algebra.specs.FieldLaws.{ring, add-self, add-zero, mul-one, mul-zero, zero-mul, eq-of-add-zero, add-zero-of-eq, mul-cancel, pow-suc, one-pow, mul-pow, pow-add, pow-mul, pow-swap, pow-ne-zero}
+use Rattle.algebra.specs.FieldLaws.{ring, add-self, add-zero, mul-one, mul-zero, zero-mul, eq-of-add-zero, add-zero-of-eq, mul-cancel, pow-suc, one-pow}
+use Rattle.algebra.specs.FieldLaws.{mul-pow, pow-add, pow-mul, pow-swap, pow-ne-zero}
 use Rattle.algebra.specs.Lists.{All}
 use Rattle.algebra.specs.Sum.{sum, dot}
 use Rattle.algebra.specs.SumLaws.{sum-nil, sum-cons, sum-ext, sum-add, sum-scale}

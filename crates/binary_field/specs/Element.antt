@@ -7,7 +7,7 @@ use native.Mathlib.Nat.{mod-lt}
 use lib.Dec.{T, ltb, lt→ltb}
 use lib.Pow.{pow-pos}
 use Rattle.binary_field.specs.Inverse.{isField}
-use Rattle.binary_field.specs.Order.{Order}
+use Rattle.binary_field.specs.ElementOrder.{Order}
 
 abbrev pub Element : ℕ → Type 0
 Element k = (n : ℕ) × T (ltb n (2 ^ k))

@@ -24,7 +24,7 @@ use Rattle.binary_field.specs.Sum.{sumBelow}
 use Rattle.binary_field.specs.SumLaws.{sum-none, sum-suc}
 use Rattle.binary_field.specs.Inverse.{inverse}
 use Rattle.binary_field.specs.InverseLaws.{inverse-lt, product-inverse, power-last}
-use Rattle.binary_field.specs.OrderLaws.{powers-differ}
+use Rattle.binary_field.specs.ElementOrderLaws.{powers-differ}
 use Rattle.binary_field.specs.Element.{Element, element, Facts}
 
 pub element-lt : (k : ℕ) (x : Element k) → x .0 < 2 ^ k

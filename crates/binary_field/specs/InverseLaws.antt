@@ -11,9 +11,10 @@ use lib.Arith.{lt-one}
 use lib.Pow.{pow-lt}
 use Rattle.binary_field.specs.Xor.{_⊕_, masked}
 use Rattle.binary_field.specs.XorLaws.{⊕-zero-l, ⊕-self, ⊕-half, ⊕-twice, ⊕-shifted, ⊕-swap, digit-cases, masked-low}
-use Rattle.counting.specs.TestLaws.{both-l, both-r, all-at}
+use Rattle.counting.specs.TestLaws.{and-l, and-r, all-at}
 use Rattle.binary_field.specs.Product.{double, product}
-use Rattle.binary_field.specs.ProductLaws.{double-lt, product-comm, product-assoc, product-left-comm, product-zero, zero-product, one-product, linear-product, ring}
+use Rattle.binary_field.specs.ProductLaws.{double-lt, product-comm, product-assoc, product-left-comm, product-zero, zero-product, one-product}
+use Rattle.binary_field.specs.ProductLaws.{linear-product, ring}
 use Rattle.binary_field.specs.Power.{power, squares}
 use Rattle.binary_field.specs.PowerLaws.{power-lt, power-suc, power-squares, one-power, product-power, frobenius, double-is}
 use Rattle.binary_field.specs.Inverse.{linearMap, isField, inverse}
@@ -78,13 +79,13 @@ module _ (k m : ℕ) (pos : 0 < k) where
     power-size =
         fixed k
         (power-squares k m pos (double k m 1) k (double-lt k m 1)
-        ∙ eqb→eq (squares k m k (double k m 1)) (double k m 1) (both-l (eqb (squares k m k (double k m 1)) (double k m 1)) _ ok))
+        ∙ eqb→eq (squares k m k (double k m 1)) (double k m 1) (and-l (eqb (squares k m k (double k m 1)) (double k m 1)) _ ok))
 
     split : (i : ℕ) → i < k → linearMap ts (product k m (2 ^ i) (2 ^ i) ⊕ 2 ^ i) ≡ 2 ^ i / 2 * 2
     unfolding isField
     split i h =
         eqb→eq _ _ (all-at k (λ i. eqb (linearMap ts (product k m (2 ^ i) (2 ^ i) ⊕ 2 ^ i)) (2 ^ i / 2 * 2))
-        (both-r (eqb (squares k m k (double k m 1)) (double k m 1)) _ ok) i h)
+        (and-r (eqb (squares k m k (double k m 1)) (double k m 1)) _ ok) i h)
 
     -- what is its own square is 0 or 1
     idempotent : (e : ℕ) → e < 2 ^ k → product k m e e ≡ e → e < 2

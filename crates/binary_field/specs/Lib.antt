@@ -8,7 +8,7 @@ pub mod Power
 pub mod PowerLaws
 pub mod Inverse
 pub mod InverseLaws
-pub mod Order
-pub mod OrderLaws
+pub mod ElementOrder
+pub mod ElementOrderLaws
 pub mod Element
 pub mod ElementLaws

@@ -79,7 +79,8 @@ module _ (k m : ℕ) where
     pub frobenius : (a b n : ℕ) → power k m (a ⊕ b) (2 ^ n) ≡ power k m a (2 ^ n) ⊕ power k m b (2 ^ n)
     frobenius a b zero = rw (power-suc, power-suc a, power-suc b, power-zero, power-zero a, power-zero b) (simp ring)
     frobenius a b (suc n) =
-        let e : (c : ℕ) → power k m c (2 ^ suc n) ≡ product k m (power k m c (2 ^ n)) (power k m c (2 ^ n)) = λ c. ap (power k m c) (pow-suc 2 n) ∙ power-twice c (2 ^ n) in
+        let e : (c : ℕ) → power k m c (2 ^ suc n) ≡ product k m (power k m c (2 ^ n)) (power k m c (2 ^ n)) = λ c. ap (power k m c) (pow-suc 2 n)
+        ∙ power-twice c (2 ^ n) in
         e (a ⊕ b) ∙ ap (λ x. product k m x x) (frobenius a b n) ∙ square-add (power k m a (2 ^ n)) (power k m b (2 ^ n)) ∙ ap₂ _⊕_ (sym (e a)) (sym (e b))
 
     -- where a power is 1, exponents count modulo it

@@ -3,12 +3,14 @@
 use mathlib.Core.Path.{_≡_, refl, sym, ap, ap₂, _∙_, subst}
 use Prim.Native.Nat.{ℕ, zero, suc, _+_, _*_, _/_, _%_, _^_, _<_}
 use native.Mathlib.Nat
-use native.Mathlib.Nat.{mod-lt, div-add-mod', zero-lt-suc, zero-add, zero-mul, add-mul, mod-eq-of-lt, div-eq-of-lt, pow-suc, one-mul, mul-one, div-lt-iff-lt-mul, le-refl, mod-mod}
+use native.Mathlib.Nat.{mod-lt, div-add-mod', zero-lt-suc, zero-add, zero-mul, add-mul, mod-eq-of-lt, div-eq-of-lt, pow-suc, one-mul, mul-one}
+use native.Mathlib.Nat.{div-lt-iff-lt-mul, le-refl, mod-mod}
 use native.Mathlib.Omega.{arith}
 use lib.Arith.{lt-one}
 use lib.Pow.{pow-pos, pow-lt}
 use Rattle.binary_field.specs.Xor.{_⊕_, masked}
-use Rattle.binary_field.specs.XorLaws.{⊕-zero-l, ⊕-zero-r, ⊕-comm, ⊕-self, ⊕-lt, ⊕-shr, ⊕-mod, ⊕-shifted, ⊕-half, ⊕-twice, ⊕-assoc, ⊕-swap, sums, digit-cases, masked-zero, masked-lt, masked-add, masked-low, masked-map}
+use Rattle.binary_field.specs.XorLaws.{⊕-zero-l, ⊕-zero-r, ⊕-comm, ⊕-self, ⊕-lt, ⊕-shr, ⊕-mod, ⊕-shifted, ⊕-half, ⊕-twice, ⊕-assoc, ⊕-swap, sums}
+use Rattle.binary_field.specs.XorLaws.{digit-cases, masked-zero, masked-lt, masked-add, masked-low, masked-map}
 use Rattle.binary_field.specs.Product.{double, bitSum, product}
 
 half-lt : {a : ℕ} (k : ℕ) → a < 2 ^ suc k → a / 2 < 2 ^ k
@@ -120,7 +122,8 @@ module _ (k m : ℕ) where
   pub bits-clear : (n r a b : ℕ) → b % 2 ≡ 0 → r ⊕ bitSum k m n (double k m a) (b / 2) ≡ r ⊕ bitSum k m (suc n) a b
   unfolding masked
   bits-clear n r a b e =
-      ap (λ x. x ⊕ bitSum k m n (double k m a) (b / 2)) (sym (⊕-zero-r r)) ∙ ap (λ d. (r ⊕ masked d a) ⊕ bitSum k m n (double k m a) (b / 2)) (sym e) ∙ bits-turn n r a b
+      ap (λ x. x ⊕ bitSum k m n (double k m a) (b / 2)) (sym (⊕-zero-r r)) ∙ ap (λ d. (r ⊕ masked d a) ⊕ bitSum k m n (double k m a) (b / 2)) (sym e)
+      ∙ bits-turn n r a b
 
   pub bits-none : (a b : ℕ) → bitSum k m 0 a b ≡ 0
   unfolding bitSum

@@ -69,7 +69,8 @@ inner-short k m i n u v l h =
     let w : n ≡ i + (n - i) = omega arith in
     ap (λ x. sumBelow x (λ j. product k m (getD u j 0) (getD v j 0))) w ∙ sum-append i (n - i) (λ j. product k m (getD u j 0) (getD v j 0))
     ∙ ap (λ s. sumBelow i (λ j. product k m (getD u j 0) (getD v j 0)) ⊕ s)
-    (sum-zero (n - i) _ (λ j _. let b : length v ≤ i + j = omega arith in ap (product k m (getD u (i + j) 0)) (List·getD-eq-default v 0 b) ∙ product-zero k m (getD u (i + j) 0)))
+    (sum-zero (n - i) _ (λ j _. let b : length v ≤ i + j = omega arith in ap (product k m (getD u (i + j) 0)) (List·getD-eq-default v 0 b)
+    ∙ product-zero k m (getD u (i + j) 0)))
     ∙ ⊕-zero-r _
 
 pub inner-whole : (k m i : ℕ) (u v : List ℕ) → i ≡ min (length u) (length v) → innerProduct k m (length u) u v ≡ innerProduct k m i u v

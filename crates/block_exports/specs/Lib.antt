@@ -1,2 +1,2 @@
-pub mod Answer
-pub mod AnswerLaws
+pub mod RebuildAnswer
+pub mod RebuildAnswerLaws

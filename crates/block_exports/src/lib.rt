@@ -2,7 +2,7 @@
 use blocks::Rebuilt;
 ghost use mathlib.Core.Path.{_≡_};
 ghost use Rattle.blocks.specs.Rebuild.{rebuildOf};
-ghost use Rattle.block_exports.specs.Answer.{outcomeAnswer, rebuiltAnswer};
+ghost use Rattle.block_exports.specs.RebuildAnswer.{outcomeAnswer, rebuiltAnswer};
 
 // What a rebuild gives to C: the number, 0 for done, and the word and the group that a 9 carries; 0 with any other number.
 #[repr(C)]

@@ -12,11 +12,11 @@ use Rattle.marks.specs.Refusal.{marksRefusal}
 use Rattle.marks.specs.RefusalLaws.{good-of-marks, marks-of-good}
 use Rattle.byte_edition.specs.EditionLaws.{bytes-sound}
 use Rattle.code.specs.Marks.{excess}
-use Rattle.judge.specs.Answer.{judgedNumberOf}
+use Rattle.judge.specs.Judgement.{judgedNumberOf}
 use Rattle.judge.specs.Laws.{zero-excess}
 use Rattle.recover.specs.AttemptLaws.{accepted, eight-exactly}
 use Rattle.recover.specs.DemandTwoLaws.{good-start}
-use Rattle.encode.specs.Service.{encodedWord}
+use Rattle.encode.specs.Encode.{encodedWord}
 use Rattle.encode.specs.Laws.{checks-recovered, recovered-checks}
 use Rattle.blocks.specs.Columns.{blockWord}
 use Rattle.blocks.specs.Rebuild.{rebuildRefusal, blocksRefusal, wordOutcome}
@@ -54,7 +54,8 @@ module _ (m w c size : ℕ) (blocks : List ℕ) (carried : ℕ → List ℕ) (B 
         | no h ↦
             (let M = good-of-marks m w c marks marked in
             let A = accepted m w c word marks 0 (sym (good-start m w c word marks M (placed-length m w c (carried 0)))) refl in
-            let e = eight-exactly bytes-sound m w c word marks A (placed-below m w c 256 (omega arith) (carried 0) (λ i. B .small 0 i (B .some))) .1 (omega arith) in
+            let e = eight-exactly bytes-sound m w c word marks A (placed-below m w c 256 (omega arith) (carried 0) (λ i. B .small 0 i (B .some))) .1
+            (omega arith) in
             let z = checks-recovered bytes-sound (B .good) (carried 0) (B .sizes 0 (B .some)) (λ i. B .small 0 i (B .some)) in
             absurd (let v : _≡_ {A = ℕ} 8 0 = sym e ∙ z in omega arith))
       ]

@@ -15,19 +15,19 @@ use Rattle.shape.specs.Shapes.{byteLimits, placeCount}
 use Rattle.shape.specs.RefusalsLaws.{orElse-zero}
 use Rattle.marks.specs.Refusal.{marksRefusal}
 use Rattle.marks.specs.RefusalLaws.{good-of-marks}
-use Rattle.byte_edition.specs.Edition.{bytes}
+use Rattle.byte_edition.specs.Edition.{byteEdition}
 use Rattle.byte_edition.specs.EditionLaws.{bytes-sound}
 use Rattle.code.specs.Word.{isCodeword}
 use Rattle.code.specs.Marks.{excess}
-use Rattle.code.specs.Answer.{refused, contradictory, written}
-use Rattle.code.specs.Answer as Answer
-use Rattle.code.specs.AnswerLaws as AnswerLaws
+use Rattle.code.specs.Outcome.{refused, contradictory, written}
+use Rattle.code.specs.Outcome as Outcome
+use Rattle.code.specs.OutcomeLaws as OutcomeLaws
 use Rattle.code.specs.DeterminedLaws.{list-length}
 use Rattle.code.specs.Contradiction.{contradictingGroup}
 use Rattle.code.specs.Recovery.{recovered}
-use Rattle.judge.specs.Answer.{judgedNumberOf}
+use Rattle.judge.specs.Judgement.{judgedNumberOf}
 use Rattle.judge.specs.Laws.{zero-excess, eight-excess}
-use Rattle.recover.specs.Service.{unlessBefore, recoverOf, recoverIn}
+use Rattle.recover.specs.Recover.{unlessBefore, recoverOf, recoverIn}
 use Rattle.recover.specs.Attempt.{Accepted}
 use Rattle.recover.specs.AttemptLaws.{accepted, eight-exactly}
 use Rattle.recover.specs.DemandTwoLaws.{good-start}
@@ -86,16 +86,16 @@ module _ (m w c : ℕ) (word marks : List ℕ) (A : Accepted m w c word marks) w
     nine : (g : ℕ) → recoverOf m w c word marks ≡ contradictory g word marks → Recovers
     done : (x : List ℕ) → length x ≡ length word → recoverOf m w c word marks ≡ written x marks → Recovers
 
-  same : recoverOf m w c word marks ≡ recovered bytes m w c word marks
+  same : recoverOf m w c word marks ≡ recovered byteEdition m w c word marks
   unfolding recoverIn
-  same = ap (λ r. unlessBefore r (recovered bytes m w c word marks) word marks) (A .refusal)
+  same = ap (λ r. unlessBefore r (recovered byteEdition m w c word marks) word marks) (A .refusal)
 
   pub recovers : Recovers
-  recovers = elim (AnswerLaws.cases (2 ^ bytes .bits) (isCodeword bytes m w c) (ltb 2 (excess m w c marks))
-      (contradictingGroup bytes m w c word marks) word marks) [
-        | Answer.eight _ e ↦ eight (same ∙ e)
-        | Answer.nine _ _ e ↦ nine _ (same ∙ e)
-        | Answer.done _ x P e ↦ done x (P .fills .size) (same ∙ e)
+  recovers = elim (OutcomeLaws.cases (2 ^ byteEdition .bits) (isCodeword byteEdition m w c) (ltb 2 (excess m w c marks))
+      (contradictingGroup byteEdition m w c word marks) word marks) [
+        | Outcome.eight _ e ↦ eight (same ∙ e)
+        | Outcome.nine _ _ e ↦ nine _ (same ∙ e)
+        | Outcome.done _ x P e ↦ done x (P .fills .size) (same ∙ e)
       ]
 
   -- neither 8, by Judge, nor 9

@@ -6,9 +6,9 @@ use Prim.Native.Nat.{ℕ, _*_, _<_}
 use lib.ListN.{length, getD, replicate}
 use Rattle.shape.specs.Shapes.{Good, placeCount, dataCount}
 use Rattle.places.specs.Places.{placedOf, checkMarks}
-use Rattle.judge.specs.Answer.{judgedNumberOf}
-use Rattle.code.specs.Answer.{Outcome}
-use Rattle.encode.specs.Service.{encodedWord}
+use Rattle.judge.specs.Judgement.{judgedNumberOf}
+use Rattle.code.specs.Outcome.{Outcome}
+use Rattle.encode.specs.Encode.{encodedWord}
 use Rattle.blocks.specs.Columns.{blockWord}
 use Rattle.blocks.specs.Rebuild.{RebuildOutcome, wordOutcome, rebuildOf}
 

@@ -8,8 +8,8 @@ use lib.ListN.{length, getD}
 use Rattle.shape.specs.Refusals.{refuse}
 use Rattle.shape.specs.Shapes.{placeCount}
 use Rattle.marks.specs.Refusal.{marksRefusal}
-use Rattle.code.specs.Answer.{refused}
-use Rattle.judge.specs.Answer.{judgedNumberOf}
+use Rattle.code.specs.Outcome.{refused}
+use Rattle.judge.specs.Judgement.{judgedNumberOf}
 use Rattle.blocks.specs.Columns.{blockWord}
 use Rattle.blocks.specs.Rebuild.{blocksRefusal, rebuildRefusal, wordOutcome, rebuiltBlocks}
 use Rattle.blocks.specs.RebuildLaws.{refusal-never-nine}

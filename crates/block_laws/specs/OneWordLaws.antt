@@ -14,12 +14,12 @@ use Rattle.shape.specs.Shapes.{byteLimits, placeCount, shapeRefusal, wordRefusa
 use Rattle.shape.specs.Laws.{places-most}
 use Rattle.marks.specs.Refusal.{marksRefusal, marksRefusalIn}
 use Rattle.marks.specs.RefusalLaws.{good-of-marks}
-use Rattle.code.specs.Answer.{Outcome, refused}
-use Rattle.judge.specs.Answer.{judgedNumberOf}
-use Rattle.byte_edition.specs.Edition.{bytes}
+use Rattle.code.specs.Outcome.{Outcome, refused}
+use Rattle.judge.specs.Judgement.{judgedNumberOf}
+use Rattle.byte_edition.specs.Edition.{byteEdition}
 use Rattle.byte_edition.specs.EditionLaws.{bytes-sound}
 use Rattle.judge.specs.Laws.{eight-excess}
-use Rattle.recover.specs.Service.{recoverRefusal, recoverRefusalIn, recoverOf}
+use Rattle.recover.specs.Recover.{recoverRefusal, recoverRefusalIn, recoverOf}
 use Rattle.recover.specs.Attempt.{Accepted}
 use Rattle.recover.specs.AttemptLaws.{accepted, service-refused, service-eight}
 use Rattle.blocks.specs.Columns.{blockWord}
@@ -63,7 +63,8 @@ module _ (m w c : ℕ) (blocks marks : List ℕ) (long : length blocks ≡ place
     refused-by-judge r e n =
         let j : r ≡ judgedNumberOf m w c marks = e ∙ rw (marked, fits) in
         let h : r ≡ 8 = eight-of r j n in
-        service-eight bytes-sound m w c blocks marks accepts small (eight-excess byteLimits m w c marks marked .0 (sym j ∙ h)) ∙ ap (λ k. refused k blocks marks) (sym h)
+        service-eight bytes-sound m w c blocks marks accepts small (eight-excess byteLimits m w c marks marked .0 (sym j ∙ h))
+        ∙ ap (λ k. refused k blocks marks) (sym h)
       where
         eight-of : (r : ℕ) → r ≡ judgedNumberOf m w c marks → (r ≡ 0 → ⊥) → r ≡ 8
         eight-of r j n = ⊎-elim (λ z. absurd (n (j ∙ z))) (λ z. j ∙ z) (judged-two m w c marks marked)
@@ -73,7 +74,7 @@ module _ (m w c : ℕ) (blocks marks : List ℕ) (long : length blocks ≡ place
   refused-alike r e n = elim (ℕ-discrete (marksRefusal m w c marks) 0) [
     | yes z ↦ refused-by-judge z r e n
     | no k ↦
-        service-refused bytes m w c blocks marks r
+        service-refused byteEdition m w c blocks marks r
         (e ∙ orElse-first (marksRefusal m w c marks) _ k ∙ sym (same-refusal m w c blocks marks long)) n
   ]
 

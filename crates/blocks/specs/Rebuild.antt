@@ -8,9 +8,9 @@ use Rattle.counting.specs.First.{firstBelow}
 use Rattle.shape.specs.Refusals.{refuse, _orElse_}
 use Rattle.shape.specs.Shapes.{placeCount}
 use Rattle.marks.specs.Refusal.{marksRefusal}
-use Rattle.code.specs.Answer.{Outcome}
-use Rattle.judge.specs.Answer.{judgedNumberOf}
-use Rattle.recover.specs.Service.{recoverOf}
+use Rattle.code.specs.Outcome.{Outcome}
+use Rattle.judge.specs.Judgement.{judgedNumberOf}
+use Rattle.recover.specs.Recover.{recoverOf}
 use Rattle.blocks.specs.declared.Rebuilt.{Rebuilt}
 use Rattle.blocks.specs.Columns.{blockWord, blocksOf}
 

@@ -21,9 +21,9 @@ use Rattle.shape.specs.AnswersLaws.{mending-number}
 use Rattle.marks.specs.Refusal.{marksRefusal}
 use Rattle.marks.specs.RefusalLaws.{good-of-marks, marks-most}
 use Rattle.code.specs.Marks.{excess}
-use Rattle.code.specs.Answer.{Outcome}
-use Rattle.judge.specs.Answer.{judgedNumberOf, judgedNumberIn}
-use Rattle.recover.specs.Service.{recoverOf}
+use Rattle.code.specs.Outcome.{Outcome}
+use Rattle.judge.specs.Judgement.{judgedNumberOf, judgedNumberIn}
+use Rattle.recover.specs.Recover.{recoverOf}
 use Rattle.blocks.specs.declared.Rebuilt.{Rebuilt}
 use Rattle.blocks.specs.Columns.{blockWord}
 use Rattle.blocks.specs.ColumnsLaws.{blocks-are}

@@ -6,7 +6,7 @@ ghost use Prim.Native.Nat.{ℕ, _*_, _≤_, _<_};
 ghost use lib.ListN.{length};
 ghost use Rattle.shape.specs.Shapes.{Good, placeCount};
 ghost use Rattle.shape.specs.Answers.{mendingAt};
-ghost use Rattle.recover.specs.Service.{recoverOf};
+ghost use Rattle.recover.specs.Recover.{recoverOf};
 ghost use Rattle.blocks.specs.Columns.{blockWord};
 ghost use Rattle.blocks.specs.Rebuild.{blocksRefusal, rebuildRefusal, wordOutcome, rebuiltBlocks, rebuildOf, outcomeRebuilt};
 ghost use Rattle.blocks.specs.Steps.{Lent, Room, contradictionAt, WordRebuilt};

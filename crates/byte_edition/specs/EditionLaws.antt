@@ -7,10 +7,10 @@ use Rattle.gf256.specs.Bytes.{halving}
 use Rattle.gf256.specs.BytesLaws.{is-field, order-two}
 use Rattle.gf256.specs.LocatorsLaws.{locator-lt, locators-apart, locator-fixed}
 use Rattle.code.specs.Edition.{Sound}
-use Rattle.byte_edition.specs.Edition.{bytes}
+use Rattle.byte_edition.specs.Edition.{byteEdition}
 
 -- all that the theorems ask of it
-unfoldable pub bytes-sound : Sound bytes
+unfoldable pub bytes-sound : Sound byteEdition
 bytes-sound = record {
   r = 15;
   small-is = refl;

@@ -15,8 +15,8 @@ use Rattle.binary_field.specs.Product.{product}
 use Rattle.binary_field.specs.ProductLaws.{product-zero}
 use Rattle.binary_field.specs.SumLaws.{sum-ext}
 use Rattle.code.specs.Edition.{Edition, Sound, times}
-use Rattle.byte_edition.specs.Edition.{bytes}
-use Rattle.code.specs.Word.{groupSum, localSum, coefficient, twisted}
+use Rattle.byte_edition.specs.Edition.{byteEdition}
+use Rattle.code.specs.Word.{groupSum, localSum, coefficient, secondCoefficient}
 use Rattle.code.specs.Marks.{lost, lostIn}
 use Rattle.code.specs.Stretch.{stretch, withStretch}
 use Rattle.code.specs.StretchLaws.{stretch-at, stretch-length, with-length, with-inside, with-before, with-after, stretch-count, place-cases, own-place}
@@ -25,7 +25,7 @@ use Rattle.code.specs.Lone.{lone}
 use Rattle.code.specs.LoneLaws.{lone-inside, lone-before, lone-after, lone-word}
 use Rattle.shape.specs.Shapes.{Limits, GoodIn}
 use Rattle.fill.specs.Filled.{FilledIn}
-use Rattle.erasures.specs.Whole.{KeptAll}
+use Rattle.erasures.specs.Whole.{BoundAll}
 use Rattle.erasures.specs.Places.{FreePlaces, freeAt}
 use Rattle.solve.specs.Elimination.{entry, eliminated}
 use Rattle.solve.specs.Solution.{OnlySolution}
@@ -35,7 +35,7 @@ use Rattle.syndrome.specs.declared.Sums.{Sums}
 use Rattle.candidate.specs.Steps.{GroupsFilledIn, DirectionIn, AddedIn}
 use Rattle.candidate.specs.Solved.{twoRow, twoRows, pairAt, SolvedIn, Solved}
 use Rattle.candidate.specs.SolvedLaws.{combined-length, combined-one}
-use Rattle.candidate.specs.Mended.{KeptFew}
+use Rattle.candidate.specs.Mended.{BoundFew}
 
 -- ---- writes
 -- past a write at i the elements are as they were
@@ -55,8 +55,9 @@ unfolding groupSum
 group-ext E w g i xs ys h same = sum-ext w _ _ (λ j l. ap (λ a. times E a (h j)) (same j l))
 
 -- ---- the group g filled, after those before it
-module _ {E : Edition} (m w c g : ℕ) (narrow : w ≤ E .small) (few-checks : c ≤ 4) (kept before xs part : List ℕ) (l : g < m) (size-xs : length xs ≡ m * w) (size-kept : length kept ≡ m * w)
-    (few : lostIn w kept g ≤ c) (F : FilledIn E (stretch w g kept) (stretch w g xs) part) (G : GroupsFilledIn E g w kept before xs) where
+module _ {E : Edition} (m w c g : ℕ) (narrow : w ≤ E .small) (few-checks : c ≤ 4) (bound before xs part : List ℕ) (l : g < m) (size-xs : length xs ≡ m * w)
+    (size-kept : length bound ≡ m * w)
+    (few : lostIn w bound g ≤ c) (F : FilledIn E (stretch w g bound) (stretch w g xs) part) (G : GroupsFilledIn E g w bound before xs) where
   fits : (ys : List ℕ) → length ys ≡ m * w → suc g * w ≤ length ys
   fits ys e = subst (λ n. suc g * w ≤ n) (sym e) (mul-le-mul-right w l)
 
@@ -69,18 +70,19 @@ module _ {E : Edition} (m w c g : ℕ) (narrow : w ≤ E .small) (few-checks : c
   part-size : length part ≡ w
   part-size = F .size ∙ width
 
-  own-zero : (e : ℕ) → e < lostIn w kept g → localSum E w part 0 e ≡ 0
+  own-zero : (e : ℕ) → e < lostIn w bound g → localSum E w part 0 e ≡ 0
   own-zero e h =
-      let k = stretch-count w g kept in
-      subst (λ v. v ≤ E .small → length (stretch w g kept) ≡ v → lostIn v (stretch w g kept) 0 ≤ 4 → (e : ℕ) → e < lostIn v (stretch w g kept) 0 → localSum E v part 0 e ≡ 0)
-      width (F .zero) narrow (stretch-length w g kept (fits kept size-kept)) (omega arith) e (omega arith)
+      let k = stretch-count w g bound in
+      subst (λ v. v ≤ E .small → length (stretch w g bound) ≡ v → lostIn v (stretch w g bound) 0 ≤ 4 → (e : ℕ) → e < lostIn v (stretch w g bound) 0
+      → localSum E v part 0 e ≡ 0)
+      width (F .zero) narrow (stretch-length w g bound (fits bound size-kept)) (omega arith) e (omega arith)
 
-  in-stretch : (j : ℕ) → j < w → lost kept (g * w + j) ≡ false → getD (withStretch w g xs part) (g * w + j) 0 ≡ getD before (g * w + j) 0
+  in-stretch : (j : ℕ) → j < w → lost bound (g * w + j) ≡ false → getD (withStretch w g xs part) (g * w + j) 0 ≡ getD before (g * w + j) 0
   in-stretch j h e =
-      with-inside w g xs room part part-size j h ∙ F .present j (ap (λ b. eqb b 1) (stretch-at w g kept j h) ∙ e) ∙ stretch-at w g xs j h
+      with-inside w g xs room part part-size j h ∙ F .present j (ap (λ b. eqb b 1) (stretch-at w g bound j h) ∙ e) ∙ stretch-at w g xs j h
       ∙ G .present (g * w + j) e
 
-  present : (p : ℕ) → lost kept p ≡ false → getD (withStretch w g xs part) p 0 ≡ getD before p 0
+  present : (p : ℕ) → lost bound p ≡ false → getD (withStretch w g xs part) p 0 ≡ getD before p 0
   present p e = elim (decLt p (g * w)) [
     | yes h ↦ with-before w g xs room part part-size p h ∙ G .present p e
     | no h ↦
@@ -89,15 +91,15 @@ module _ {E : Edition} (m w c g : ℕ) (narrow : w ≤ E .small) (few-checks : c
               (let s = suc-mul g w in
               let q : g * w + (p - g * w) ≡ p = omega arith in
               let b : p - g * w < w = omega arith in
-              subst (λ n. lost kept n ≡ false → getD (withStretch w g xs part) n 0 ≡ getD before n 0) q (in-stretch (p - g * w) b) e)
+              subst (λ n. lost bound n ≡ false → getD (withStretch w g xs part) n 0 ≡ getD before n 0) q (in-stretch (p - g * w) b) e)
           | no k ↦ with-after w g xs room part part-size p (omega arith) ∙ G .present p e
         ]
   ]
 
-  sums : (i : ℕ) → i < g + 1 → (e : ℕ) → e < lostIn w kept i → localSum E w (withStretch w g xs part) i e ≡ 0
+  sums : (i : ℕ) → i < g + 1 → (e : ℕ) → e < lostIn w bound i → localSum E w (withStretch w g xs part) i e ≡ 0
   sums i b e h = elim (ℕ-discrete i g) [
     | yes q ↦
-        subst (λ n. e < lostIn w kept n → localSum E w (withStretch w g xs part) n e ≡ 0) (sym q)
+        subst (λ n. e < lostIn w bound n → localSum E w (withStretch w g xs part) n e ≡ 0) (sym q)
         (λ k. group-ext E w g 0 _ part _ (λ j d. with-inside w g xs room part part-size j d ∙ ap (λ n. getD part n 0) (sym (own-place w j))) ∙ own-zero e k) h
     | no q ↦
         group-ext E w i i _ xs _
@@ -105,24 +107,25 @@ module _ {E : Edition} (m w c g : ℕ) (narrow : w ≤ E .small) (few-checks : c
         (let r : suc i * w ≤ g * w = mul-le-mul-right w (omega arith) in let s = suc-mul i w in omega arith)) ∙ G .zero i (omega arith) e h
   ]
 
-  pub group-filled : GroupsFilledIn E (g + 1) w kept before (withStretch w g xs part)
+  pub group-filled : GroupsFilledIn E (g + 1) w bound before (withStretch w g xs part)
   group-filled = record { size = with-length w g xs room part part-size ∙ G .size; present = present; zero = sums }
 
 -- ---- a front of zeros with 1 at place j, filled
-pub direction-filled : {E : Edition} (n j : ℕ) (kept part rest : List ℕ) → length kept ≤ n → length kept ≤ E .small → j < length kept → lost kept j ≡ false
-    → lostIn (length kept) kept 0 ≤ 4 → FilledIn E kept (take (length kept) (set (replicate n 0) j 1)) part
-    → DirectionIn E (length kept) j kept (take (length kept) (part ++ rest))
-direction-filled {E} n j kept part rest fits narrow inside own few F =
-    subst (DirectionIn E w j kept) (sym (take-at part rest w size)) record {
+pub direction-filled : {E : Edition} (n j : ℕ) (bound part rest : List ℕ) → length bound ≤ n → length bound ≤ E .small → j < length bound → lost bound j ≡ false
+    → lostIn (length bound) bound 0 ≤ 4 → FilledIn E bound (take (length bound) (set (replicate n 0) j 1)) part
+    → DirectionIn E (length bound) j bound (take (length bound) (part ++ rest))
+direction-filled {E} n j bound part rest fits narrow inside own few F =
+    subst (DirectionIn E w j bound) (sym (take-at part rest w size)) record {
       size = size;
       own = F .present j own ∙ getD-take w h j 0 inside ∙ getD-set-same (replicate n 0) j 1 0 (subst (λ k. j < k) (sym (length-replicate n 0)) (omega arith));
       off = λ i l e d.
           F .present i e ∙ getD-take w h i 0 l ∙ getD-set-other (replicate n 0) j i 1 0 d ∙ getD-replicate n i 0 0 (omega arith);
-      zero = subst (λ v. v ≤ E .small → w ≡ v → lostIn v kept 0 ≤ 4 → (e : ℕ) → e < lostIn v kept 0 → localSum E v part 0 e ≡ 0) width (F .zero) narrow refl few;
+      zero = subst (λ v. v ≤ E .small → w ≡ v → lostIn v bound 0 ≤ 4 → (e : ℕ) → e < lostIn v bound 0 → localSum E v part 0 e ≡ 0) width
+          (F .zero) narrow refl few;
     }
   where
     w : ℕ
-    w = length kept
+    w = length bound
 
     h : List ℕ
     h = set (replicate n 0) j 1
@@ -148,17 +151,20 @@ row-lt {n} ha hb hs (suc (suc (suc (suc (suc i))))) = zeros-lt 11 i
     zeros-lt (suc k) (suc i) = zeros-lt k i
 
 -- a solution is known by its values below t
-solution-ext : {k m : ℕ} {M : List (List ℕ)} {t r : ℕ} {x : ℕ → ℕ} (y : ℕ → ℕ) → ((i : ℕ) → i < t → x i ≡ y i) → OnlySolution k m M t r x → OnlySolution k m M t r y
+solution-ext : {k m : ℕ} {M : List (List ℕ)} {t r : ℕ} {x : ℕ → ℕ} (y : ℕ → ℕ) → ((i : ℕ) → i < t → x i ≡ y i) → OnlySolution k m M t r x
+    → OnlySolution k m M t r y
 solution-ext {k} {m} {M} {t} y same S = record {
   solves = λ e l. sum-ext t _ _ (λ i h. ap (product k m (entry M e i)) (sym (same i h))) ∙ S .solves e l;
   small = λ i l. subst (λ a. a < 2 ^ k) (same i l) (S .small i l);
   only = λ z small solves i l. S .only z small solves i l ∙ same i l;
 }
 
-pub two-solved : {E : Edition} (S : Sound E) {a₁ a₂ b₁ b₂ s t : ℕ} {R : List (List ℕ)} → a₁ < 2 ^ E .bits → a₂ < 2 ^ E .bits → b₁ < 2 ^ E .bits → b₂ < 2 ^ E .bits → s < 2 ^ E .bits → t < 2 ^ E .bits
+pub two-solved : {E : Edition} (S : Sound E) {a₁ a₂ b₁ b₂ s t : ℕ} {R : List (List ℕ)} → a₁ < 2 ^ E .bits → a₂ < 2 ^ E .bits → b₁ < 2 ^ E .bits
+    → b₂ < 2 ^ E .bits → s < 2 ^ E .bits → t < 2 ^ E .bits
     → R ≡ eliminated (E .bits) (E .poly) (twoRows a₁ a₂ b₁ b₂ s t) 2 → SolvedIn E a₁ a₂ b₁ b₂ s t (entry R 0 4) (entry R 1 4)
 two-solved {E} S {a₁} {a₂} {b₁} {b₂} {s} {t} {R} ha₁ ha₂ hb₁ hb₂ hs ht e trivial =
-    solution-ext (pairAt (entry R 0 4) (entry R 1 4)) same (solution (E .bits) (E .poly) (S .facts .pos) (S .facts .values) (S .facts .tested) M 2 (record { long = lit≤ tt; small = small }) trivial 4)
+    solution-ext (pairAt (entry R 0 4) (entry R 1 4)) same (solution (E .bits) (E .poly) (S .facts .pos) (S .facts .values) (S .facts .tested) M 2
+    (record { long = lit≤ tt; small = small }) trivial 4)
   where
     M : List (List ℕ)
     M = twoRows a₁ a₂ b₁ b₂ s t
@@ -200,10 +206,12 @@ added-combined {E} m w g u h word part l size long A =
     C = combined E (m * w) word 1 (λ _. u) (λ _. lone m w g h)
 
     plus-none : (p : ℕ) → p < m * w → getD (lone m w g h) p 0 ≡ 0 → getD word p 0 ≡ getD C p 0
-    plus-none p d e = sym (combined-one E m w word u _ p d ∙ ap (λ b. getD word p 0 ⊕ times E u b) e ∙ ap (λ s. getD word p 0 ⊕ s) (product-zero (E .bits) (E .poly) u) ∙ ⊕-zero-r (getD word p 0))
+    plus-none p d e = sym (combined-one E m w word u _ p d ∙ ap (λ b. getD word p 0 ⊕ times E u b) e
+        ∙ ap (λ s. getD word p 0 ⊕ s) (product-zero (E .bits) (E .poly) u) ∙ ⊕-zero-r (getD word p 0))
 
     inside : (j : ℕ) → j < w → g * w + j < m * w → getD (stretch w g word) j 0 ⊕ times E u (getD h j 0) ≡ getD C (g * w + j) 0
-    inside j b d = ap₂ (λ x y. x ⊕ times E u y) (stretch-at w g word j b) (sym (lone-inside m w g h l long j b)) ∙ sym (combined-one E m w word u _ (g * w + j) d)
+    inside j b d = ap₂ (λ x y. x ⊕ times E u y) (stretch-at w g word j b) (sym (lone-inside m w g h l long j b))
+        ∙ sym (combined-one E m w word u _ (g * w + j) d)
 
 -- ---- the direction of place p
 module _ {B : Limits} (m w c p : ℕ) (good : GoodIn B m w c) (l : p < m * w) where
@@ -216,23 +224,24 @@ module _ {B : Limits} (m w c p : ℕ) (good : GoodIn B m w c) (l : p < m * w) wh
   pub group-end : p / w * w + w ≤ m * w
   group-end = stretch-end m w (p / w) group-lt
 
-  module _ (kept : List ℕ) (K : KeptFew m w c p kept) where
-    part-width : length (stretch w (p / w) kept) ≡ w
-    part-width = stretch-length w (p / w) kept (subst (λ n. suc (p / w) * w ≤ n) (sym (K .size)) (mul-le-mul-right w group-lt))
+  module _ (bound : List ℕ) (K : BoundFew m w c p bound) where
+    part-width : length (stretch w (p / w) bound) ≡ w
+    part-width = stretch-length w (p / w) bound (subst (λ n. suc (p / w) * w ≤ n) (sym (K .size)) (mul-le-mul-right w group-lt))
 
     -- what direction asks of the stretch, and what it gives
-    pub way-asked : (length (stretch w (p / w) kept) ≤ B .width)
-        × ((p % w < length (stretch w (p / w) kept))
-        × ((lost (stretch w (p / w) kept) (p % w) ≡ false)
-        × (lostIn (length (stretch w (p / w) kept)) (stretch w (p / w) kept) 0 ≤ B .checks)))
+    pub way-asked : (length (stretch w (p / w) bound) ≤ B .width)
+        × ((p % w < length (stretch w (p / w) bound))
+        × ((lost (stretch w (p / w) bound) (p % w) ≡ false)
+        × (lostIn (length (stretch w (p / w) bound)) (stretch w (p / w) bound) 0 ≤ B .checks)))
     way-asked =
-        subst (λ n. (n ≤ B .width) × ((p % w < n) × ((lost (stretch w (p / w) kept) (p % w) ≡ false) × (lostIn n (stretch w (p / w) kept) 0 ≤ B .checks)))) (sym part-width) (
+        subst (λ n. (n ≤ B .width) × ((p % w < n) × ((lost (stretch w (p / w) bound) (p % w) ≡ false) × (lostIn n (stretch w (p / w) bound) 0 ≤ B .checks))))
+        (sym part-width) (
           good .narrow,
           (
             inside,
             (
-              ap (λ b. eqb b 1) (stretch-at w (p / w) kept (p % w) inside) ∙ ap (lost kept) (div-add-mod' p w) ∙ K .own,
-              (let f = K .few (p / w) group-lt in let k = good .few-checks in let e = stretch-count w (p / w) kept in omega arith),
+              ap (λ b. eqb b 1) (stretch-at w (p / w) bound (p % w) inside) ∙ ap (lost bound) (div-add-mod' p w) ∙ K .own,
+              (let f = K .few (p / w) group-lt in let k = good .few-checks in let e = stretch-count w (p / w) bound in omega arith),
             ),
           ),
         )
@@ -240,16 +249,17 @@ module _ {B : Limits} (m w c p : ℕ) (good : GoodIn B m w c) (l : p < m * w) wh
         inside : p % w < w
         inside = mod-lt p some-wide
 
-    pub way-given : {E : Edition} (r : List ℕ) → DirectionIn E (length (stretch w (p / w) kept)) (p % w) (stretch w (p / w) kept) (take (length (stretch w (p / w) kept)) r)
-        → DirectionIn E w (p % w) (stretch w (p / w) kept) (take w r)
-    way-given {E} r = subst (λ n. DirectionIn E n (p % w) (stretch w (p / w) kept) (take n r)) part-width
+    pub way-given : {E : Edition} (r : List ℕ) → DirectionIn E (length (stretch w (p / w) bound)) (p % w) (stretch w (p / w) bound)
+        (take (length (stretch w (p / w) bound)) r)
+        → DirectionIn E w (p % w) (stretch w (p / w) bound) (take w r)
+    way-given {E} r = subst (λ n. DirectionIn E n (p % w) (stretch w (p / w) bound) (take n r)) part-width
 
 -- ---- the sums across of a direction are those of its group
 pub weights-of : (m w c g : ℕ) (part : List ℕ) → g < m → length part ≡ w → groupSums c g part ≡ acrossOf m w c (lone m w g part)
 weights-of m w c g part l long =
     ap₂ (λ a b. record { first = a; second = b })
-    (ap (λ n. groupSum bytes n part 0 (coefficient bytes c)) long ∙ sym (lone-word m w g part l long bytes _))
-    (ap (λ n. groupSum bytes n part 0 (twisted bytes c g)) long ∙ sym (lone-word m w g part l long bytes _))
+    (ap (λ n. groupSum byteEdition n part 0 (coefficient byteEdition c)) long ∙ sym (lone-word m w g part l long byteEdition _))
+    (ap (λ n. groupSum byteEdition n part 0 (secondCoefficient byteEdition c g)) long ∙ sym (lone-word m w g part l long byteEdition _))
 
 -- the unknowns for these sums
 pub solved-sums : {A B S a b s : Sums} {u v : ℕ} → A ≡ a → B ≡ b → S ≡ s → Solved (A .first) (B .first) (A .second) (B .second) (S .first) (S .second) u v
@@ -260,11 +270,11 @@ solved-sums {A} {B} {S} {a} {b} {u = u} {v = v} e f g Q =
     (subst (λ z. Solved (z .first) (B .first) (z .second) (B .second) (S .first) (S .second) u v) e Q))
 
 -- ---- a free place is one for a direction
-pub few-at : {m w c : ℕ} {marks kept : List ℕ} {x a b : ℕ} → KeptAll m w c marks kept → FreePlaces marks kept x a b → length marks ≡ m * w
-    → (i : ℕ) → i < x → KeptFew m w c (freeAt a b i) kept
-few-at K P size i l = record { size = K .size ∙ size; few = K .kept-few; own = P .not-kept i l }
+pub few-at : {m w c : ℕ} {marks bound : List ℕ} {x a b : ℕ} → BoundAll m w c marks bound → FreePlaces marks bound x a b → length marks ≡ m * w
+    → (i : ℕ) → i < x → BoundFew m w c (freeAt a b i) bound
+few-at K P size i l = record { size = K .size ∙ size; few = K .bound-few; own = P .not-bound i l }
 
--- ---- the marks kept, from a copy of the marks
-pub kept-copy : {B : Limits} {m w c : ℕ} {marks from kept : List ℕ} → GoodIn B m w c → length marks ≡ m * w → from ≡ marks
-    → (GoodIn B m w c → length from ≡ m * w → KeptAll m w c from kept) → KeptAll m w c marks kept
-kept-copy {B} {m} {w} {c} {kept = kept} good size e k = subst (λ xs. KeptAll m w c xs kept) e (k good (ap length e ∙ size))
+-- ---- the marks bound, from a copy of the marks
+pub bound-copy : {B : Limits} {m w c : ℕ} {marks from bound : List ℕ} → GoodIn B m w c → length marks ≡ m * w → from ≡ marks
+    → (GoodIn B m w c → length from ≡ m * w → BoundAll m w c from bound) → BoundAll m w c marks bound
+bound-copy {B} {m} {w} {c} {bound = bound} good size e k = subst (λ xs. BoundAll m w c xs bound) e (k good (ap length e ∙ size))

@@ -15,8 +15,8 @@ use Rattle.code.specs.Stretch.{stretch}
 use Rattle.code.specs.StretchLaws.{stretch-at, stretch-count, place-cases}
 use Rattle.code.specs.Lone.{lone}
 use Rattle.code.specs.LoneLaws.{lone-inside, lone-before, lone-after, lone-own, lone-zero}
-use Rattle.erasures.specs.Kept.{free}
-use Rattle.erasures.specs.Whole.{KeptAll}
+use Rattle.erasures.specs.Bound.{free}
+use Rattle.erasures.specs.Whole.{BoundAll}
 use Rattle.erasures.specs.Places.{FreePlaces, freeAt}
 use Rattle.candidate.specs.Frame.{Frame}
 use Rattle.candidate.specs.Steps.{Blanked, GroupsFilledIn, DirectionIn}
@@ -25,10 +25,10 @@ use Rattle.candidate.specs.Steps.{Blanked, GroupsFilledIn, DirectionIn}
 abbrev pub wayOf : ℕ → ℕ → (ℕ → ℕ) → (ℕ → List ℕ) → ℕ → List ℕ
 wayOf m w f h i = lone m w (f i / w) (h i)
 
-module _ {E : Edition} (m w c : ℕ) (wide : 0 < w) (marks kept word blanked base : List ℕ) (x first second : ℕ) (h : ℕ → List ℕ)
+module _ {E : Edition} (m w c : ℕ) (wide : 0 < w) (marks bound word blanked base : List ℕ) (x first second : ℕ) (h : ℕ → List ℕ)
     (word-symbols : Symbols E (m * w) word) (base-symbols : Symbols E (m * w) base) (size : length marks ≡ m * w)
-    (K : KeptAll m w c marks kept) (P : FreePlaces marks kept x first second) (B : Blanked marks word blanked) (G : GroupsFilledIn E m w kept blanked base)
-    (D : (i : ℕ) → i < x → DirectionIn E w (freeAt first second i % w) (stretch w (freeAt first second i / w) kept) (h i)) where
+    (K : BoundAll m w c marks bound) (P : FreePlaces marks bound x first second) (B : Blanked marks word blanked) (G : GroupsFilledIn E m w bound blanked base)
+    (D : (i : ℕ) → i < x → DirectionIn E w (freeAt first second i % w) (stretch w (freeAt first second i / w) bound) (h i)) where
   f : ℕ → ℕ
   f i = freeAt first second i
 
@@ -51,14 +51,14 @@ module _ {E : Edition} (m w c : ℕ) (wide : 0 < w) (marks kept word blanked bas
       subst (λ p. getD (H i) p 0 ≡ 1) (own i)
       (lone-inside m w (f i / w) (h i) (group-less i k) (D i k .size) (f i % w) (mod-lt (f i) wide) ∙ D i k .own)
 
-  way-off : (i : ℕ) → i < x → (p : ℕ) → p < m * w → lost kept p ≡ false → ¬ (p ≡ f i) → getD (H i) p 0 ≡ 0
+  way-off : (i : ℕ) → i < x → (p : ℕ) → p < m * w → lost bound p ≡ false → ¬ (p ≡ f i) → getD (H i) p 0 ≡ 0
   unfolding H f
   way-off i k =
-      place-cases (λ p. p < m * w → lost kept p ≡ false → ¬ (p ≡ f i) → getD (H i) p 0 ≡ 0) w (f i / w)
+      place-cases (λ p. p < m * w → lost bound p ≡ false → ¬ (p ≡ f i) → getD (H i) p 0 ≡ 0) w (f i / w)
       (λ p l _ _ _. lone-before m w (f i / w) (h i) (group-less i k) (D i k .size) p l)
       (λ j l _ e n.
       lone-inside m w (f i / w) (h i) (group-less i k) (D i k .size) j l
-      ∙ D i k .off j l (ap (λ b. eqb b 1) (stretch-at w (f i / w) kept j l) ∙ e) (λ q. n (ap (λ z. f i / w * w + z) q ∙ own i)))
+      ∙ D i k .off j l (ap (λ b. eqb b 1) (stretch-at w (f i / w) bound j l) ∙ e) (λ q. n (ap (λ z. f i / w * w + z) q ∙ own i)))
       (λ p l _ _ _. lone-after m w (f i / w) (h i) (group-less i k) (D i k .size) p l)
 
   way-local : (i : ℕ) → i < x → (g : ℕ) → g < m → (e : ℕ) → e < c → localSum E w (H i) g e ≡ 0
@@ -67,28 +67,31 @@ module _ {E : Edition} (m w c : ℕ) (wide : 0 < w) (marks kept word blanked bas
     | yes q ↦
         subst (λ a. localSum E w (H i) a e ≡ 0) (sym q)
         (lone-own m w (f i / w) (h i) (group-less i k) (D i k .size) E _
-        ∙ D i k .zero e (subst (λ n. e < n) (sym (stretch-count w (f i / w) kept ∙ all-kept)) b))
+        ∙ D i k .zero e (subst (λ n. e < n) (sym (stretch-count w (f i / w) bound ∙ all-bound)) b))
     | no n ↦ lone-zero m w (f i / w) (h i) (group-less i k) (D i k .size) E g n _
   ]
     where
-      all-kept : lostIn w kept (f i / w) ≡ c
-      all-kept =
-          K .kept-full (f i / w) (f i % w) (group-less i k) (mod-lt (f i) wide) (ap (lost marks) (own i) ∙ P .is-lost i k) (ap (lost kept) (own i) ∙ P .not-kept i k)
+      all-bound : lostIn w bound (f i / w) ≡ c
+      all-bound =
+          K .bound-full (f i / w) (f i % w) (group-less i k) (mod-lt (f i) wide) (ap (lost marks) (own i) ∙ P .is-lost i k)
+          (ap (lost bound) (own i) ∙ P .not-bound i k)
 
-  pub frame : Frame E m w c marks kept word base x (freeAt first second) (wayOf m w (freeAt first second) h)
+  pub frame : Frame E m w c marks bound word base x (freeAt first second) (wayOf m w (freeAt first second) h)
   unfolding H f
   frame = record {
     word-symbols = word-symbols;
     base-symbols = base-symbols;
-    kept-few = K .kept-few;
-    kept-lost = K .kept-lost;
+    bound-few = K .bound-few;
+    bound-lost = K .bound-lost;
     free-less = less;
     free-lost = P .is-lost;
-    free-kept = P .not-kept;
+    free-bound = P .not-bound;
     free-apart = P .apart;
-    free-all = λ low p l e q. P .every (subst (λ n. n ≤ 2) (sym (ap (λ n. countBelow n (free marks kept)) size ∙ K .free-count)) low) p (subst (λ n. p < n) (sym size) l) e q;
-    base-present = λ p l e. G .present p (K .kept-lost p l e) ∙ B .present p (in-word p l) e;
-    base-free = λ i k. G .present (freeAt first second i) (P .not-kept i k) ∙ B .zero (freeAt first second i) (in-word (freeAt first second i) (less i k)) (P .is-lost i k);
+    free-all = λ low p l e q. P .every (subst (λ n. n ≤ 2) (sym (ap (λ n. countBelow n (free marks bound)) size ∙ K .free-count)) low) p
+        (subst (λ n. p < n) (sym size) l) e q;
+    base-present = λ p l e. G .present p (K .bound-lost p l e) ∙ B .present p (in-word p l) e;
+    base-free = λ i k. G .present (freeAt first second i) (P .not-bound i k)
+        ∙ B .zero (freeAt first second i) (in-word (freeAt first second i) (less i k)) (P .is-lost i k);
     base-local = λ g l e b. G .zero g l e b;
     way-own = way-own;
     way-off = way-off;

@@ -8,7 +8,7 @@ use Rattle.code.specs.Edition.{Edition, times}
 use Rattle.code.specs.Word.{firstAcross, secondAcross}
 use Rattle.code.specs.Marks.{excess}
 use Rattle.code.specs.Stretch.{stretch}
-use Rattle.erasures.specs.Whole.{KeptAll}
+use Rattle.erasures.specs.Whole.{BoundAll}
 use Rattle.erasures.specs.Places.{FreePlaces, freeAt}
 use Rattle.candidate.specs.Steps.{DirectionIn}
 use Rattle.candidate.specs.AssemblyLaws.{wayOf}
@@ -16,16 +16,16 @@ use Rattle.candidate.specs.AssemblyLaws.{wayOf}
 -- What is left for the equations across once each group's own equations are used.
 pub record Left (E : Edition) (m w c : ℕ) (marks : List ℕ) : Type 0 where
   -- the lost places that the groups keep for their own equations, up to c in each
-  pub kept : List ℕ
-  pub keeps : KeptAll m w c marks kept
+  pub bound : List ℕ
+  pub keeps : BoundAll m w c marks bound
   -- the others, x of them, are free
   pub x : ℕ
   pub first : ℕ
   pub second : ℕ
-  pub places : FreePlaces marks kept x first second
-  -- the direction of each on its group: 1 there, 0 at every other place that is not kept, and the group's own equations are met
+  pub places : FreePlaces marks bound x first second
+  -- the direction of each on its group: 1 there, 0 at every other place that is not bound, and the group's own equations are met
   pub h : ℕ → List ℕ
-  pub way : (i : ℕ) → i < x → DirectionIn E w (freeAt first second i % w) (stretch w (freeAt first second i / w) kept) (h i)
+  pub way : (i : ℕ) → i < x → DirectionIn E w (freeAt first second i % w) (stretch w (freeAt first second i / w) bound) (h i)
 
 module _ (E : Edition) (m w c : ℕ) (marks : List ℕ) (L : Left E m w c marks) where
   -- the column of free place i: the two sums across of its direction in the whole word
@@ -40,7 +40,7 @@ module _ (E : Edition) (m w c : ℕ) (marks : List ℕ) (L : Left E m w c marks)
     pub only-zero : (v : ℕ → ℕ) → ((i : ℕ) → v i < 2 ^ E .bits) → sumBelow (L .x) (λ i. times E (v i) (upper i)) ≡ 0
         → sumBelow (L .x) (λ i. times E (v i) (lower i)) ≡ 0 → (i : ℕ) → i < L .x → v i ≡ 0
 
--- there are such columns, and however the kept places are chosen they are as many as the excess and independent
+-- there are such columns, and however the bound places are chosen they are as many as the excess and independent
 pub record ColumnsIndependent (E : Edition) (m w c : ℕ) (marks : List ℕ) : Type 0 where
   pub some : Left E m w c marks
   pub count : (L : Left E m w c marks) → L .x ≡ excess m w c marks

@@ -20,9 +20,9 @@ use Rattle.code.specs.Stretch.{stretch}
 use Rattle.code.specs.StretchLaws.{stretch-at}
 use Rattle.code.specs.OneGroup.{LocalWay}
 use Rattle.code.specs.OneGroupLaws.{local-way}
-use Rattle.erasures.specs.Kept.{free}
-use Rattle.erasures.specs.Whole.{KeptAll, KeptUpTo}
-use Rattle.erasures.specs.WholeLaws.{upto-none, upto-more, kept-all}
+use Rattle.erasures.specs.Bound.{free}
+use Rattle.erasures.specs.Whole.{BoundAll, BoundUpTo}
+use Rattle.erasures.specs.WholeLaws.{upto-none, upto-more, bound-all}
 use Rattle.erasures.specs.Places.{FreePlaces, NextFree, freeAt}
 use Rattle.erasures.specs.PlacesLaws.{free-none, free-one, free-two}
 use Rattle.candidate.specs.Frame.{Frame}
@@ -72,26 +72,26 @@ split true false e = (refl, refl)
 split false b e = absurd (true≢false (sym e))
 
 -- ---- there are such columns
--- the first c lost places of each of the first g groups are kept
-keep : (m w c : ℕ) (marks : List ℕ) → length marks ≡ m * w → (g : ℕ) → g ≤ m → (kept : List ℕ) × KeptUpTo g w c marks kept
-keep m w c marks size zero l = (marks, upto-none w c marks)
-keep m w c marks size (suc g) l =
-    let K = keep m w c marks size g (omega arith) in
+-- the first c lost places of each of the first g groups are bound
+bounds : (m w c : ℕ) (marks : List ℕ) → length marks ≡ m * w → (g : ℕ) → g ≤ m → (bound : List ℕ) × BoundUpTo g w c marks bound
+bounds m w c marks size zero l = (marks, upto-none w c marks)
+bounds m w c marks size (suc g) l =
+    let K = bounds m w c marks size g (omega arith) in
     (_, upto-more g w c marks (K .0) (subst (λ n. suc g * w ≤ n) (sym size) (mul-le-mul-right w l)) (K .1))
 
 -- the next free place, from start on
-next : (marks kept : List ℕ) (d start : ℕ) → start + d ≡ length marks → (r : ℕ) × NextFree marks kept start r
-next marks kept zero start e = (start, record { on = le-refl start; passed = λ p a b. absurd (omega arith); found = λ l. absurd (omega arith) })
-next marks kept (suc d) start e = go (next marks kept d (suc start) (omega arith)) (free marks kept start) refl
+next : (marks bound : List ℕ) (d start : ℕ) → start + d ≡ length marks → (r : ℕ) × NextFree marks bound start r
+next marks bound zero start e = (start, record { on = le-refl start; passed = λ p a b. absurd (omega arith); found = λ l. absurd (omega arith) })
+next marks bound (suc d) start e = go (next marks bound d (suc start) (omega arith)) (free marks bound start) refl
   where
-    go : (r : ℕ) × NextFree marks kept (suc start) r → (b : Bool) → free marks kept start ≡ b → (r : ℕ) × NextFree marks kept start r
+    go : (r : ℕ) × NextFree marks bound (suc start) r → (b : Bool) → free marks bound start ≡ b → (r : ℕ) × NextFree marks bound start r
     go N true f = (start, record { on = le-refl start; passed = λ p a b. absurd (omega arith); found = λ _. f })
     go N false f = (
       N .0,
       record {
         on = let o = N .1 .on in omega arith;
         passed = λ p a b. elim (ℕ-discrete p start) [
-          | yes q ↦ ap (free marks kept) q ∙ f
+          | yes q ↦ ap (free marks bound) q ∙ f
           | no q ↦ N .1 .passed p a (omega arith)
         ];
         found = N .1 .found;
@@ -108,68 +108,69 @@ module _ {E : Edition} (S : Sound E) (m w c : ℕ) (good : GoodIn (E .limits) m 
   wide : 0 < w
   wide = let k = good .wide in omega arith
 
-  module _ (kept : List ℕ) (K : KeptAll m w c marks kept) where
-    direction : (p : ℕ) → lost kept p ≡ false → (h : List ℕ) × DirectionIn E w (p % w) (stretch w (p / w) kept) h
+  module _ (bound : List ℕ) (K : BoundAll m w c marks bound) where
+    direction : (p : ℕ) → lost bound p ≡ false → (h : List ℕ) × DirectionIn E w (p % w) (stretch w (p / w) bound) h
     direction p e =
         let j = mod-lt p wide in
-        let W = local-way E S w wide narrow (stretch w (p / w) kept) (p % w) j
-        (ap (λ b. eqb b 1) (stretch-at w (p / w) kept (p % w) j) ∙ ap (lost kept) (div-add-mod' p w) ∙ e) in
+        let W = local-way E S w wide narrow (stretch w (p / w) bound) (p % w) j
+        (ap (λ b. eqb b 1) (stretch-at w (p / w) bound (p % w) j) ∙ ap (lost bound) (div-add-mod' p w) ∙ e) in
         (W .h, record { size = W .symbols .size; own = W .own; off = W .off; zero = W .zero })
 
-    with-none : FreePlaces marks kept 0 0 0 → Left E m w c marks
-    with-none P = record { kept = kept; keeps = K; x = 0; first = 0; second = 0; places = P; h = λ _. []; way = λ i l. absurd (omega arith) }
+    with-none : FreePlaces marks bound 0 0 0 → Left E m w c marks
+    with-none P = record { bound = bound; keeps = K; x = 0; first = 0; second = 0; places = P; h = λ _. []; way = λ i l. absurd (omega arith) }
 
-    with-one : (p : ℕ) → FreePlaces marks kept 1 p 0 → Left E m w c marks
-    with-one p P = record { kept = kept; keeps = K; x = 1; first = p; second = 0; places = P; h = λ _. D .0; way = way }
+    with-one : (p : ℕ) → FreePlaces marks bound 1 p 0 → Left E m w c marks
+    with-one p P = record { bound = bound; keeps = K; x = 1; first = p; second = 0; places = P; h = λ _. D .0; way = way }
       where
-        D : (h : List ℕ) × DirectionIn E w (p % w) (stretch w (p / w) kept) h
-        D = direction p (P .not-kept 0 (omega arith))
+        D : (h : List ℕ) × DirectionIn E w (p % w) (stretch w (p / w) bound) h
+        D = direction p (P .not-bound 0 (omega arith))
 
-        way : (i : ℕ) → i < 1 → DirectionIn E w (freeAt p 0 i % w) (stretch w (freeAt p 0 i / w) kept) (D .0)
+        way : (i : ℕ) → i < 1 → DirectionIn E w (freeAt p 0 i % w) (stretch w (freeAt p 0 i / w) bound) (D .0)
         way zero l = D .1
         way (suc i) l = absurd (omega arith)
 
-    with-two : (p q : ℕ) → FreePlaces marks kept 2 p q → Left E m w c marks
-    with-two p q P = record { kept = kept; keeps = K; x = 2; first = p; second = q; places = P; h = pairAt (D .0) (D′ .0); way = way }
+    with-two : (p q : ℕ) → FreePlaces marks bound 2 p q → Left E m w c marks
+    with-two p q P = record { bound = bound; keeps = K; x = 2; first = p; second = q; places = P; h = pairAt (D .0) (D′ .0); way = way }
       where
-        D : (h : List ℕ) × DirectionIn E w (p % w) (stretch w (p / w) kept) h
-        D = direction p (P .not-kept 0 (omega arith))
+        D : (h : List ℕ) × DirectionIn E w (p % w) (stretch w (p / w) bound) h
+        D = direction p (P .not-bound 0 (omega arith))
 
-        D′ : (h : List ℕ) × DirectionIn E w (q % w) (stretch w (q / w) kept) h
-        D′ = direction q (P .not-kept 1 (omega arith))
+        D′ : (h : List ℕ) × DirectionIn E w (q % w) (stretch w (q / w) bound) h
+        D′ = direction q (P .not-bound 1 (omega arith))
 
-        way : (i : ℕ) → i < 2 → DirectionIn E w (freeAt p q i % w) (stretch w (freeAt p q i / w) kept) (pairAt (D .0) (D′ .0) i)
+        way : (i : ℕ) → i < 2 → DirectionIn E w (freeAt p q i % w) (stretch w (freeAt p q i / w) bound) (pairAt (D .0) (D′ .0) i)
         way zero l = D .1
         way (suc i) l = D′ .1
 
     left : Left E m w c marks
     left = elim (decLt (N .0) (length marks)) [
       | yes l ↦
-          (let M = next marks kept (length marks - (N .0 + 1)) (N .0 + 1) (omega arith) in
+          (let M = next marks bound (length marks - (N .0 + 1)) (N .0 + 1) (omega arith) in
           elim (decLt (M .0) (length marks)) [
-            | yes k ↦ with-two (N .0) (M .0) (free-two marks kept (N .0) (N .1) l (M .0) (M .1) k)
-            | no k ↦ with-one (N .0) (free-one marks kept (N .0) (N .1) l (M .0) (M .1) (omega arith))
+            | yes k ↦ with-two (N .0) (M .0) (free-two marks bound (N .0) (N .1) l (M .0) (M .1) k)
+            | no k ↦ with-one (N .0) (free-one marks bound (N .0) (N .1) l (M .0) (M .1) (omega arith))
           ])
-      | no l ↦ with-none (free-none marks kept (N .0) (N .1) (omega arith))
+      | no l ↦ with-none (free-none marks bound (N .0) (N .1) (omega arith))
     ]
       where
-        N : (r : ℕ) × NextFree marks kept 0 r
-        N = next marks kept (length marks) 0 (omega arith)
+        N : (r : ℕ) × NextFree marks bound 0 r
+        N = next marks bound (length marks) 0 (omega arith)
 
   pub some-left : Left E m w c marks
-  some-left = let K = keep m w c marks size m (le-refl m) in left (K .0) (kept-all m w c marks (K .0) size (K .1))
+  some-left = let K = bounds m w c marks size m (le-refl m) in left (K .0) (bound-all m w c marks (K .0) size (K .1))
 
   -- ---- they are as many as the excess
   module _ (low : excess m w c marks ≤ 2) where
     count : (L : Left E m w c marks) → L .x ≡ excess m w c marks
     count L =
         let P = L .places in
-        let e : countBelow (length marks) (free marks (L .kept)) ≡ excess m w c marks =
-        ap (λ n. countBelow n (free marks (L .kept))) size ∙ L .keeps .free-count in
+        let e : countBelow (length marks) (free marks (L .bound)) ≡ excess m w c marks =
+        ap (λ n. countBelow n (free marks (L .bound))) size ∙ L .keeps .free-count in
         sym
-        (listed (length marks) (L .x) (freeAt (L .first) (L .second)) (free marks (L .kept)) (P .less) (λ i l. rw (P .is-lost i l, P .not-kept i l)) (P .apart)
+        (listed (length marks) (L .x) (freeAt (L .first) (L .second)) (free marks (L .bound)) (P .less) (λ i l. rw (P .is-lost i l, P .not-bound i l))
+        (P .apart)
         (λ p l f.
-        let s = split (lost marks p) (lost (L .kept) p) f in
+        let s = split (lost marks p) (lost (L .bound) p) f in
         P .every (subst (λ n. n ≤ 2) (sym e) low) p l (s .0) (s .1)))
         ∙ e
 
@@ -178,13 +179,13 @@ module _ {E : Edition} (S : Sound E) (m w c : ℕ) (good : GoodIn (E .limits) m 
     independent : (L : Left E m w c marks) → Independent E m w c marks L
     independent L = record {
       only-zero =
-          ways-independent E S m w c few wide narrow marks (L .kept) (blank (m * w)) (blank (m * w)) (L .x)
+          ways-independent E S m w c few wide narrow marks (L .bound) (blank (m * w)) (blank (m * w)) (L .x)
           (freeAt (L .first) (L .second)) (wayOf m w (freeAt (L .first) (L .second)) (L .h)) F low;
     }
       where
-        F : Frame E m w c marks (L .kept) (blank (m * w)) (blank (m * w)) (L .x) (freeAt (L .first) (L .second))
+        F : Frame E m w c marks (L .bound) (blank (m * w)) (blank (m * w)) (L .x) (freeAt (L .first) (L .second))
             (wayOf m w (freeAt (L .first) (L .second)) (L .h))
-        F = frame m w c wide marks (L .kept) (blank (m * w)) (blank (m * w)) (blank (m * w)) (L .x) (L .first) (L .second) (L .h)
+        F = frame m w c wide marks (L .bound) (blank (m * w)) (blank (m * w)) (blank (m * w)) (L .x) (L .first) (L .second) (L .h)
             (blank-symbols E (m * w)) (blank-symbols E (m * w)) size (L .keeps) (L .places)
             (record { size = refl; present = λ p _ _. refl; zero = λ p _ _. blank-at (m * w) p })
             (record { size = refl; present = λ p _. refl; zero = λ g _ e _. blank-group E (m * w) w g _ }) (L .way)

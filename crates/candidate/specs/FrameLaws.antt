@@ -1,5 +1,5 @@
--- Laws: Why the recovery finds the codeword. A few lost places, at most c in each group, are kept for the group's own equations; the others, at
--- most two, are free. A base word fills the kept places with the free ones at 0; for each free place a direction fills them with that place
+-- Laws: Why the recovery finds the codeword. A few lost places, at most c in each group, are bound for the group's own equations; the others, at
+-- most two, are free. A base word fills the bound places with the free ones at 0; for each free place a direction fills them with that place
 -- at 1 and all else at 0. The codeword that agrees is the base plus each direction times its symbol at the free place, and those symbols
 -- are the only ones for which the two sums across are zero.
 use mathlib.Core.Path.{_≡_, refl, sym, ap, ap₂, _∙_, subst}
@@ -28,18 +28,19 @@ use Rattle.code.specs.Recovery.{Agrees}
 use Rattle.candidate.specs.Frame.{Frame}
 
 module _ (E : Edition) (S : Sound E) (m w c : ℕ) (few : m ≤ S .r) (wide : 0 < w) (narrow : w ≤ E .small)
-    (marks kept word base : List ℕ) (x : ℕ) (f : ℕ → ℕ) (H : ℕ → List ℕ) (F : Frame E m w c marks kept word base x f H) where
-  -- at a place that is not kept, only the direction of that place counts
+    (marks bound word base : List ℕ) (x : ℕ) (f : ℕ → ℕ) (H : ℕ → List ℕ) (F : Frame E m w c marks bound word base x f H) where
+  -- at a place that is not bound, only the direction of that place counts
   pub ways-present : (u : ℕ → ℕ) (p : ℕ) → p < m * w → lost marks p ≡ false → sumBelow x (λ i. times E (u i) (getD (H i) p 0)) ≡ 0
   ways-present u p l e =
-      sum-zero x _ (λ i k. ap (times E (u i)) (F .way-off i k p l (F .kept-lost p l e) (λ q. differ i k q)) ∙ product-zero (E .bits) (E .poly) (u i))
+      sum-zero x _ (λ i k. ap (times E (u i)) (F .way-off i k p l (F .bound-lost p l e) (λ q. differ i k q)) ∙ product-zero (E .bits) (E .poly) (u i))
     where
       differ : (i : ℕ) → i < x → p ≡ f i → ⊥
       differ i k q = let z : _≡_ {A = ℕ} 0 1 = cc (sym e, ap (lost marks) q, F .free-lost i k) in omega arith
 
   ways-free : (u : ℕ → ℕ) → ((i : ℕ) → u i < 2 ^ E .bits) → (i : ℕ) → i < x → sumBelow x (λ l. times E (u l) (getD (H l) (f i) 0)) ≡ u i
   ways-free u small i k =
-      sum-single x i _ k (λ l h n. ap (times E (u l)) (F .way-off l h (f i) (F .free-less i k) (F .free-kept i k) (λ q. n (sym (F .free-apart i l k h q)))) ∙ product-zero (E .bits) (E .poly) (u l))
+      sum-single x i _ k (λ l h n. ap (times E (u l)) (F .way-off l h (f i) (F .free-less i k) (F .free-bound i k) (λ q. n (sym (F .free-apart i l k h q))))
+      ∙ product-zero (E .bits) (E .poly) (u l))
       ∙ ap (times E (u i)) (F .way-own i k) ∙ product-one (E .bits) (E .poly) (S .facts .pos) (u i) (small i)
 
   -- the codeword that agrees is the base plus each direction times its own symbol at the free place
@@ -58,14 +59,14 @@ module _ (E : Edition) (S : Sound E) (m w c : ℕ) (few : m ≤ S .r) (wide : 0 
       z-symbols : Symbols E (m * w) z
       z-symbols = combined-symbols E m w x base u H (F .base-symbols) (λ i. A .codeword .symbols .each (f i))
 
-      sums : (g e : ℕ) → g < m → e < lostIn w kept g → localSum E w z g e ≡ localSum E w y g e
+      sums : (g e : ℕ) → g < m → e < lostIn w bound g → localSum E w z g e ≡ localSum E w y g e
       sums g e l k =
-          let b : e < c = (let q = F .kept-few g l in omega arith) in
+          let b : e < c = (let q = F .bound-few g l in omega arith) in
           combined-group E m w x base u H g _ l
           ∙ ap₂ _⊕_ (F .base-local g l e k) (sum-zero x _ (λ i h. ap (times E (u i)) (F .way-local i h g l e b) ∙ product-zero (E .bits) (E .poly) (u i)))
           ∙ ⊕-self 0 ∙ sym (equations E m w c y (A .codeword .zero) .locals g l e b)
 
-      at : (p : ℕ) → p < m * w → lost kept p ≡ false → (v : Bool) → lost marks p ≡ v → getD z p 0 ≡ getD y p 0
+      at : (p : ℕ) → p < m * w → lost bound p ≡ false → (v : Bool) → lost marks p ≡ v → getD z p 0 ≡ getD y p 0
       at p l e false q =
           combined-at E m w x base u H p l ∙ ap₂ _⊕_ (F .base-present p l q) (ways-present u p l q) ∙ ⊕-zero-r (getD word p 0) ∙ sym (A .agree p l q)
       at p l e true q =
@@ -76,8 +77,8 @@ module _ (E : Edition) (S : Sound E) (m w c : ℕ) (few : m ≤ S .r) (wide : 0 
 
       in-group : (g j : ℕ) → g < m → j < w → getD z (g * w + j) 0 ≡ getD y (g * w + j) 0
       in-group g j l k =
-          local-unique E S w (lostIn w kept g) g wide narrow kept z y (z-symbols .each) (A .codeword .symbols .each) (λ e h. sums g e l h)
-          (λ i h e. at (g * w + i) (place-less m w g i l h) e (lost marks (g * w + i)) refl) (le-refl (lostIn w kept g)) j k
+          local-unique E S w (lostIn w bound g) g wide narrow bound z y (z-symbols .each) (A .codeword .symbols .each) (λ e h. sums g e l h)
+          (λ i h e. at (g * w + i) (place-less m w g i l h) e (lost marks (g * w + i)) refl) (le-refl (lostIn w bound g)) j k
 
   -- the two sums across of a codeword that agrees
   pub codeword-across : excess m w c marks ≤ 2 → (y : List ℕ) → Agrees E m w c marks word y → (h : ℕ → ℕ → ℕ) → wordSum E m w y h ≡ 0
@@ -105,7 +106,8 @@ module _ (E : Edition) (S : Sound E) (m w c : ℕ) (few : m ≤ S .r) (wide : 0 
         zero = is-codeword E m w c z (record {
           locals = λ g l e h.
               combined-group E m w x (blank (m * w)) v H g _ l
-              ∙ ap₂ _⊕_ (blank-group E (m * w) w g _) (sum-zero x _ (λ i q. ap (times E (v i)) (F .way-local i q g l e h) ∙ product-zero (E .bits) (E .poly) (v i))) ∙ ⊕-self 0;
+              ∙ ap₂ _⊕_ (blank-group E (m * w) w g _) (sum-zero x _ (λ i q. ap (times E (v i)) (F .way-local i q g l e h)
+              ∙ product-zero (E .bits) (E .poly) (v i))) ∙ ⊕-self 0;
           first = across _ e₁;
           second = across _ e₂;
         });

@@ -6,7 +6,7 @@ use Prim.Native.Nat.{ℕ, _*_, _/_, _%_, _≤_, _<_}
 use lib.Dec.{T}
 use lib.ListN.{length, getD}
 use Rattle.code.specs.Edition.{Edition}
-use Rattle.byte_edition.specs.Edition.{bytes}
+use Rattle.byte_edition.specs.Edition.{byteEdition}
 use Rattle.code.specs.Word.{isLocal, firstAcross, secondAcross}
 use Rattle.code.specs.Marks.{lost, lostIn, excess}
 use Rattle.code.specs.Recovery.{Agrees}
@@ -18,27 +18,27 @@ use Rattle.erasures.specs.Places.{FreePlaces}
 use Rattle.candidate.specs.Steps.{DirectionIn}
 use Rattle.candidate.specs.Solved.{SolvedIn, SolvedOneIn}
 
--- kept marks of a word's length, at most c in each group, and not at place p
-pub record KeptFew (m w c p : ℕ) (kept : List ℕ) : Type 0 where
-  pub size : length kept ≡ m * w
-  pub few : (g : ℕ) → g < m → lostIn w kept g ≤ c
-  pub own : lost kept p ≡ false
+-- bound marks of a word's length, at most c in each group, and not at place p
+pub record BoundFew (m w c p : ℕ) (bound : List ℕ) : Type 0 where
+  pub size : length bound ≡ m * w
+  pub few : (g : ℕ) → g < m → lostIn w bound g ≤ c
+  pub own : lost bound p ≡ false
 
 -- one free place p: u times its direction h is added, and u is solved for
-pub record MendedOneIn (E : Edition) (m w c p : ℕ) (kept before after : List ℕ) : Type 0 where
+pub record MendedOneIn (E : Edition) (m w c p : ℕ) (bound before after : List ℕ) : Type 0 where
   pub h : List ℕ
-  pub way : DirectionIn E w (p % w) (stretch w (p / w) kept) h
+  pub way : DirectionIn E w (p % w) (stretch w (p / w) bound) h
   pub u : ℕ
   pub solved : SolvedOneIn E (firstAcross E m w c (lone m w (p / w) h)) (secondAcross E m w c (lone m w (p / w) h))
       (firstAcross E m w c before) (secondAcross E m w c before) u
   pub is : after ≡ combined E (m * w) before 1 (λ _. u) (λ _. lone m w (p / w) h)
 
 -- two free places p and q: u times the one direction and v times the other, one after the other
-pub record MendedTwoIn (E : Edition) (m w c p q : ℕ) (kept before after : List ℕ) : Type 0 where
+pub record MendedTwoIn (E : Edition) (m w c p q : ℕ) (bound before after : List ℕ) : Type 0 where
   pub h₁ : List ℕ
   pub h₂ : List ℕ
-  pub way₁ : DirectionIn E w (p % w) (stretch w (p / w) kept) h₁
-  pub way₂ : DirectionIn E w (q % w) (stretch w (q / w) kept) h₂
+  pub way₁ : DirectionIn E w (p % w) (stretch w (p / w) bound) h₁
+  pub way₂ : DirectionIn E w (q % w) (stretch w (q / w) bound) h₂
   pub u : ℕ
   pub v : ℕ
   pub solved : SolvedIn E (firstAcross E m w c (lone m w (p / w) h₁)) (firstAcross E m w c (lone m w (q / w) h₂))
@@ -49,10 +49,10 @@ pub record MendedTwoIn (E : Edition) (m w c p q : ℕ) (kept before after : List
   pub second : after ≡ combined E (m * w) middle 1 (λ _. v) (λ _. lone m w (q / w) h₂)
 
 -- what is mended, by the number of free places
-pub data MendedIn (E : Edition) (m w c : ℕ) (marks kept before after : List ℕ) : Type 0 where
-  none : {p q : ℕ} → FreePlaces marks kept 0 p q → after ≡ before → MendedIn E m w c marks kept before after
-  one : {p q : ℕ} → FreePlaces marks kept 1 p q → MendedOneIn E m w c p kept before after → MendedIn E m w c marks kept before after
-  two : {p q : ℕ} → FreePlaces marks kept 2 p q → MendedTwoIn E m w c p q kept before after → MendedIn E m w c marks kept before after
+pub data MendedIn (E : Edition) (m w c : ℕ) (marks bound before after : List ℕ) : Type 0 where
+  none : {p q : ℕ} → FreePlaces marks bound 0 p q → after ≡ before → MendedIn E m w c marks bound before after
+  one : {p q : ℕ} → FreePlaces marks bound 1 p q → MendedOneIn E m w c p bound before after → MendedIn E m w c marks bound before after
+  two : {p q : ℕ} → FreePlaces marks bound 2 p q → MendedTwoIn E m w c p q bound before after → MendedIn E m w c marks bound before after
 
 -- What the candidate is: the present symbols of the word and, where the excess is at most two, the only codeword that can agree with them;
 -- a group that some filling satisfies is satisfied.
@@ -64,16 +64,16 @@ pub record IsCandidateIn (E : Edition) (m w c : ℕ) (marks word x : List ℕ) :
 
 -- of bytes: one free place mended
 abbrev pub MendedOne : ℕ → ℕ → ℕ → ℕ → List ℕ → List ℕ → List ℕ → Type 0
-MendedOne = MendedOneIn bytes
+MendedOne = MendedOneIn byteEdition
 
 -- two
 abbrev pub MendedTwo : ℕ → ℕ → ℕ → ℕ → ℕ → List ℕ → List ℕ → List ℕ → Type 0
-MendedTwo = MendedTwoIn bytes
+MendedTwo = MendedTwoIn byteEdition
 
 -- by their number
 abbrev pub Mended : ℕ → ℕ → ℕ → List ℕ → List ℕ → List ℕ → List ℕ → Type 0
-Mended = MendedIn bytes
+Mended = MendedIn byteEdition
 
 -- and the candidate
 abbrev pub IsCandidate : ℕ → ℕ → ℕ → List ℕ → List ℕ → List ℕ → Type 0
-IsCandidate = IsCandidateIn bytes
+IsCandidate = IsCandidateIn byteEdition

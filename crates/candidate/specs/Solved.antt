@@ -5,7 +5,7 @@ use Prim.Native.Nat.{ℕ, zero, suc}
 use lib.ListN.{replicate}
 use Rattle.binary_field.specs.Inverse.{inverse}
 use Rattle.code.specs.Edition.{Edition, times}
-use Rattle.byte_edition.specs.Edition.{bytes}
+use Rattle.byte_edition.specs.Edition.{byteEdition}
 use Rattle.solve.specs.Kernel.{TrivialKernel}
 use Rattle.solve.specs.Solution.{OnlySolution}
 
@@ -24,7 +24,8 @@ pairAt u v (suc i) = v
 
 -- u and v are the only solution, where the coefficients have a trivial kernel
 abbrev pub SolvedIn : Edition → ℕ → ℕ → ℕ → ℕ → ℕ → ℕ → ℕ → ℕ → Type 0
-SolvedIn E a₁ a₂ b₁ b₂ s t u v = TrivialKernel (E .bits) (E .poly) (twoRows a₁ a₂ b₁ b₂ s t) 2 → OnlySolution (E .bits) (E .poly) (twoRows a₁ a₂ b₁ b₂ s t) 2 4 (pairAt u v)
+SolvedIn E a₁ a₂ b₁ b₂ s t u v = TrivialKernel (E .bits) (E .poly) (twoRows a₁ a₂ b₁ b₂ s t) 2
+    → OnlySolution (E .bits) (E .poly) (twoRows a₁ a₂ b₁ b₂ s t) 2 4 (pairAt u v)
 
 -- u solves the first equation, or the second where the first has no coefficient
 pub record SolvedOneIn (E : Edition) (a b s t u : ℕ) : Type 0 where
@@ -33,8 +34,8 @@ pub record SolvedOneIn (E : Edition) (a b s t u : ℕ) : Type 0 where
 
 -- of bytes: two unknowns
 abbrev pub Solved : ℕ → ℕ → ℕ → ℕ → ℕ → ℕ → ℕ → ℕ → Type 0
-Solved = SolvedIn bytes
+Solved = SolvedIn byteEdition
 
 -- and one
 abbrev pub SolvedOne : ℕ → ℕ → ℕ → ℕ → ℕ → Type 0
-SolvedOne = SolvedOneIn bytes
+SolvedOne = SolvedOneIn byteEdition

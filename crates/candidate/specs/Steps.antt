@@ -7,7 +7,7 @@ use Prim.Native.Nat.{ℕ, _<_}
 use lib.ListN.{length, getD}
 use Rattle.binary_field.specs.Xor.{_⊕_}
 use Rattle.code.specs.Edition.{Edition, times}
-use Rattle.byte_edition.specs.Edition.{bytes}
+use Rattle.byte_edition.specs.Edition.{byteEdition}
 use Rattle.code.specs.Word.{localSum}
 use Rattle.code.specs.Marks.{lost, lostIn}
 
@@ -17,18 +17,18 @@ pub record Blanked (marks word x : List ℕ) : Type 0 where
   pub present : (p : ℕ) → p < length word → lost marks p ≡ false → getD x p 0 ≡ getD word p 0
   pub zero : (p : ℕ) → p < length word → lost marks p ≡ true → getD x p 0 ≡ 0
 
--- in each group the kept places are filled so that as many local sums are zero as places are kept
-pub record GroupsFilledIn (E : Edition) (m w : ℕ) (kept before after : List ℕ) : Type 0 where
+-- in each group the bound places are filled so that as many local sums are zero as places are bound
+pub record GroupsFilledIn (E : Edition) (m w : ℕ) (bound before after : List ℕ) : Type 0 where
   pub size : length after ≡ length before
-  pub present : (p : ℕ) → lost kept p ≡ false → getD after p 0 ≡ getD before p 0
-  pub zero : (g : ℕ) → g < m → (e : ℕ) → e < lostIn w kept g → localSum E w after g e ≡ 0
+  pub present : (p : ℕ) → lost bound p ≡ false → getD after p 0 ≡ getD before p 0
+  pub zero : (g : ℕ) → g < m → (e : ℕ) → e < lostIn w bound g → localSum E w after g e ≡ 0
 
--- the direction of place j of a group, with the group's kept marks: 1 there, 0 at every other place that is not kept
-pub record DirectionIn (E : Edition) (w j : ℕ) (kept h : List ℕ) : Type 0 where
+-- the direction of place j of a group, with the group's bound marks: 1 there, 0 at every other place that is not bound
+pub record DirectionIn (E : Edition) (w j : ℕ) (bound h : List ℕ) : Type 0 where
   pub size : length h ≡ w
   pub own : getD h j 0 ≡ 1
-  pub off : (i : ℕ) → i < w → lost kept i ≡ false → ¬ (i ≡ j) → getD h i 0 ≡ 0
-  pub zero : (e : ℕ) → e < lostIn w kept 0 → localSum E w h 0 e ≡ 0
+  pub off : (i : ℕ) → i < w → lost bound i ≡ false → ¬ (i ≡ j) → getD h i 0 ≡ 0
+  pub zero : (e : ℕ) → e < lostIn w bound 0 → localSum E w h 0 e ≡ 0
 
 -- u times h added
 pub record AddedIn (E : Edition) (u : ℕ) (h before after : List ℕ) : Type 0 where
@@ -37,12 +37,12 @@ pub record AddedIn (E : Edition) (u : ℕ) (h before after : List ℕ) : Type 0 
 
 -- of bytes: the groups filled
 abbrev pub GroupsFilled : ℕ → ℕ → List ℕ → List ℕ → List ℕ → Type 0
-GroupsFilled = GroupsFilledIn bytes
+GroupsFilled = GroupsFilledIn byteEdition
 
 -- a direction
 abbrev pub Direction : ℕ → ℕ → List ℕ → List ℕ → Type 0
-Direction = DirectionIn bytes
+Direction = DirectionIn byteEdition
 
 -- and a multiple added
 abbrev pub Added : ℕ → List ℕ → List ℕ → List ℕ → Type 0
-Added = AddedIn bytes
+Added = AddedIn byteEdition

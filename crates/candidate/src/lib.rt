@@ -5,15 +5,15 @@ ghost use Prim.Native.Nat.{ℕ, _*_, _/_, _%_, _≤_, _<_};
 ghost use lib.ListN.{length, take};
 ghost use Rattle.shape.specs.Shapes.{Good};
 ghost use Rattle.code.specs.Marks.{lost, lostIn};
-ghost use Rattle.byte_edition.specs.Edition.{bytes};
+ghost use Rattle.byte_edition.specs.Edition.{byteEdition};
 ghost use Rattle.code.specs.Combined.{combined};
 ghost use Rattle.code.specs.Lone.{lone};
 ghost use Rattle.code.specs.Stretch.{stretch};
 ghost use Rattle.syndrome.specs.Across.{acrossOf};
-ghost use Rattle.erasures.specs.Whole.{KeptAll};
+ghost use Rattle.erasures.specs.Whole.{BoundAll};
 ghost use Rattle.candidate.specs.Steps.{Blanked, GroupsFilled, Direction, Added};
 ghost use Rattle.candidate.specs.Solved.{Solved, SolvedOne};
-ghost use Rattle.candidate.specs.Mended.{KeptFew, MendedOne, MendedTwo, Mended, IsCandidate};
+ghost use Rattle.candidate.specs.Mended.{BoundFew, MendedOne, MendedTwo, Mended, IsCandidate};
 
 // Writes word into base, with 0 in the lost places.
 fn blank_lost(word: &[u8], marks: &[u8], base: &mut [u8])
@@ -32,35 +32,35 @@ fn blank_lost(word: &[u8], marks: &[u8], base: &mut [u8])
     }
 }
 
-// Fills the kept places of every group by its own equations.
-fn fill_groups(m: usize, w: usize, c: usize, kept: &[u8], base: &mut [u8])
+// Fills the bound places of every group by its own equations.
+fn fill_groups(m: usize, w: usize, c: usize, bound: &[u8], base: &mut [u8])
     requires { ⌜ Good m w c ⌝ }
     requires { ⌜ length (now base) ≡ m * w ⌝ }
-    requires { ⌜ length (now kept) ≡ m * w ⌝ }
-    requires { ⌜ ((g : ℕ) → g < m → lostIn w (now kept) g ≤ c) ⌝ }
-    ensures { λ _. ⌜ GroupsFilled m w (now (kept .entry)) (now (base .entry)) (now (base .exit)) ⌝ }
+    requires { ⌜ length (now bound) ≡ m * w ⌝ }
+    requires { ⌜ ((g : ℕ) → g < m → lostIn w (now bound) g ≤ c) ⌝ }
+    ensures { λ _. ⌜ GroupsFilled m w (now (bound .entry)) (now (base .entry)) (now (base .exit)) ⌝ }
 {
     let mut g: usize = 0;
     while g < m {
         let a = g * w;
         let e = a + w;
-        fill::fill(&mut base[a..e], &kept[a..e]);
+        fill::fill(&mut base[a..e], &bound[a..e]);
         g += 1;
     }
 }
 
-// The direction of place j of a group with these kept marks; its stretch stands at the front.
-fn direction(j: usize, kept: &[u8]) -> [u8; 16]
-    requires { ⌜ length (now kept) ≤ 16 ⌝ }
-    requires { ⌜ j < length (now kept) ⌝ }
-    requires { ⌜ lost (now kept) j ≡ false ⌝ }
-    requires { ⌜ lostIn (length (now kept)) (now kept) 0 ≤ 4 ⌝ }
-    ensures { λ r. ⌜ Direction (length (now (kept .entry))) j (now (kept .entry)) (take (length (now (kept .entry))) r) ⌝ }
+// The direction of place j of a group with these bound marks; its stretch stands at the front.
+fn direction(j: usize, bound: &[u8]) -> [u8; 16]
+    requires { ⌜ length (now bound) ≤ 16 ⌝ }
+    requires { ⌜ j < length (now bound) ⌝ }
+    requires { ⌜ lost (now bound) j ≡ false ⌝ }
+    requires { ⌜ lostIn (length (now bound)) (now bound) 0 ≤ 4 ⌝ }
+    ensures { λ r. ⌜ Direction (length (now (bound .entry))) j (now (bound .entry)) (take (length (now (bound .entry))) r) ⌝ }
 {
-    let w = kept.len();
+    let w = bound.len();
     let mut h = [0u8; 16];
     h[j] = 1;
-    fill::fill(&mut h[..w], kept);
+    fill::fill(&mut h[..w], bound);
     h
 }
 
@@ -115,25 +115,25 @@ fn add_direction(m: usize, w: usize, g: usize, u: u8, h: [u8; 16], word: &mut [u
     requires { ⌜ w ≤ 16 ⌝ }
     requires { ⌜ g < m ⌝ }
     requires { ⌜ length (now word) ≡ m * w ⌝ }
-    ensures { λ _. ⌜ now (word .exit) ≡ combined bytes (m * w) (now (word .entry)) 1 (λ _. u) (λ _. lone m w g (take w h)) ⌝ }
+    ensures { λ _. ⌜ now (word .exit) ≡ combined byteEdition (m * w) (now (word .entry)) 1 (λ _. u) (λ _. lone m w g (take w h)) ⌝ }
 {
     let a = g * w;
     let e = a + w;
     add_multiple(u, &h[..w], &mut word[a..e]);
 }
 
-// The direction of place p of the word, which is not kept.
-fn way(m: usize, w: usize, c: usize, p: usize, kept: &[u8]) -> [u8; 16]
+// The direction of place p of the word, which is not bound.
+fn way(m: usize, w: usize, c: usize, p: usize, bound: &[u8]) -> [u8; 16]
     requires { ⌜ Good m w c ⌝ }
     requires { ⌜ p < m * w ⌝ }
-    requires { ⌜ KeptFew m w c p (now kept) ⌝ }
-    ensures { λ r. ⌜ Direction w (p % w) (stretch w (p / w) (now (kept .entry))) (take w r) ⌝ }
+    requires { ⌜ BoundFew m w c p (now bound) ⌝ }
+    ensures { λ r. ⌜ Direction w (p % w) (stretch w (p / w) (now (bound .entry))) (take w r) ⌝ }
 {
     let g = p / w;
     let j = p % w;
     let a = g * w;
     let e = a + w;
-    direction(j, &kept[a..e])
+    direction(j, &bound[a..e])
 }
 
 // The coefficients of the direction h of group g in the two sums across.
@@ -145,16 +145,16 @@ fn weights(m: usize, w: usize, c: usize, g: usize, h: [u8; 16]) -> syndrome::Sum
     syndrome::group_sums(&h[..w], c, g)
 }
 
-// Sets the one free place p, and with it the kept places of its group, so that the sums across are zero if they can be.
-fn mend_one(m: usize, w: usize, c: usize, p: usize, kept: &[u8], word: &mut [u8])
+// Sets the one free place p, and with it the bound places of its group, so that the sums across are zero if they can be.
+fn mend_one(m: usize, w: usize, c: usize, p: usize, bound: &[u8], word: &mut [u8])
     requires { ⌜ Good m w c ⌝ }
     requires { ⌜ length (now word) ≡ m * w ⌝ }
     requires { ⌜ p < m * w ⌝ }
-    requires { ⌜ KeptFew m w c p (now kept) ⌝ }
-    ensures { λ _. ⌜ MendedOne m w c p (now (kept .entry)) (now (word .entry)) (now (word .exit)) ⌝ }
+    requires { ⌜ BoundFew m w c p (now bound) ⌝ }
+    ensures { λ _. ⌜ MendedOne m w c p (now (bound .entry)) (now (word .entry)) (now (word .exit)) ⌝ }
 {
     let g = p / w;
-    let h = way(m, w, c, p, kept);
+    let h = way(m, w, c, p, bound);
     let a = weights(m, w, c, g, h);
     let s = syndrome::across(m, w, c, word);
     let u = one_unknown(a.first, a.second, s.first, s.second);
@@ -162,19 +162,19 @@ fn mend_one(m: usize, w: usize, c: usize, p: usize, kept: &[u8], word: &mut [u8]
 }
 
 // The same for two free places p and q.
-fn mend_two(m: usize, w: usize, c: usize, p: usize, q: usize, kept: &[u8], word: &mut [u8])
+fn mend_two(m: usize, w: usize, c: usize, p: usize, q: usize, bound: &[u8], word: &mut [u8])
     requires { ⌜ Good m w c ⌝ }
     requires { ⌜ length (now word) ≡ m * w ⌝ }
     requires { ⌜ (p < m * w) × (q < m * w) ⌝ }
-    requires { ⌜ KeptFew m w c p (now kept) ⌝ }
-    requires { ⌜ KeptFew m w c q (now kept) ⌝ }
-    ensures { λ _. ⌜ MendedTwo m w c p q (now (kept .entry)) (now (word .entry)) (now (word .exit)) ⌝ }
+    requires { ⌜ BoundFew m w c p (now bound) ⌝ }
+    requires { ⌜ BoundFew m w c q (now bound) ⌝ }
+    ensures { λ _. ⌜ MendedTwo m w c p q (now (bound .entry)) (now (word .entry)) (now (word .exit)) ⌝ }
 {
     let g = p / w;
-    let h = way(m, w, c, p, kept);
+    let h = way(m, w, c, p, bound);
     let a = weights(m, w, c, g, h);
     let i = q / w;
-    let k = way(m, w, c, q, kept);
+    let k = way(m, w, c, q, bound);
     let b = weights(m, w, c, i, k);
     let s = syndrome::across(m, w, c, word);
     let u = two_unknowns(a.first, b.first, a.second, b.second, s.first, s.second);
@@ -183,37 +183,45 @@ fn mend_two(m: usize, w: usize, c: usize, p: usize, q: usize, kept: &[u8], word:
 }
 
 // Sets the first two free places, or as many as there are, so that the sums across are zero if they can be.
-fn mend(m: usize, w: usize, c: usize, marks: &[u8], kept: &[u8], word: &mut [u8])
+fn mend(m: usize, w: usize, c: usize, marks: &[u8], bound: &[u8], word: &mut [u8])
     requires { ⌜ Good m w c ⌝ }
     requires { ⌜ length (now word) ≡ m * w ⌝ }
     requires { ⌜ length (now marks) ≡ m * w ⌝ }
-    requires { ⌜ KeptAll m w c (now marks) (now kept) ⌝ }
-    ensures { λ _. ⌜ Mended m w c (now (marks .entry)) (now (kept .entry)) (now (word .entry)) (now (word .exit)) ⌝ }
+    requires { ⌜ BoundAll m w c (now marks) (now bound) ⌝ }
+    ensures { λ _. ⌜ Mended m w c (now (marks .entry)) (now (bound .entry)) (now (word .entry)) (now (word .exit)) ⌝ }
 {
-    let f = erasures::free_places(marks, kept);
+    let f = erasures::free_places(marks, bound);
     if f.count == 1 {
-        mend_one(m, w, c, f.first, kept, word);
+        mend_one(m, w, c, f.first, bound, word);
         return;
     }
     if f.count == 2 {
-        mend_two(m, w, c, f.first, f.second, kept, word);
+        mend_two(m, w, c, f.first, f.second, bound, word);
     }
 }
 
-// The candidate of a good shape; kept comes to hold the marks of the places that the groups keep.
-fn rebuild(m: usize, w: usize, c: usize, word: &[u8], marks: &[u8], kept: &mut [u8], out: &mut [u8])
+// The candidate of a good shape; bound comes to hold the marks of the places that the groups keep.
+fn rebuild(
+    m: usize,
+    w: usize,
+    c: usize,
+    word: &[u8],
+    marks: &[u8],
+    bound: &mut [u8],
+    out: &mut [u8],
+)
     requires { ⌜ Good m w c ⌝ }
     requires { ⌜ length (now word) ≡ m * w ⌝ }
     requires { ⌜ length (now marks) ≡ m * w ⌝ }
-    requires { ⌜ length (now kept) ≡ m * w ⌝ }
+    requires { ⌜ length (now bound) ≡ m * w ⌝ }
     requires { ⌜ length (now out) ≡ m * w ⌝ }
     ensures { λ _. ⌜ IsCandidate m w c (now (marks .entry)) (now (word .entry)) (now (out .exit)) ⌝ }
 {
-    buffers::copy(marks, kept);
-    erasures::keep(m, w, c, kept);
+    buffers::copy(marks, bound);
+    erasures::clear_free(m, w, c, bound);
     blank_lost(word, marks, out);
-    fill_groups(m, w, c, kept, out);
-    mend(m, w, c, marks, kept, out);
+    fill_groups(m, w, c, bound, out);
+    mend(m, w, c, marks, bound, out);
 }
 
 // Writes the candidate into out: the present bytes of word and, where the excess is at most two, in the lost places what any codeword that agrees
@@ -234,6 +242,6 @@ pub fn candidate(m: usize, w: usize, c: usize, word: &[u8], marks: &[u8], out: &
         return;
     }
     let n = word.len();
-    let mut kept = [0u8; 240];
-    rebuild(m, w, c, word, marks, &mut kept[..n], out);
+    let mut bound = [0u8; 240];
+    rebuild(m, w, c, word, marks, &mut bound[..n], out);
 }

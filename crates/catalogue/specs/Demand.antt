@@ -8,7 +8,7 @@ use Rattle.catalogue_text.specs.Catalogue.{Entry, textOf}
 use Rattle.catalogue_text.specs.Changes.{putIn}
 use Rattle.catalogue.specs.declared.Looked.{Looked}
 use Rattle.catalogue.specs.declared.Changed.{Changed}
-use Rattle.catalogue.specs.Service.{formed, listIn, lookedOf, putEntry, putText, putOf, putBuffer}
+use Rattle.catalogue.specs.LookupAndPut.{formed, listIn, lookedOf, putEntry, putText, putOf, putBuffer}
 
 -- Of a put that is done: it answers the new text's length and the name's revision; the text is of the form, that of the list with the entry put into it, and is
 -- read as that list; lookup of the name gives the shape put and that revision, and of every other name what it gave before; bytes past the new text stay.

@@ -1,6 +1,6 @@
 -- Proof: what a put leaves.
 use mathlib.Core.Path.{_≡_, refl, sym, ap, ap₂, _∙_, subst}
-use mathlib.Core.Bool.{Bool, true, false, cond, not, _||_, true≢false}
+use mathlib.Core.Bool.{Bool, true, false, cond, not, _||_, true≢false, _&&_}
 use mathlib.Core.List.{List, [], _∷_, _++_}
 use Prim.Native.Nat.{ℕ, zero, suc, _+_, _-_, _≤_, _<_}
 use native.Mathlib.Omega.{arith}
@@ -8,8 +8,7 @@ use borrow.Author.Tests.{eqb-true, eqb-false, ltb-false, not-false, le-leb, ne-e
 use lib.Dec.{T, eqb, leb, ltb}
 use lib.ListN.{length, take, drop, length-append, length-drop}
 use lib.Seq.{take-at, drop-at}
-use Rattle.counting.specs.Test.{both}
-use Rattle.counting.specs.TestLaws.{both-l, both-r}
+use Rattle.counting.specs.TestLaws.{and-l, and-r}
 use Rattle.shape.specs.Refusals.{refuse, _orElse_}
 use Rattle.shape.specs.RefusalsLaws.{refuse-zero, orElse-zero}
 use Rattle.shape.specs.Shapes.{saleRefusal}
@@ -25,8 +24,8 @@ use Rattle.catalogue_text.specs.Changes.{entryFor, putIn}
 use Rattle.catalogue_text.specs.ChangesLaws.{put-found, put-others, put-good}
 use Rattle.catalogue.specs.declared.Looked.{Looked}
 use Rattle.catalogue.specs.declared.Changed.{Changed}
-use Rattle.catalogue.specs.Service.{formed, textRefusal, nameRefusal, listIn, stored, lookupRefusal, lookedAt, lookedOf}
-use Rattle.catalogue.specs.Service.{putEntry, putText, changeRefusal, putRefusal, putOf, putBuffer}
+use Rattle.catalogue.specs.LookupAndPut.{formed, textRefusal, nameRefusal, listIn, stored, lookupRefusal, lookedAt, lookedOf}
+use Rattle.catalogue.specs.LookupAndPut.{putEntry, putText, changeRefusal, putRefusal, putOf, putBuffer}
 use Rattle.catalogue.specs.Laws.{looked-found}
 use Rattle.catalogue.specs.Demand.{PutDone, PutRefused}
 
@@ -40,13 +39,13 @@ put-refused m w c name expected buffer size r e = record { answer = rw e; stays 
 revision-most : (name last : List ℕ) (list : List Entry) → T (goodFrom last list) → (entryFor name list) .revision ≤ 65535
 unfolding entryFor goodFrom
 revision-most name last [] t = omega arith
-revision-most name last (e ∷ list) t = go (same (e .name) name) (revision-most name (e .name) list (both-r (goodEntry e) (goodFrom (e .name) list) more))
+revision-most name last (e ∷ list) t = go (same (e .name) name) (revision-most name (e .name) list (and-r (goodEntry e) (goodFrom (e .name) list) more))
   where
-    more : T (both (goodEntry e) (goodFrom (e .name) list))
-    more = both-r (before last (e .name)) (both (goodEntry e) (goodFrom (e .name) list)) t
+    more : T (goodEntry e && goodFrom (e .name) list)
+    more = and-r (before last (e .name)) (goodEntry e && goodFrom (e .name) list) t
 
     go : (b : Bool) → (entryFor name list) .revision ≤ 65535 → (cond b e (entryFor name list)) .revision ≤ 65535
-    go true i = entry-good e (both-l (goodEntry e) (goodFrom (e .name) list) more) .most
+    go true i = entry-good e (and-l (goodEntry e) (goodFrom (e .name) list) more) .most
     go false i = i
 
 or-none : (a b : Bool) → (a || b) ≡ false → (a ≡ false) × (b ≡ false)
@@ -81,7 +80,7 @@ module _ (m w c : ℕ) (name : List ℕ) (expected : ℕ) (buffer : List ℕ) (s
   old-good =
       let t = true-is (formed buffer size) (refusals .1) in
       read-good (take size buffer)
-      (both-r (leb size 4096) (ofForm (take size buffer)) (both-r (leb size (length buffer)) (both (leb size 4096) (ofForm (take size buffer))) t))
+      (and-r (leb size 4096) (ofForm (take size buffer)) (and-r (leb size (length buffer)) (leb size 4096 && ofForm (take size buffer)) t))
 
   entered-good : T (goodEntry entry)
   unfolding entry putEntry

@@ -1,6 +1,6 @@
 -- Lookup and Put by the place that a scan finds.
 use mathlib.Core.Path.{_≡_, refl, sym, ap, ap₂, _∙_, subst}
-use mathlib.Core.Bool.{Bool, true, false, cond, not, _||_}
+use mathlib.Core.Bool.{Bool, true, false, cond, not, _||_, _&&_}
 use mathlib.Core.List.{List, [], _∷_, _++_, append-assoc}
 use Prim.Native.Nat.{ℕ, zero, suc, _+_, _-_, _≤_, _<_}
 use native.Mathlib.Omega.{arith}
@@ -8,14 +8,13 @@ use borrow.Author.Tests.{lt-ltb, le-ltb, le-leb, lt-leb, eq-eqb, ne-eqb}
 use lib.Dec.{T, eqb, leb, ltb, leb→le}
 use lib.ListN.{length, take, drop, length-append, length-drop}
 use lib.Seq.{length-take-le, take-at, take-take, take-nil}
-use Rattle.counting.specs.Test.{both}
-use Rattle.counting.specs.TestLaws.{both-l, both-r}
+use Rattle.counting.specs.TestLaws.{and-l, and-r}
 use Rattle.shape.specs.Refusals.{refuse, _orElse_, unlessRefused}
 use Rattle.shape.specs.Shapes.{saleRefusal}
 use Rattle.text.specs.Lines.{lineWith}
 use Rattle.text.specs.Written.{written}
 use Rattle.catalogue_text.specs.Names.{nameBytes, goodName}
-use Rattle.catalogue_text.specs.NamesLaws.{is-true, true-is, both-none}
+use Rattle.catalogue_text.specs.NamesLaws.{is-true, true-is, and-none}
 use Rattle.catalogue_text.specs.Catalogue.{Entry, entryLine, textOf, listOf, ofForm}
 use Rattle.catalogue_text.specs.Changes.{entryFor, putIn}
 use Rattle.catalogue_scan.specs.declared.Place.{Place}
@@ -26,8 +25,8 @@ use Rattle.catalogue_write.specs.Splice.{SpliceFits, splicedIn, Holds}
 use Rattle.catalogue_write.specs.declared.Row.{Row}
 use Rattle.catalogue.specs.declared.Looked.{Looked}
 use Rattle.catalogue.specs.declared.Changed.{Changed}
-use Rattle.catalogue.specs.Service.{formed, textRefusal, nameRefusal, listIn, stored, lookupRefusal, lookedAt, lookedOf, lookedNumber}
-use Rattle.catalogue.specs.Service.{putEntry, putText, changeRefusal, putRefusal, putAnswer, putOf, putBuffer, putNumber}
+use Rattle.catalogue.specs.LookupAndPut.{formed, textRefusal, nameRefusal, listIn, stored, lookupRefusal, lookedAt, lookedOf, lookedNumber}
+use Rattle.catalogue.specs.LookupAndPut.{putEntry, putText, changeRefusal, putRefusal, putAnswer, putOf, putBuffer, putNumber}
 
 -- ---- the scan of a buffer's text
 unfoldable pub scannedIn : List ℕ → ℕ → List ℕ → Scanned
@@ -104,7 +103,7 @@ pub name-short : (name : List ℕ) → goodName name ≡ true → length name �
 unfolding goodName
 name-short name e =
     leb→le (length name) 16
-    (both-l (leb (length name) 16) _ (both-r (leb 1 (length name)) _ (true-is (both (leb 1 (length name)) (both (leb (length name) 16) (nameBytes name))) e)))
+    (and-l (leb (length name) 16) _ (and-r (leb 1 (length name)) _ (true-is (leb 1 (length name) && (leb (length name) 16 && nameBytes name)) e)))
 
 pub row-line : (row : Row) (line : List ℕ) → Holds row line → take (row .length) (row .bytes) ≡ line
 row-line row line h = rw (h .contents) (take-at line _ (row .length) (sym (h .size)))
@@ -137,10 +136,10 @@ module _ (place : Place) (buffer : List ℕ) (size : ℕ) (name : List ℕ) (p :
   unfolding formed
   lengths =
       let t = true-is (formed buffer size) (p .whole) in
-      let u = both-r (leb size (length buffer)) (both (leb size 4096) (ofForm (take size buffer))) t in (
-        leb→le size (length buffer) (both-l (leb size (length buffer)) (both (leb size 4096) (ofForm (take size buffer))) t),
-        leb→le size 4096 (both-l (leb size 4096) (ofForm (take size buffer)) u),
-        both-r (leb size 4096) (ofForm (take size buffer)) u,
+      let u = and-r (leb size (length buffer)) (leb size 4096 && ofForm (take size buffer)) t in (
+        leb→le size (length buffer) (and-l (leb size (length buffer)) (leb size 4096 && ofForm (take size buffer)) t),
+        leb→le size 4096 (and-l (leb size 4096) (ofForm (take size buffer)) u),
+        and-r (leb size 4096) (ofForm (take size buffer)) u,
       )
 
   pub spot : Spot name (listIn buffer size) (take size buffer) textOf place

@@ -1,4 +1,4 @@
-pub mod Service
+pub mod LookupAndPut
 pub mod Demand
 pub mod Laws
 pub mod DemandLaws

@@ -4,7 +4,7 @@ use catalogue_scan::Scanned;
 ghost use mathlib.Core.Path.{_≡_};
 ghost use mathlib.Core.Bool.{true};
 ghost use lib.ListN.{length};
-ghost use Rattle.catalogue.specs.Service.{lookupRefusal, lookedOf, lookedNumber, putRefusal, putOf, putNumber, putBuffer};
+ghost use Rattle.catalogue.specs.LookupAndPut.{lookupRefusal, lookedOf, lookedNumber, putRefusal, putOf, putNumber, putBuffer};
 ghost use Rattle.catalogue.specs.Laws.{scannedIn, PlaceOf, atRefusal, atAnswer, atBuffer};
 
 // Revision and shape, or the number of a refusal.

@@ -9,7 +9,6 @@ use borrow.Author.Tests.{lt-ltb, le-ltb, le-leb, lt-leb, eq-eqb, ne-eqb}
 use lib.Dec.{eqb, leb, ltb}
 use lib.ListN.{length, getD, drop, drop-of-length-le}
 use lib.Seq.{drop-cons}
-use Rattle.counting.specs.Test.{both}
 use Rattle.shape.specs.Shapes.{shapeRefusal, madeOf}
 use Rattle.shape.specs.Laws.{shaped, unshaped, refusal-of-good}
 use Rattle.shape.specs.declared.Shape.{Shape}

@@ -1,10 +1,9 @@
 -- A line of the catalogue as it is read.
-use mathlib.Core.Bool.{Bool, cond}
+use mathlib.Core.Bool.{Bool, cond, _&&_}
 use mathlib.Core.List.{List}
 use Prim.Native.Nat.{ℕ, _+_}
 use lib.Dec.{eqb, leb, ltb}
 use lib.ListN.{length, drop}
-use Rattle.counting.specs.Test.{both}
 use Rattle.shape.specs.Shapes.{shapeRefusal}
 use Rattle.text.specs.Decimal.{numberOf, unreadable}
 use Rattle.text.specs.FieldLaws.{upTo, endOf}
@@ -33,7 +32,7 @@ fieldAfter at line = cond (ltb at (length line))
 
 -- "revisions 1 to 65,535, shapes good"
 unfoldable pub numbersGood : ℕ → ℕ → ℕ → ℕ → Bool
-numbersGood revision m w c = both (leb 1 revision) (both (leb revision 65535) (eqb (shapeRefusal m w c) 0))
+numbersGood revision m w c = leb 1 revision && (leb revision 65535 && eqb (shapeRefusal m w c) 0)
 
 -- these numbers under a name of so many bytes
 unfoldable pub lineIf : ℕ → ℕ → ℕ → ℕ → ℕ → Line

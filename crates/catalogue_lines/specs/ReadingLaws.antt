@@ -1,7 +1,7 @@
 -- A line by its fields, one after the other.
 use mathlib.Core.Path.{_≡_, refl, sym, ap, ap₂, _∙_, subst}
 use mathlib.Core.Logic.{_⊎_, inl, inr}
-use mathlib.Core.Bool.{Bool, true, false, cond}
+use mathlib.Core.Bool.{Bool, true, false, cond, _&&_}
 use mathlib.Core.List.{List, [], _∷_, map}
 use Prim.Native.Nat.{ℕ, suc, _+_, _≤_, _<_}
 use native.Mathlib.Nat.{zero-add}
@@ -10,7 +10,6 @@ use native.Mathlib.Decide.{decLt}
 use borrow.Author.Tests.{lt-ltb, le-ltb, le-leb, lt-leb, ne-eqb, eqb-true}
 use lib.Dec.{T, eqb, leb, ltb}
 use lib.ListN.{length, getD, take, drop}
-use Rattle.counting.specs.Test.{both}
 use Rattle.shape.specs.Shapes.{shapeRefusal}
 use Rattle.shape.specs.Laws.{good-of-refusal}
 use Rattle.text.specs.Decimal.{numberOf, unreadable}
@@ -19,7 +18,7 @@ use Rattle.text.specs.FieldLaws.{upTo, toTab, endOf, take-part, partsFrom, part
 use Rattle.text.specs.Records.{lineName}
 use Rattle.text.specs.RecordLaws.{name-first}
 use Rattle.catalogue_text.specs.Names.{goodName}
-use Rattle.catalogue_text.specs.NamesLaws.{both-none}
+use Rattle.catalogue_text.specs.NamesLaws.{and-none}
 use Rattle.catalogue_text.specs.Catalogue.{Entry, goodEntry, numbersOf, entryOf}
 use Rattle.catalogue_text.specs.CatalogueLaws.{lineGood}
 use Rattle.catalogue_lines.specs.declared.Line.{Line}
@@ -65,7 +64,7 @@ revision-large m w c = refl
 
 shape-large : (r m w c : ℕ) → (16 < m) ⊎ (16 < w) ⊎ (16 < c) → numbersGood r m w c ≡ false
 unfolding numbersGood
-shape-large r m w c h = rw (none (eqb (shapeRefusal m w c) 0) refl, both-none (leb r 65535), both-none (leb 1 r))
+shape-large r m w c h = rw (none (eqb (shapeRefusal m w c) 0) refl, and-none (leb r 65535), and-none (leb 1 r))
   where
     large : shapeRefusal m w c ≡ 0 → (16 < m) ⊎ (16 < w) ⊎ (16 < c) → ⊥
     large e (inl l) = let g = good-of-refusal m w c e .few in omega arith
@@ -81,7 +80,7 @@ entry-read : (line : List ℕ) (r m w c : ℕ) → numbersOf line ≡ r ∷ m �
 unfolding entryOf
 entry-read line r m w c e = rw e
 
-good-numbers : (e : Entry) → goodEntry e ≡ both (goodName (e .name)) (numbersGood (e .revision) (e .m) (e .w) (e .c))
+good-numbers : (e : Entry) → goodEntry e ≡ (goodName (e .name) && numbersGood (e .revision) (e .m) (e .w) (e .c))
 unfolding goodEntry numbersGood
 good-numbers e = refl
 
@@ -104,21 +103,21 @@ module _ (line : List ℕ) where
 
   -- the line is good by its name, its end and its numbers
   abbrev ReadAs : Bool → Type 0
-  ReadAs g = (lineGood line ≡ both (leb (length line) (fourth .end)) g) × (T (both (leb (length line) (fourth .end)) g) → entryOf line ≡ asRead)
+  ReadAs g = (lineGood line ≡ (leb (length line) (fourth .end) && g)) × (T (leb (length line) (fourth .end) && g) → entryOf line ≡ asRead)
 
-  not-four : (g : Bool) → (length (numbersOf line) ≡ 4 → ⊥) → both (leb (length line) (fourth .end)) g ≡ false → ReadAs g
+  not-four : (g : Bool) → (length (numbersOf line) ≡ 4 → ⊥) → (leb (length line) (fourth .end) && g) ≡ false → ReadAs g
   unfolding lineGood
   not-four g n e = (rw (ne-eqb (length (numbersOf line)) 4 n) (sym e), λ t. absurd (subst T e t))
 
   abbrev good : Bool
-  good = both (goodName (lineName line)) (numbersGood (first .value) (second .value) (third .value) (fourth .value))
+  good = goodName (lineName line) && numbersGood (first .value) (second .value) (third .value) (fourth .value)
 
   -- where a number is missing it counts as too large
   missing : (length (numbersOf line) ≡ 4 → ⊥) → numbersGood (first .value) (second .value) (third .value) (fourth .value) ≡ false → ReadAs good
   missing n e =
       not-four good n
-      (ap (λ g. both (leb (length line) (fourth .end)) (both (goodName (lineName line)) g)) e
-      ∙ rw (both-none (goodName (lineName line)), both-none (leb (length line) (fourth .end))))
+      (ap (λ g. (leb (length line) (fourth .end) && (goodName (lineName line) && g))) e
+      ∙ rw (and-none (goodName (lineName line)), and-none (leb (length line) (fourth .end))))
 
   counted : {xs : List ℕ} → numbersOf line ≡ xs → (length xs ≡ 4 → ⊥) → length (numbersOf line) ≡ 4 → ⊥
   counted e n k = n (sym (ap length e) ∙ k)
@@ -150,7 +149,7 @@ module _ (line : List ℕ) where
             | yes l₄ ↦ (
                 let e = four l₀ l₁ l₂ l₃ in
                 not-four good (counted (e ∙ ap after-four (numbers-more line (fourth .end) l₄)) (λ k. omega arith))
-                (ap (λ b. both b good) (lt-leb n (fourth .end) l₄))
+                (ap (λ b. (b && good)) (lt-leb n (fourth .end) l₄))
                 )
             | no l₄ ↦ exact (four l₀ l₁ l₂ l₃ ∙ ap after-four (numbers-end line (fourth .end) (omega arith))) (omega arith)
           ]
@@ -209,7 +208,7 @@ module _ (line : List ℕ) where
   unfolding readLine lineIf
   line-read t l = go numbers refl (fields-read .0 ∙ tests) (λ u. fields-read .1 (subst T (sym tests) u))
     where
-      tests : both (leb (length line) (fourth .end)) good ≡ numbers
+      tests : (leb (length line) (fourth .end) && good) ≡ numbers
       tests = rw (le-leb (length line) (fourth .end) l, t)
 
       go : (b : Bool) → numbers ≡ b → lineGood line ≡ numbers → (T numbers → entryOf line ≡ asRead)
@@ -221,7 +220,7 @@ module _ (line : List ℕ) where
   pub line-unnamed : goodName (lineName line) ≡ false → readLine line ≡ unread
   unfolding readLine
   line-unnamed e =
-      let n : lineGood line ≡ false = fields-read .0 ∙ rw (e, both-none (leb (length line) (fourth .end))) in
+      let n : lineGood line ≡ false = fields-read .0 ∙ rw (e, and-none (leb (length line) (fourth .end))) in
       rw n
 
   pub line-longer : fourth .end < length line → readLine line ≡ unread

@@ -1,14 +1,13 @@
 -- The place of a name: the entry that it has, and the text with another line there.
 use mathlib.Core.Path.{_≡_, refl, sym, ap, ap₂, _∙_, subst}
-use mathlib.Core.Bool.{Bool, true, false, cond}
+use mathlib.Core.Bool.{Bool, true, false, cond, _&&_}
 use mathlib.Core.List.{List, [], _∷_, _++_, append-assoc, append-nil}
 use Prim.Native.Nat.{ℕ, _+_, _≤_}
 use native.Mathlib.Omega.{arith}
 use lib.Dec.{T}
 use lib.ListN.{length, take, drop, length-append}
 use lib.Seq.{take-at, drop-at}
-use Rattle.counting.specs.Test.{both}
-use Rattle.counting.specs.TestLaws.{both-l, both-r}
+use Rattle.counting.specs.TestLaws.{and-l, and-r}
 use Rattle.text.specs.Fields.{same}
 use Rattle.text.specs.FieldLaws.{same-eq}
 use Rattle.catalogue_text.specs.Names.{before}
@@ -41,9 +40,9 @@ module _ (name : List ℕ) where
   unfolding placeFrom goodFrom entryFor
   place-stays at place last after [] t = (refl, refl)
   place-stays at place last after (e ∷ list) t =
-      let b : before name (e .name) ≡ true = after (e .name) (is-true _ (both-l (before last (e .name)) (both (goodEntry e) (goodFrom (e .name) list)) t)) in
+      let b : before name (e .name) ≡ true = after (e .name) (is-true _ (and-l (before last (e .name)) (goodEntry e && goodFrom (e .name) list) t)) in
       let n = before-only name (e .name) b in
-      let more = both-r (goodEntry e) (goodFrom (e .name) list) (both-r (before last (e .name)) (both (goodEntry e) (goodFrom (e .name) list)) t) in
+      let more = and-r (goodEntry e) (goodFrom (e .name) list) (and-r (before last (e .name)) (goodEntry e && goodFrom (e .name) list) t) in
       let i = place-stays (at + length (entryLine e)) place (e .name) (λ x h. before-trans name (e .name) x b h) list more in (
         ap (λ p. placeFrom name (at + length (entryLine e)) p list) (next-after at (at + length (entryLine e)) e place (n .0) (n .1)) ∙ i .0,
         rw (n .1) (i .1),
@@ -149,7 +148,7 @@ spot name front at f last (g ∷ list) t =
     (spot name (front ++ entryLine g) (at + length (entryLine g)) (long name front at f g list) (g .name) list more)
   where
     more : T (goodFrom (g .name) list)
-    more = both-r (goodEntry g) (goodFrom (g .name) list) (both-r (before last (g .name)) (both (goodEntry g) (goodFrom (g .name) list)) t)
+    more = and-r (goodEntry g) (goodFrom (g .name) list) (and-r (before last (g .name)) (goodEntry g && goodFrom (g .name) list) t)
 
     next : ℕ
     next = at + length (entryLine g)

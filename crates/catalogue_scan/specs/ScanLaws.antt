@@ -1,6 +1,6 @@
 -- A scan line by line: what is known at the start of each line.
 use mathlib.Core.Path.{_≡_, refl, sym, ap, ap₂, _∙_, subst}
-use mathlib.Core.Bool.{Bool, true, false, cond}
+use mathlib.Core.Bool.{Bool, true, false, cond, _&&_}
 use mathlib.Core.List.{List, [], _∷_, _++_}
 use Prim.Native.Nat.{ℕ, suc, _+_, _-_, _≤_, _<_}
 use native.Mathlib.Numerals.{add-one}
@@ -9,14 +9,13 @@ use borrow.Author.Tests.{ne-eqb, leb-true}
 use lib.Dec.{T, eqb, leb, leb→le}
 use lib.ListN.{length, getD, take, drop, length-append, length-drop, length-take, drop-of-length-le}
 use lib.Seq.{drop-cons, drop-drop, length-take-le, take-take}
-use Rattle.counting.specs.Test.{both}
-use Rattle.counting.specs.TestLaws.{both-l, both-r, both-intro}
+use Rattle.counting.specs.TestLaws.{and-l, and-r, and-intro}
 use Rattle.text.specs.Fields.{parts, same}
 use Rattle.text.specs.FieldLaws.{upTo, later, endOf, parts-split, part-taken, take-part, same-eq}
 use Rattle.text.specs.Records.{lineName}
 use Rattle.text.specs.RecordLaws.{line-values}
 use Rattle.catalogue_text.specs.Names.{goodName, before}
-use Rattle.catalogue_text.specs.NamesLaws.{is-true, true-is, same-refl, both-none, both-all}
+use Rattle.catalogue_text.specs.NamesLaws.{is-true, true-is, same-refl, and-none, and-all}
 use Rattle.catalogue_text.specs.Catalogue.{Entry, firstLine, entryLine, entryOf, entriesOf, listOf, ofForm}
 use Rattle.catalogue_text.specs.LineLaws.{entry-good}
 use Rattle.catalogue_text.specs.CatalogueLaws.{lineGood, lineRight, restRight, isEmpty, rest-more, rest-end, entries-more, entries-end, good-read}
@@ -56,7 +55,7 @@ good-name line t = subst (λ n. T (goodName n)) (read-name line) (entry-good (en
 
 name-some : (name : List ℕ) → T (goodName name) → 1 ≤ length name
 unfolding goodName
-name-some name t = leb→le 1 (length name) (both-l (leb 1 (length name)) _ t)
+name-some name t = leb→le 1 (length name) (and-l (leb 1 (length name)) _ t)
 
 module _ (last line : List ℕ) where
   pub right-line : T (lineRight last line)
@@ -105,13 +104,13 @@ scan-start text name h l = record { head = h; inside = l; order = omega arith; n
 not-formed : (text name : List ℕ) → restRight [] (parts 10 (drop 9 text)) ≡ false → scannedOf text name ≡ Scanned.Bad
 unfolding scannedOf
 not-formed text name e =
-    let n : ofForm text ≡ false = form-lines text ∙ ap (both (same (take 9 text) firstLine)) e ∙ both-none (same (take 9 text) firstLine) in
+    let n : ofForm text ≡ false = form-lines text ∙ ap (_&&_ (same (take 9 text) firstLine)) e ∙ and-none (same (take 9 text) firstLine) in
     rw n
 
 pub scan-headless : (text name : List ℕ) → same (take 9 text) firstLine ≡ false → scannedOf text name ≡ Scanned.Bad
 unfolding scannedOf
 scan-headless text name e =
-    let n : ofForm text ≡ false = form-lines text ∙ ap (λ b. both b (restRight [] (parts 10 (drop 9 text)))) e in
+    let n : ofForm text ≡ false = form-lines text ∙ ap (λ b. (b && restRight [] (parts 10 (drop 9 text)))) e in
     rw n
 
 module _ (text name : List ℕ) (at from to : ℕ) (place : Place) (s : Scanning text name at from to place) where
@@ -132,11 +131,11 @@ module _ (text name : List ℕ) (at from to : ℕ) (place : Place) (s : Scanning
   scan-open l h = not-formed text name (s .tests ∙ open-line text at (omega arith) h last)
 
   module _ (h : end < length text) where
-    more : restRight [] (parts 10 (drop 9 text)) ≡ both (lineRight last line) (restRight (lineName line) (parts 10 (drop (end + 1) text)))
+    more : restRight [] (parts 10 (drop 9 text)) ≡ (lineRight last line && restRight (lineName line) (parts 10 (drop (end + 1) text)))
     more = s .tests ∙ ap (restRight last) (next-line text at h) ∙ rest-more last line (drop (end + 1) text)
 
     pub scan-wrong : lineRight last line ≡ false → scannedOf text name ≡ Scanned.Bad
-    scan-wrong e = not-formed text name (more ∙ ap (λ b. both b (restRight (lineName line) (parts 10 (drop (end + 1) text)))) e)
+    scan-wrong e = not-formed text name (more ∙ ap (λ b. (b && restRight (lineName line) (parts 10 (drop (end + 1) text)))) e)
 
     module _ (t : T (lineRight last line)) where
       line-long : length line ≡ end - at
@@ -194,9 +193,9 @@ module _ (last line : List ℕ) where
   read-none e = go (lineGood line) refl e
     where
       go : (b : Bool) → lineGood line ≡ b → (cond b (asLine (entryOf line)) unread) .size ≡ 0
-          → cond (lineGood line) (asLine (entryOf line)) unread ≡ cond (both (before last (lineName line)) (lineGood line)) (asLine (entryOf line)) unread
+          → cond (lineGood line) (asLine (entryOf line)) unread ≡ cond (before last (lineName line) && lineGood line) (asLine (entryOf line)) unread
       go true d z = let n = name-some (lineName line) (good-name line (true-is _ d)) in let r = ap length (read-name line) in absurd (omega arith)
-      go false d z = rw (d, both-none (before last (lineName line)))
+      go false d z = rw (d, and-none (before last (lineName line)))
 
   -- what can be read is right if its name stands after the last one
   pub read-some : ((readLine line) .size ≡ 0 → ⊥)
@@ -209,7 +208,7 @@ module _ (last line : List ℕ) where
 
       go : (b : Bool) → lineGood line ≡ b → ((cond b (asLine (entryOf line)) unread) .size ≡ 0 → ⊥)
           → ((cond (lineGood line) (asLine (entryOf line)) unread) .size ≤ length line)
-          × (cond (both (before last (lineName line)) (lineGood line)) (asLine (entryOf line)) unread
+          × (cond (before last (lineName line) && lineGood line) (asLine (entryOf line)) unread
           ≡ cond (before last (take ((cond (lineGood line) (asLine (entryOf line)) unread) .size) line))
           (cond (lineGood line) (asLine (entryOf line)) unread) unread)
       go true d z =
@@ -227,6 +226,6 @@ module _ (last line : List ℕ) where
               c =
                   (entryOf line) .c;
             }) unread)
-                (both-all (before last (lineName line))),
+                (and-all (before last (lineName line))),
           )
       go false d z = absurd (z refl)

@@ -1,10 +1,9 @@
 -- The catalogue of named shapes: the list, its text, and the reading of a text.
-use mathlib.Core.Bool.{Bool, true}
+use mathlib.Core.Bool.{Bool, true, _&&_}
 use mathlib.Core.List.{List, [], _∷_, _++_, map}
 use Prim.Native.Nat.{ℕ}
 use lib.Dec.{eqb, leb}
 use lib.ListN.{length, getD, drop}
-use Rattle.counting.specs.Test.{both}
 use Rattle.shape.specs.Shapes.{shapeRefusal}
 use Rattle.text.specs.Decimal.{numberOf}
 use Rattle.text.specs.Fields.{parts, fields, same}
@@ -22,12 +21,12 @@ pub record Entry : Type 0 where
 
 -- "revisions 1 to 65,535, shapes good", and a good name
 unfoldable pub goodEntry : Entry → Bool
-goodEntry e = both (goodName (e .name)) (both (leb 1 (e .revision)) (both (leb (e .revision) 65535) (eqb (shapeRefusal (e .m) (e .w) (e .c)) 0)))
+goodEntry e = goodName (e .name) && (leb 1 (e .revision) && (leb (e .revision) 65535 && eqb (shapeRefusal (e .m) (e .w) (e .c)) 0))
 
 -- "sorted by name in byte order, no name twice": each name stands after the one before it
 unfoldable pub goodFrom : List ℕ → List Entry → Bool
 goodFrom last [] = true
-goodFrom last (e ∷ list) = both (before last (e .name)) (both (goodEntry e) (goodFrom (e .name) list))
+goodFrom last (e ∷ list) = before last (e .name) && (goodEntry e && goodFrom (e .name) list)
 
 -- a good list; the first name stands after none
 abbrev pub goodList : List Entry → Bool
@@ -80,4 +79,4 @@ listOf text = entriesOf (drop 1 (parts 10 text))
 
 -- A text is "of this form" if the list that it is read as is good and has this text (`CatalogueLaws: form-exactly`: if it is the text of a good list).
 unfoldable pub ofForm : List ℕ → Bool
-ofForm text = both (goodList (listOf text)) (same (textOf (listOf text)) text)
+ofForm text = goodList (listOf text) && same (textOf (listOf text)) text

@@ -1,11 +1,10 @@
 -- After a put that name is found as it was put and every other name as before, and the list stays good.
 use mathlib.Core.Path.{_≡_, refl, sym, ap, _∙_, subst}
-use mathlib.Core.Bool.{Bool, true, false, cond}
+use mathlib.Core.Bool.{Bool, true, false, cond, _&&_}
 use mathlib.Core.List.{List, [], _∷_}
 use Prim.Native.Nat.{ℕ}
 use lib.Dec.{T}
-use Rattle.counting.specs.Test.{both}
-use Rattle.counting.specs.TestLaws.{both-l, both-r, both-intro}
+use Rattle.counting.specs.TestLaws.{and-l, and-r, and-intro}
 use Rattle.text.specs.Fields.{same}
 use Rattle.text.specs.FieldLaws.{same-eq}
 use Rattle.catalogue_text.specs.Names.{before, goodName}
@@ -38,26 +37,26 @@ put-others e (f ∷ list) name n = go (before (f .name) (e .name)) (same (f .nam
 pub put-good : (e : Entry) → T (goodEntry e) → (last : List ℕ) → T (before last (e .name)) → (list : List Entry) → T (goodFrom last list)
     → T (goodFrom last (putIn e list))
 unfolding goodFrom putIn
-put-good e g last l [] t = both-intro (before last (e .name)) (both (goodEntry e) true) l (both-intro (goodEntry e) true g tt)
+put-good e g last l [] t = and-intro (before last (e .name)) (goodEntry e && true) l (and-intro (goodEntry e) true g tt)
 put-good e g last l (f ∷ list) t =
     go (before (f .name) (e .name)) (same (f .name) (e .name)) refl refl
-    (λ k. put-good e g (f .name) k list (both-r (goodEntry f) (goodFrom (f .name) list) more))
+    (λ k. put-good e g (f .name) k list (and-r (goodEntry f) (goodFrom (f .name) list) more))
   where
-    more : T (both (goodEntry f) (goodFrom (f .name) list))
-    more = both-r (before last (f .name)) (both (goodEntry f) (goodFrom (f .name) list)) t
+    more : T (goodEntry f && goodFrom (f .name) list)
+    more = and-r (before last (f .name)) (goodEntry f && goodFrom (f .name) list) t
 
-    with-e : (rest : List Entry) → T (goodFrom (e .name) rest) → T (both (before last (e .name)) (both (goodEntry e) (goodFrom (e .name) rest)))
-    with-e rest k = both-intro (before last (e .name)) (both (goodEntry e) (goodFrom (e .name) rest)) l (both-intro (goodEntry e) (goodFrom (e .name) rest) g k)
+    with-e : (rest : List Entry) → T (goodFrom (e .name) rest) → T (before last (e .name) && (goodEntry e && goodFrom (e .name) rest))
+    with-e rest k = and-intro (before last (e .name)) (goodEntry e && goodFrom (e .name) rest) l (and-intro (goodEntry e) (goodFrom (e .name) rest) g k)
 
     go : (b s : Bool) → before (f .name) (e .name) ≡ b → same (f .name) (e .name) ≡ s
         → (T (before (f .name) (e .name)) → T (goodFrom (f .name) (putIn e list)))
         → T (goodFrom last (cond b (f ∷ putIn e list) (cond s (e ∷ list) (e ∷ f ∷ list))))
     go true s d h i =
-        both-intro (before last (f .name)) (both (goodEntry f) (goodFrom (f .name) (putIn e list)))
-        (both-l (before last (f .name)) (both (goodEntry f) (goodFrom (f .name) list)) t)
-        (both-intro (goodEntry f) (goodFrom (f .name) (putIn e list)) (both-l (goodEntry f) (goodFrom (f .name) list) more) (i (true-is _ d)))
+        and-intro (before last (f .name)) (goodEntry f && goodFrom (f .name) (putIn e list))
+        (and-l (before last (f .name)) (goodEntry f && goodFrom (f .name) list) t)
+        (and-intro (goodEntry f) (goodFrom (f .name) (putIn e list)) (and-l (goodEntry f) (goodFrom (f .name) list) more) (i (true-is _ d)))
     go false true d h i =
-        with-e list (subst (λ x. T (goodFrom x list)) (same-eq (f .name) (e .name) h) (both-r (goodEntry f) (goodFrom (f .name) list) more))
+        with-e list (subst (λ x. T (goodFrom x list)) (same-eq (f .name) (e .name) h) (and-r (goodEntry f) (goodFrom (f .name) list) more))
     go false false d h i =
         with-e (f ∷ list)
-        (both-intro (before (e .name) (f .name)) (both (goodEntry f) (goodFrom (f .name) list)) (true-is _ (before-else (f .name) (e .name) d h)) more)
+        (and-intro (before (e .name) (f .name)) (goodEntry f && goodFrom (f .name) list) (true-is _ (before-else (f .name) (e .name) d h)) more)

@@ -1,14 +1,13 @@
 -- A line and its entry: the line of a good entry is read as it, and only that line is.
 use mathlib.Core.Path.{_≡_, refl, sym, ap, ap₂, _∙_, subst}
-use mathlib.Core.Bool.{Bool, true, false}
+use mathlib.Core.Bool.{Bool, true, false, _&&_}
 use mathlib.Core.List.{List, [], _∷_, _++_, map, append-assoc, append-nil}
 use Prim.Native.Nat.{ℕ, suc, _≤_, _<_}
 use native.Mathlib.Omega.{arith}
 use borrow.Author.Tests.{eq-eqb, le-leb}
 use lib.Dec.{T, eqb, leb, eqb→eq, leb→le}
 use lib.ListN.{length, getD, drop, length-map}
-use Rattle.counting.specs.Test.{both}
-use Rattle.counting.specs.TestLaws.{both-l, both-r, both-intro}
+use Rattle.counting.specs.TestLaws.{and-l, and-r, and-intro}
 use Rattle.shape.specs.Shapes.{Good, shapeRefusal}
 use Rattle.shape.specs.Laws.{good-of-refusal, refusal-of-good}
 use Rattle.text.specs.Decimal.{digitsOf, numberOf}
@@ -33,20 +32,20 @@ pub entry-good : (e : Entry) → T (goodEntry e) → EntryGood e
 unfolding goodEntry
 entry-good e t =
     let r : Bool = eqb (shapeRefusal (e .m) (e .w) (e .c)) 0 in
-    let t₁ = both-r (goodName (e .name)) (both (leb 1 (e .revision)) (both (leb (e .revision) 65535) r)) t in
-    let t₂ = both-r (leb 1 (e .revision)) (both (leb (e .revision) 65535) r) t₁ in
+    let t₁ = and-r (goodName (e .name)) (leb 1 (e .revision) && (leb (e .revision) 65535 && r)) t in
+    let t₂ = and-r (leb 1 (e .revision)) (leb (e .revision) 65535 && r) t₁ in
     record {
-      named = both-l (goodName (e .name)) (both (leb 1 (e .revision)) (both (leb (e .revision) 65535) r)) t;
-      some = leb→le 1 (e .revision) (both-l (leb 1 (e .revision)) (both (leb (e .revision) 65535) r) t₁);
-      most = leb→le (e .revision) 65535 (both-l (leb (e .revision) 65535) r t₂);
-      shaped = good-of-refusal (e .m) (e .w) (e .c) (eqb→eq (shapeRefusal (e .m) (e .w) (e .c)) 0 (both-r (leb (e .revision) 65535) r t₂));
+      named = and-l (goodName (e .name)) (leb 1 (e .revision) && (leb (e .revision) 65535 && r)) t;
+      some = leb→le 1 (e .revision) (and-l (leb 1 (e .revision)) (leb (e .revision) 65535 && r) t₁);
+      most = leb→le (e .revision) 65535 (and-l (leb (e .revision) 65535) r t₂);
+      shaped = good-of-refusal (e .m) (e .w) (e .c) (eqb→eq (shapeRefusal (e .m) (e .w) (e .c)) 0 (and-r (leb (e .revision) 65535) r t₂));
     }
 
 pub good-entry : (e : Entry) → EntryGood e → T (goodEntry e)
 unfolding goodEntry
 good-entry e g =
     rw (le-leb 1 (e .revision) (g .some), le-leb (e .revision) 65535 (g .most), refusal-of-good (e .m) (e .w) (e .c) (g .shaped))
-    (both-intro (goodName (e .name)) true (g .named) tt)
+    (and-intro (goodName (e .name)) true (g .named) tt)
 
 -- a line without its line feed
 unfoldable pub bodyOf : Entry → List ℕ

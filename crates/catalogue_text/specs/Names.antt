@@ -4,7 +4,6 @@ use mathlib.Core.List.{List, [], _∷_}
 use Prim.Native.Nat.{ℕ}
 use lib.Dec.{eqb, leb, ltb}
 use lib.ListN.{length}
-use Rattle.counting.specs.Test.{both}
 use Rattle.text.specs.Decimal.{isDigit}
 
 -- "letters a to z, digits or hyphens"
@@ -14,11 +13,11 @@ nameByte x = (leb 97 x && ltb x 123) || (isDigit x || eqb x 45)
 -- whether all bytes are such
 unfoldable pub nameBytes : List ℕ → Bool
 nameBytes [] = true
-nameBytes (x ∷ xs) = both (nameByte x) (nameBytes xs)
+nameBytes (x ∷ xs) = nameByte x && nameBytes xs
 
 -- "A name is 1 to 16 letters a to z, digits or hyphens."
 unfoldable pub goodName : List ℕ → Bool
-goodName name = both (leb 1 (length name)) (both (leb (length name) 16) (nameBytes name))
+goodName name = leb 1 (length name) && (leb (length name) 16 && nameBytes name)
 
 -- "in byte order": at the first byte in which two names differ the smaller one is first; a name that another begins with stands before it
 unfoldable pub before : List ℕ → List ℕ → Bool

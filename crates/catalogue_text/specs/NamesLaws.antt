@@ -7,8 +7,7 @@ use native.Mathlib.Omega.{arith}
 use borrow.Author.Tests.{eqb-true, eqb-false, ltb-true, ltb-false, lt-ltb, le-ltb, eq-eqb, ne-eqb}
 use lib.Dec.{T, eqb, leb, ltb, eqb→eq, not-T}
 use lib.ListN.{length}
-use Rattle.counting.specs.Test.{both}
-use Rattle.counting.specs.TestLaws.{both-l, both-r, both-intro}
+use Rattle.counting.specs.TestLaws.{and-l, and-r, and-intro}
 use Rattle.text.specs.Fields.{same}
 use Rattle.text.specs.FieldLaws.{same-eq}
 use Rattle.text.specs.DecimalLaws.{without}
@@ -29,13 +28,13 @@ pub true-is : (b : Bool) → b ≡ true → T b
 true-is true e = tt
 true-is false e = false≢true e
 
-pub both-none : (a : Bool) → both a false ≡ false
-both-none true = refl
-both-none false = refl
+pub and-none : (a : Bool) → (a && false) ≡ false
+and-none true = refl
+and-none false = refl
 
-pub both-all : (a : Bool) → both a true ≡ a
-both-all true = refl
-both-all false = refl
+pub and-all : (a : Bool) → (a && true) ≡ a
+and-all true = refl
+and-all false = refl
 
 pub same-refl : (xs : List ℕ) → same xs xs ≡ true
 unfolding same
@@ -124,12 +123,12 @@ bytes-without : (y : ℕ) → nameByte y ≡ false → (xs : List ℕ) → T (na
 unfolding nameBytes without
 bytes-without y n [] t = tt
 bytes-without y n (x ∷ xs) t =
-    both-intro (not (eqb x y)) (without y xs)
-    (not-T (eqb x y) (λ q. let z : nameByte x ≡ false = ap nameByte (eqb→eq x y q) ∙ n in rw z at (both-l (nameByte x) (nameBytes xs) t)))
-    (bytes-without y n xs (both-r (nameByte x) (nameBytes xs) t))
+    and-intro (not (eqb x y)) (without y xs)
+    (not-T (eqb x y) (λ q. let z : nameByte x ≡ false = ap nameByte (eqb→eq x y q) ∙ n in rw z at (and-l (nameByte x) (nameBytes xs) t)))
+    (bytes-without y n xs (and-r (nameByte x) (nameBytes xs) t))
 
 pub name-without : (y : ℕ) → nameByte y ≡ false → (name : List ℕ) → T (goodName name) → T (without y name)
 unfolding goodName
 name-without y n name t =
     bytes-without y n name
-    (both-r (leb (length name) 16) (nameBytes name) (both-r (leb 1 (length name)) (both (leb (length name) 16) (nameBytes name)) t))
+    (and-r (leb (length name) 16) (nameBytes name) (and-r (leb 1 (length name)) (leb (length name) 16 && nameBytes name) t))

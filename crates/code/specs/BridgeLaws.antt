@@ -28,7 +28,7 @@ use Rattle.binary_field.specs.SumLaws.{sum-ext}
 use Rattle.binary_field.specs.Element.{Element, reduced}
 use Rattle.binary_field.specs.ElementLaws.{field, tower, same-value, pow-value, sum-value}
 use Rattle.code.specs.Edition.{Edition, Sound, times, raised}
-use Rattle.code.specs.Word.{coefficient, twisted, groupSum, localSum, wordSum, firstAcross, secondAcross, Equations}
+use Rattle.code.specs.Word.{coefficient, secondCoefficient, groupSum, localSum, wordSum, firstAcross, secondAcross, Equations}
 use Rattle.code.specs.Marks.{lostIn}
 use Rattle.code.specs.Marks as Marks
 use Rattle.code.specs.Bridge.{symbol}
@@ -77,14 +77,16 @@ module _ (E : Edition) (S : Sound E) (m w c : ℕ) (few : m ≤ S .r) (wide : 0 
   unfoldable pub geometry : Geometry (field (S .facts)) (tower (S .facts))
   geometry = record { m = m; w = w; c = c; loc = loc; few = few; wide = wide; apart = loc-apart; small = loc-small }
 
-  group-value : (word : List ℕ) (g : ℕ) (h : ℕ → Element (E .bits)) (h′ : ℕ → ℕ) → ((j : ℕ) → j < w → (a : ℕ) → times E a ((h (g * w + j)) .0) ≡ times E a (h′ j))
+  group-value : (word : List ℕ) (g : ℕ) (h : ℕ → Element (E .bits)) (h′ : ℕ → ℕ)
+      → ((j : ℕ) → j < w → (a : ℕ) → times E a ((h (g * w + j)) .0) ≡ times E a (h′ j))
       → (dot (field (S .facts)) (group geometry g) (symbol E S m w c few wide narrow word) h) .0 ≡ groupSum E w word g h′
   unfolding geometry symbol groupSum
   group-value word g h h′ same =
       ap (λ (x : Element (E .bits)). x .0) (sum-map (field (S .facts)) (λ t. g * w + t) (below w) _) ∙ sum-value (S .facts) w _
       ∙ sum-ext w _ _ (λ j l. product-low-l (E .bits) (E .poly) (getD word (g * w + j) 0) _ ∙ same j l (getD word (g * w + j) 0))
 
-  pub word-value : (word : List ℕ) (h : ℕ → Element (E .bits)) (h′ : ℕ → ℕ → ℕ) → ((g j : ℕ) → j < w → (a : ℕ) → times E a ((h (g * w + j)) .0) ≡ times E a (h′ g j))
+  pub word-value : (word : List ℕ) (h : ℕ → Element (E .bits)) (h′ : ℕ → ℕ → ℕ)
+      → ((g j : ℕ) → j < w → (a : ℕ) → times E a ((h (g * w + j)) .0) ≡ times E a (h′ g j))
       → (Abstract.word-dot (layout geometry) (symbol E S m w c few wide narrow word) h) .0 ≡ wordSum E m w word h′
   unfolding geometry wordSum
   word-value word h h′ same = sum-value (S .facts) m _ ∙ sum-ext m _ _ (λ g _. group-value word g h (h′ g) (same g))
@@ -97,23 +99,26 @@ module _ (E : Edition) (S : Sound E) (m w c : ℕ) (few : m ≤ S .r) (wide : 0 
   place-power : (g j e : ℕ) → j < w → (pow (field (S .facts)) (Flat.locator geometry (g * w + j)) e) .0 ≡ raised E (E .locator j) e
   place-power g j e l = ap (λ x. (pow (field (S .facts)) x e) .0) (place-locator g j l) ∙ loc-power j e
 
-  pub local-value : (word : List ℕ) (g e : ℕ) → (psum (field (S .facts)) (Flat.locator geometry) (group geometry g) (symbol E S m w c few wide narrow word) e) .0 ≡ localSum E w word g e
+  pub local-value : (word : List ℕ) (g e : ℕ) → (psum (field (S .facts)) (Flat.locator geometry) (group geometry g) (symbol E S m w c few wide narrow word)
+      e) .0 ≡ localSum E w word g e
   local-value word g e = group-value word g (λ p. pow (field (S .facts)) (Flat.locator geometry p) e) _ (λ j l a. ap (times E a) (place-power g j e l))
 
   first-value : (g j : ℕ) → j < w → (coeff₁ (layout geometry) (g * w + j)) .0 ≡ coefficient E c j
   unfolding geometry coefficient
   first-value g j l = ap₂ (λ a b. a ⊕ times E 2 b) (place-power g j c l) (place-power g j (suc c) l)
 
-  second-value : (g j : ℕ) → j < w → (coeff₂ (layout geometry) (g * w + j)) .0 ≡ twisted E c g j
-  unfolding geometry twisted
+  second-value : (g j : ℕ) → j < w → (coeff₂ (layout geometry) (g * w + j)) .0 ≡ secondCoefficient E c g j
+  unfolding geometry secondCoefficient
   second-value g j l =
       ap₂ (times E) (pow-value (S .facts) _ ((g * w + j) / w) ∙ ap (raised E 2) (digits-div g l))
       (pow-value (S .facts) (coeff₁ (layout geometry) (g * w + j)) (suc (S .r)) ∙ ap₂ (raised E) (first-value g j l) (sym (S .small-is)))
 
-  first-sum : (word : List ℕ) → (Abstract.word-dot (layout geometry) (symbol E S m w c few wide narrow word) (coeff₁ (layout geometry))) .0 ≡ firstAcross E m w c word
+  first-sum : (word : List ℕ) → (Abstract.word-dot (layout geometry) (symbol E S m w c few wide narrow word) (coeff₁ (layout geometry))) .0
+      ≡ firstAcross E m w c word
   first-sum word = word-value word (coeff₁ (layout geometry)) _ (λ g j l a. ap (times E a) (first-value g j l))
 
-  second-sum : (word : List ℕ) → (Abstract.word-dot (layout geometry) (symbol E S m w c few wide narrow word) (coeff₂ (layout geometry))) .0 ≡ secondAcross E m w c word
+  second-sum : (word : List ℕ) → (Abstract.word-dot (layout geometry) (symbol E S m w c few wide narrow word) (coeff₂ (layout geometry))) .0
+      ≡ secondAcross E m w c word
   second-sum word = word-value word (coeff₂ (layout geometry)) _ (λ g j l a. ap (times E a) (second-value g j l))
 
   zero-value : {x : Element (E .bits)} → x ≡ field (S .facts) .𝟘 → x .0 ≡ 0

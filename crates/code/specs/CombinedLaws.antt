@@ -61,7 +61,8 @@ module _ (E : Edition) (m w x : ℕ) (base : List ℕ) (u : ℕ → ℕ) (H : �
             subst (λ n. n < 2 ^ E .bits) (sym (combined-at p l))
             (⊕-lt (E .bits) _ _ (s .each p) (sum-lt (E .bits) x _ (λ i _. product-lt (E .bits) (E .poly) (u i) (getD (H i) p 0))))
         | no l ↦
-            (let k : length (combined E (m * w) base x u H) ≤ p = omega (arith, list-length (m * w) (λ p. getD base p 0 ⊕ sumBelow x (λ i. times E (u i) (getD (H i) p 0)))) in
+            (let k : length (combined E (m * w) base x u H) ≤ p = omega
+            (arith, list-length (m * w) (λ p. getD base p 0 ⊕ sumBelow x (λ i. times E (u i) (getD (H i) p 0)))) in
             subst (λ n. n < 2 ^ E .bits) (sym (List·getD-eq-default (combined E (m * w) base x u H) 0 k)) (pow-pos (E .bits)))
       ]
 
@@ -72,7 +73,8 @@ module _ (E : Edition) (m w x : ℕ) (base : List ℕ) (u : ℕ → ℕ) (H : �
     symbols = combined-symbols (B .symbols) small;
     zero = is-codeword E m w c (combined E (m * w) base x u H) (record {
       locals = λ g l e h.
-          combined-group g _ l ∙ ap₂ _⊕_ (equations E m w c base (B .zero) .locals g l e h) (none _ (λ i k. equations E m w c (H i) (C i k .zero) .locals g l e h)) ∙ ⊕-self 0;
+          combined-group g _ l ∙ ap₂ _⊕_ (equations E m w c base (B .zero) .locals g l e h)
+          (none _ (λ i k. equations E m w c (H i) (C i k .zero) .locals g l e h)) ∙ ⊕-self 0;
       first = combined-word _ ∙ ap₂ _⊕_ (equations E m w c base (B .zero) .first) (none _ (λ i k. equations E m w c (H i) (C i k .zero) .first)) ∙ ⊕-self 0;
       second = combined-word _ ∙ ap₂ _⊕_ (equations E m w c base (B .zero) .second) (none _ (λ i k. equations E m w c (H i) (C i k .zero) .second)) ∙ ⊕-self 0;
     });

@@ -23,7 +23,8 @@ use Rattle.code.specs.Repair.{Satisfies}
 use Rattle.code.specs.Contradiction.{isFound, isBroken, contradictingGroup}
 
 -- the same stretches, the same verdict
-pub same-broken : (E : Edition) (w c : ℕ) (word₁ marks₁ word₂ marks₂ : List ℕ) (g : ℕ) → stretch w g word₁ ≡ stretch w g word₂ → stretch w g marks₁ ≡ stretch w g marks₂
+pub same-broken : (E : Edition) (w c : ℕ) (word₁ marks₁ word₂ marks₂ : List ℕ) (g : ℕ) → stretch w g word₁ ≡ stretch w g word₂ → stretch w g marks₁
+    ≡ stretch w g marks₂
     → isBroken E w c word₁ marks₁ g ≡ isBroken E w c word₂ marks₂ g
 unfolding isBroken
 same-broken E w c word₁ marks₁ word₂ marks₂ g p q = ap₂ (λ x k. not (isFound (search (2 ^ E .bits) (λ x. isLocal E w c x 0) k x))) p q
@@ -74,7 +75,8 @@ contradicting-present E m w c word₁ word₂ marks size same =
     (search-present (2 ^ E .bits) (λ x. isLocal E w c x 0) (stretch w g marks) (stretch w g word₁) (stretch w g word₂) (stretch-lengths w g word₁ word₂ size)
     (λ j l e.
     let k : j < w = in-stretch w g word₁ j l in
-    stretch-at w g word₁ j k ∙ same (g * w + j) (in-list w g word₁ j l) (ap (λ b. eqb b 1) (sym (stretch-at w g marks j k)) ∙ e) ∙ sym (stretch-at w g word₂ j k)))
+    stretch-at w g word₁ j k ∙ same (g * w + j) (in-list w g word₁ j l) (ap (λ b. eqb b 1) (sym (stretch-at w g marks j k)) ∙ e)
+    ∙ sym (stretch-at w g word₂ j k)))
 
 -- A word x with the present symbols of word, of which each group that some filling satisfies is satisfied: its lowest group that breaks its
 -- equations is the one that contradicts.

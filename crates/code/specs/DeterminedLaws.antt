@@ -18,7 +18,7 @@ use Rattle.binary_field.specs.ProductLaws.{product-low-r}
 use Rattle.binary_field.specs.Element.{Element, reduced}
 use Rattle.binary_field.specs.ElementLaws.{field, tower, element-lt, same-value}
 use Rattle.code.specs.Edition.{Edition, Sound, times}
-use Rattle.code.specs.Word.{localSum, Symbols, Codeword, coefficient, twisted}
+use Rattle.code.specs.Word.{localSum, Symbols, Codeword, coefficient, secondCoefficient}
 use Rattle.code.specs.WordLaws.{equations, is-codeword}
 use Rattle.code.specs.Marks.{lost, lostIn, excess, Agree}
 use Rattle.code.specs.Blank.{blank}
@@ -108,7 +108,8 @@ module _ (E : Edition) (S : Sound E) (m w c : ℕ) (few : m ≤ S .r) (wide : 0 
       x-first = blank-word E (m * w) m w h₁;
       y-first = sym (BridgeLaws.word-value E S m w c few wide narrow hidden (flat h₁) h₁ (flat-times h₁)) ∙ ap (λ (s : Element (E .bits)). s .0) (meets .first);
       x-second = blank-word E (m * w) m w h₂;
-      y-second = sym (BridgeLaws.word-value E S m w c few wide narrow hidden (flat h₂) h₂ (flat-times h₂)) ∙ ap (λ (s : Element (E .bits)). s .0) (meets .second);
+      y-second = sym (BridgeLaws.word-value E S m w c few wide narrow hidden (flat h₂) h₂ (flat-times h₂))
+          ∙ ap (λ (s : Element (E .bits)). s .0) (meets .second);
       agree = λ p _ e. blank-at (m * w) p ∙ sym (hidden-at p ∙ ap (λ (s : Element (E .bits)). s .0) (N .off p e));
       differ = λ e. N .nonzero (same-value (E .bits) (sym (hidden-at (N .place)) ∙ ap (λ l. getD l (N .place) 0) (sym e) ∙ blank-at (m * w) (N .place)));
     }
@@ -129,12 +130,20 @@ module _ (E : Edition) (S : Sound E) (m w c : ℕ) (few : m ≤ S .r) (wide : 0 
 
   pub undetermined : (marks : List ℕ) → 2 < excess m w c marks → Undetermined E m w c marks
   undetermined marks l =
-      let A = beyond marks (λ _. coefficient E c) (twisted E c) l in
+      let A = beyond marks (λ _. coefficient E c) (secondCoefficient E c) l in
       record {
         x = A .x;
         y = A .y;
-        x-codeword = record { symbols = A .x-symbols; zero = is-codeword E m w c (A .x) (record { locals = A .x-local; first = A .x-first; second = A .x-second }) };
-        y-codeword = record { symbols = A .y-symbols; zero = is-codeword E m w c (A .y) (record { locals = A .y-local; first = A .y-first; second = A .y-second }) };
+        x-codeword = record {
+          symbols = A .x-symbols;
+          zero = is-codeword E m w c (A .x)
+              (record { locals = A .x-local; first = A .x-first; second = A .x-second });
+        };
+        y-codeword = record {
+          symbols = A .y-symbols;
+          zero = is-codeword E m w c (A .y)
+              (record { locals = A .y-local; first = A .y-first; second = A .y-second });
+        };
         agree = A .agree;
         differ = A .differ;
       }
@@ -151,7 +160,8 @@ local-unique E S w v g wide narrow marks x y sx sy same agree few j l =
     sym (mod-eq-of-lt (sx (g * w + j)))
     ∙ ap (λ (s : Element (E .bits)). s .0)
     (FlatLaws.local-unique G g v (lost marks) (Bridge.symbol E S 0 w 0 none wide narrow x) (Bridge.symbol E S 0 w 0 none wide narrow y)
-    (λ e h. same-value (E .bits) (BridgeLaws.local-value E S 0 w 0 none wide narrow x g e ∙ same e h ∙ sym (BridgeLaws.local-value E S 0 w 0 none wide narrow y g e)))
+    (λ e h. same-value (E .bits) (BridgeLaws.local-value E S 0 w 0 none wide narrow x g e ∙ same e h
+    ∙ sym (BridgeLaws.local-value E S 0 w 0 none wide narrow y g e)))
     (λ p h e. at-place p h e)
     (subst (λ n. n ≤ v) (sym (BridgeLaws.group-lost E S 0 w 0 none wide narrow marks g)) few) (g * w + j) (in-place j l))
     ∙ mod-eq-of-lt (sy (g * w + j))

@@ -85,7 +85,8 @@ module _ (E : Edition) (S : Sound E) (m w c : ℕ) (few : m ≤ S .r) (wide : 0 
         combined-at E m w 1 (U .x) (λ _. 1) (λ _. U .y) q h
         ∙ ap (λ s. getD (U .x) q 0 ⊕ s)
         (sum-single 1 0 _ (omega arith) (λ i a n. absurd (n (omega arith)))
-        ∙ product-comm (E .bits) (E .poly) 1 (getD (U .y) q 0) ∙ product-one (E .bits) (E .poly) (S .facts .pos) (getD (U .y) q 0) (U .y-codeword .symbols .each q))
+        ∙ product-comm (E .bits) (E .poly) 1 (getD (U .y) q 0) ∙ product-one (E .bits) (E .poly) (S .facts .pos) (getD (U .y) q 0)
+        (U .y-codeword .symbols .each q))
 
     difference-zero : (q : ℕ) → q < m * w → lost marks q ≡ false → ¬ (q ≡ p) → getD difference q 0 ≡ 0
     difference-zero q h e n =
@@ -183,11 +184,13 @@ module _ (E : Edition) (S : Sound E) (m w c : ℕ) (few : m ≤ S .r) (wide : 0 
   pub carried-agrees : (word : List ℕ) → Symbols E (m * w) word → Agrees E m w c marks word (carried word)
   unfolding carried ways
   carried-agrees word s = record {
-    codeword = combined-codeword E m w (m * w) (blank (m * w)) (λ i. getD word i 0) ways c (blank-codeword E m w c) (λ i _. way-codeword i (decLt i (m * w))) (s .each);
+    codeword = combined-codeword E m w (m * w) (blank (m * w)) (λ i. getD word i 0) ways c (blank-codeword E m w c) (λ i _. way-codeword i (decLt i (m * w)))
+        (s .each);
     agree = λ q h e.
         combined-at E m w (m * w) (blank (m * w)) (λ i. getD word i 0) ways q h
         ∙ ap₂ _⊕_ (blank-at (m * w) q)
-        (sum-single (m * w) q _ h (λ i _ n. ap (times E (getD word i 0)) (way-off i (decLt i (m * w)) q h e (λ d. n (sym d))) ∙ product-zero (E .bits) (E .poly) (getD word i 0))
+        (sum-single (m * w) q _ h (λ i _ n. ap (times E (getD word i 0)) (way-off i (decLt i (m * w)) q h e (λ d. n (sym d)))
+        ∙ product-zero (E .bits) (E .poly) (getD word i 0))
         ∙ ap (times E (getD word q 0)) (way-own q h (decLt q (m * w)) e) ∙ product-one (E .bits) (E .poly) (S .facts .pos) (getD word q 0) (s .each q))
         ∙ ⊕-zero-l (getD word q 0);
   }

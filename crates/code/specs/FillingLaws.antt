@@ -86,7 +86,11 @@ search-found q test marks [] x e = go (test []) refl e
     go : (v : Bool) → test [] ≡ v → pickFound v (found []) none ≡ found x → Passing q test marks [] x
     go true d h =
         let z : x ≡ [] = cc in
-        rw z (record { fills = record { size = refl; present = λ p l _. absurd (omega arith); each = λ p l _. absurd (omega arith) }; passes = subst T (sym d) tt })
+        rw z (record {
+          fills = record { size = refl; present = λ p l _. absurd (omega arith); each = λ p l _. absurd (omega arith) };
+          passes =
+              subst T (sym d) tt;
+        })
     go false d h = let z : _≡_ {A = ℕ} 0 1 = cc in absurd (omega arith)
 search-found q test marks (b ∷ word) x e = go (λ v y. search-found q (λ x. test (v ∷ x)) (drop 1 marks) word y) (lost marks 0) refl e
   where
@@ -159,7 +163,8 @@ search-present q test marks (b ∷ x) (d ∷ y) n a =
     inner x v = search q (λ z. test (v ∷ z)) (drop 1 marks) x
 
     go : ((v : ℕ) → inner x v ≡ inner y v) → (l : Bool) → (l ≡ false → b ≡ d)
-        → pickFound l (tryBelow q (λ v. extend v (inner x v))) (extend b (inner x b)) ≡ pickFound l (tryBelow q (λ v. extend v (inner y v))) (extend d (inner y d))
+        → pickFound l (tryBelow q (λ v. extend v (inner x v))) (extend b (inner x b))
+        ≡ pickFound l (tryBelow q (λ v. extend v (inner y v))) (extend d (inner y d))
     go ih true h = ap (tryBelow q) (λ i v. extend v (ih v i))
     go ih false h = ap (extend b) (ih b) ∙ ap (λ v. extend v (inner y v)) (h refl)
 

@@ -14,9 +14,11 @@ pub mod Filling
 pub mod FillingLaws
 pub mod Stretch
 pub mod StretchLaws
+pub mod Lent
+pub mod LentLaws
 pub mod Contradiction
-pub mod Answer
-pub mod AnswerLaws
+pub mod Outcome
+pub mod OutcomeLaws
 pub mod Recovery
 pub mod RecoveryLaws
 pub mod Lone
@@ -26,6 +28,6 @@ pub mod RepairLaws
 pub mod ContradictionLaws
 pub mod OneGroup
 pub mod OneGroupLaws
-pub mod Order
-pub mod OrderLaws
+pub mod RepairOrder
+pub mod RepairOrderLaws
 pub mod EncodingLaws

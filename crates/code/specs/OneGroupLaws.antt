@@ -29,7 +29,7 @@ use Rattle.code.specs.BridgeLaws as BridgeLaws
 use Rattle.code.specs.Determined.{listOf}
 use Rattle.code.specs.DeterminedLaws.{list-length, list-at, local-unique}
 use Rattle.code.specs.FillingLaws.{filling-symbols}
-use Rattle.code.specs.Answer.{Outcome}
+use Rattle.code.specs.Outcome.{Outcome}
 use Rattle.code.specs.StretchLaws.{own-place}
 use Rattle.code.specs.Repair.{repaired, Satisfies}
 use Rattle.code.specs.RepairLaws.{repaired-eight, repaired-nine, repaired-done, eight-many, nine-contradictory, done-single}

@@ -8,7 +8,7 @@ use Rattle.code.specs.Edition.{Edition}
 use Rattle.code.specs.Word.{isCodeword, Codeword}
 use Rattle.code.specs.Marks.{excess, Agree}
 use Rattle.code.specs.Contradiction.{contradictingGroup}
-use Rattle.code.specs.Answer.{Outcome, answered}
+use Rattle.code.specs.Outcome.{Outcome, answered}
 
 -- "Recover: 8 exactly if judge says 8; else 9 exactly if no codeword agrees with the present bytes; else the codeword is written and all marks cleared."
 abbrev pub recovered : Edition → ℕ → ℕ → ℕ → List ℕ → List ℕ → Outcome

@@ -16,10 +16,10 @@ use Rattle.code.specs.DeterminedLaws.{unique, above-two, undetermined}
 use Rattle.code.specs.Filling.{Passing}
 use Rattle.code.specs.FillingLaws.{filling-symbols}
 use Rattle.code.specs.Contradiction.{contradictingGroup}
-use Rattle.code.specs.Answer.{refused, contradictory, written, SameEnd}
-use Rattle.code.specs.AnswerLaws.{same-outcome, same-refusal, same-contradiction}
-use Rattle.code.specs.Answer as Answer
-use Rattle.code.specs.AnswerLaws as AnswerLaws
+use Rattle.code.specs.Outcome.{refused, contradictory, written, SameEnd}
+use Rattle.code.specs.OutcomeLaws.{same-outcome, same-refusal, same-contradiction}
+use Rattle.code.specs.Outcome as Outcome
+use Rattle.code.specs.OutcomeLaws as OutcomeLaws
 use Rattle.code.specs.Recovery.{recovered, Agrees, Single, SameStart}
 
 module _ (E : Edition) (m w c : ℕ) where
@@ -57,24 +57,29 @@ module _ (E : Edition) (S : Sound E) (m w c : ℕ) (few : m ≤ S .r) (wide : 0 
 
     -- ---- how each answer is reached
     pub recovered-eight : 2 < excess m w c marks → recovered E m w c word marks ≡ refused 8 word marks
-    recovered-eight h = AnswerLaws.answered-eight (2 ^ E .bits) (isCodeword E m w c) (ltb 2 (excess m w c marks)) (contradictingGroup E m w c word marks) word marks (lt-ltb 2 (excess m w c marks) h)
+    recovered-eight h = OutcomeLaws.answered-eight (2 ^ E .bits) (isCodeword E m w c) (ltb 2 (excess m w c marks)) (contradictingGroup E m w c word marks) word
+        marks (lt-ltb 2 (excess m w c marks) h)
 
-    pub recovered-nine : excess m w c marks ≤ 2 → ((y : List ℕ) → Agrees E m w c marks word y → ⊥) → recovered E m w c word marks ≡ contradictory (contradictingGroup E m w c word marks) word marks
+    pub recovered-nine : excess m w c marks ≤ 2 → ((y : List ℕ) → Agrees E m w c marks word y → ⊥) → recovered E m w c word marks
+        ≡ contradictory (contradictingGroup E m w c word marks) word marks
     recovered-nine h never =
-        AnswerLaws.answered-nine (2 ^ E .bits) (isCodeword E m w c) (ltb 2 (excess m w c marks)) (contradictingGroup E m w c word marks) word marks (le-ltb 2 (excess m w c marks) h)
+        OutcomeLaws.answered-nine (2 ^ E .bits) (isCodeword E m w c) (ltb 2 (excess m w c marks)) (contradictingGroup E m w c word marks) word marks
+        (le-ltb 2 (excess m w c marks) h)
         (λ y P. never y (passing-agrees E m w c marks word y s P))
 
     pub recovered-done : (x : List ℕ) → excess m w c marks ≤ 2 → Agrees E m w c marks word x → recovered E m w c word marks ≡ written x marks
     unfolding large
     recovered-done x h A =
-        AnswerLaws.answered-done (2 ^ E .bits) (isCodeword E m w c) (ltb 2 (excess m w c marks)) (contradictingGroup E m w c word marks) word marks only-filling (le-ltb 2 (excess m w c marks) h) x
+        OutcomeLaws.answered-done (2 ^ E .bits) (isCodeword E m w c) (ltb 2 (excess m w c marks)) (contradictingGroup E m w c word marks) word marks only-filling
+        (le-ltb 2 (excess m w c marks) h) x
         (agrees-passing E m w c marks word x (s .size) A)
 
     -- ---- demand 2: "Recovery is refused as undetermined exactly when two different codewords agree at every present place"
     pub eight-undetermined : (recovered E m w c word marks) .number ≡ 8 → Undetermined E m w c marks
     eight-undetermined e =
         undetermined E S m w c few wide narrow marks
-        (ltb-true 2 (excess m w c marks) (AnswerLaws.eight-large (2 ^ E .bits) (isCodeword E m w c) (ltb 2 (excess m w c marks)) (contradictingGroup E m w c word marks) word marks e))
+        (ltb-true 2 (excess m w c marks) (OutcomeLaws.eight-large (2 ^ E .bits) (isCodeword E m w c) (ltb 2 (excess m w c marks))
+        (contradictingGroup E m w c word marks) word marks e))
 
     pub undetermined-eight : Undetermined E m w c marks → (recovered E m w c word marks) .number ≡ 8
     undetermined-eight U = ap (λ o. o .number) (recovered-eight (above-two E S m w c few wide narrow marks U))
@@ -82,7 +87,7 @@ module _ (E : Edition) (S : Sound E) (m w c : ℕ) (few : m ≤ S .r) (wide : 0 
     -- "else as contradictory exactly when no codeword agrees with the present bytes"
     pub nine-contradictory : (recovered E m w c word marks) .number ≡ 9 → (¬ (Undetermined E m w c marks)) × ((y : List ℕ) → Agrees E m w c marks word y → ⊥)
     nine-contradictory e =
-        let N = AnswerLaws.nine-never (2 ^ E .bits) (isCodeword E m w c) (ltb 2 (excess m w c marks)) (contradictingGroup E m w c word marks) word marks e in (
+        let N = OutcomeLaws.nine-never (2 ^ E .bits) (isCodeword E m w c) (ltb 2 (excess m w c marks)) (contradictingGroup E m w c word marks) word marks e in (
           (λ U. let k = above-two E S m w c few wide narrow marks U in let l = ltb-false 2 (excess m w c marks) (N .0) in omega arith),
           (λ y A. N .1 y (agrees-passing E m w c marks word y (s .size) A)),
         )
@@ -107,7 +112,8 @@ module _ (E : Edition) (S : Sound E) (m w c : ℕ) (few : m ≤ S .r) (wide : 0 
     pub done-single : (recovered E m w c word marks) .number ≡ 0 → Single E m w c word marks
     unfolding large
     done-single e =
-        let D = AnswerLaws.done-single (2 ^ E .bits) (isCodeword E m w c) (ltb 2 (excess m w c marks)) (contradictingGroup E m w c word marks) word marks only-filling e in
+        let D = OutcomeLaws.done-single (2 ^ E .bits) (isCodeword E m w c) (ltb 2 (excess m w c marks)) (contradictingGroup E m w c word marks) word marks
+        only-filling e in
         record {
           agrees = passing-agrees E m w c marks word _ s (D .passes);
           only = λ y A. D .only y (agrees-passing E m w c marks word y (s .size) A);
@@ -118,14 +124,14 @@ module _ (E : Edition) (S : Sound E) (m w c : ℕ) (few : m ≤ S .r) (wide : 0 
   pub same-end : (word₁ marks₁ word₂ marks₂ : List ℕ) → Symbols E (m * w) word₁ → Symbols E (m * w) word₂ → length marks₁ ≡ length marks₂
       → SameStart E m w c word₁ marks₁ word₂ marks₂ → SameEnd (recovered E m w c word₁ marks₁) (recovered E m w c word₂ marks₂)
   same-end word₁ marks₁ word₂ marks₂ s₁ s₂ l Q =
-      elim (AnswerLaws.cases (2 ^ E .bits) (isCodeword E m w c) (ltb 2 (excess m w c marks₁)) (contradictingGroup E m w c word₁ marks₁) word₁ marks₁) [
-        | Answer.eight h e ↦
+      elim (OutcomeLaws.cases (2 ^ E .bits) (isCodeword E m w c) (ltb 2 (excess m w c marks₁)) (contradictingGroup E m w c word₁ marks₁) word₁ marks₁) [
+        | Outcome.eight h e ↦
             same-refusal 8 (λ z. omega arith) e (recovered-eight word₂ marks₂ s₂ (subst (λ n. 2 < n) (Q .excess-same) (ltb-true 2 (excess m w c marks₁) h)))
-        | Answer.nine h never e ↦
+        | Outcome.nine h never e ↦
             same-contradiction (Q .group-same) e
             (recovered-nine word₂ marks₂ s₂ (subst (λ n. n ≤ 2) (Q .excess-same) (ltb-false 2 (excess m w c marks₁) h))
             (λ y A. never y (agrees-passing E m w c marks₁ word₁ y (s₁ .size) (Q .back y A))))
-        | Answer.done h x P e ↦
+        | Outcome.done h x P e ↦
             same-outcome
             (e ∙ ap (λ n. record { number = 0; group = 0; word = x; marks = replicate n 0 }) l
             ∙ sym (recovered-done word₂ marks₂ s₂ x (subst (λ n. n ≤ 2) (Q .excess-same) (ltb-false 2 (excess m w c marks₁) h))

@@ -6,7 +6,7 @@ use Rattle.code.specs.Edition.{Edition}
 use Rattle.code.specs.Word.{isLocal}
 use Rattle.code.specs.Marks.{lostIn}
 use Rattle.code.specs.Filling.{Passing}
-use Rattle.code.specs.Answer.{Outcome, answered}
+use Rattle.code.specs.Outcome.{Outcome, answered}
 use Rattle.code.specs.Stretch.{stretch, withStretch}
 
 -- "Repair group g: 8 exactly if more than c of its places are lost; else 9 exactly if no filling satisfies the group's own equations; else

@@ -13,9 +13,9 @@ use Rattle.code.specs.WordLaws.{local-zero}
 use Rattle.code.specs.Marks.{lost, lostIn}
 use Rattle.code.specs.DeterminedLaws.{local-unique}
 use Rattle.code.specs.FillingLaws.{filling-symbols}
-use Rattle.code.specs.Answer.{refused, contradictory, written}
-use Rattle.code.specs.Answer as Answer
-use Rattle.code.specs.AnswerLaws as AnswerLaws
+use Rattle.code.specs.Outcome.{refused, contradictory, written}
+use Rattle.code.specs.Outcome as Outcome
+use Rattle.code.specs.OutcomeLaws as OutcomeLaws
 use Rattle.code.specs.StretchLaws.{own-place}
 use Rattle.code.specs.Repair.{repaired, Satisfies}
 
@@ -39,24 +39,25 @@ module _ (E : Edition) (S : Sound E) (w c : ℕ) (wide : 0 < w) (narrow : w ≤ 
   module _ (g : ℕ) where
     -- ---- how each answer is reached
     pub repaired-eight : c < lostIn w marks 0 → repaired E w c g part marks ≡ refused 8 part marks
-    repaired-eight h = AnswerLaws.answered-eight (2 ^ E .bits) (λ x. isLocal E w c x 0) (ltb c (lostIn w marks 0)) g part marks (lt-ltb c (lostIn w marks 0) h)
+    repaired-eight h = OutcomeLaws.answered-eight (2 ^ E .bits) (λ x. isLocal E w c x 0) (ltb c (lostIn w marks 0)) g part marks (lt-ltb c (lostIn w marks 0) h)
 
     pub repaired-nine : lostIn w marks 0 ≤ c → ((y : List ℕ) → Satisfies E w c marks part y → ⊥) → repaired E w c g part marks ≡ contradictory g part marks
-    repaired-nine h never = AnswerLaws.answered-nine (2 ^ E .bits) (λ x. isLocal E w c x 0) (ltb c (lostIn w marks 0)) g part marks (le-ltb c (lostIn w marks 0) h) never
+    repaired-nine h never = OutcomeLaws.answered-nine (2 ^ E .bits) (λ x. isLocal E w c x 0) (ltb c (lostIn w marks 0)) g part marks
+        (le-ltb c (lostIn w marks 0) h) never
 
     pub repaired-done : (x : List ℕ) → lostIn w marks 0 ≤ c → Satisfies E w c marks part x → repaired E w c g part marks ≡ written x marks
     repaired-done x h P =
-        AnswerLaws.answered-done (2 ^ E .bits) (λ x. isLocal E w c x 0) (ltb c (lostIn w marks 0)) g part marks only-small (le-ltb c (lostIn w marks 0) h) x P
+        OutcomeLaws.answered-done (2 ^ E .bits) (λ x. isLocal E w c x 0) (ltb c (lostIn w marks 0)) g part marks only-small (le-ltb c (lostIn w marks 0) h) x P
 
     -- ---- the rule of demand 2 over the group's own equations
     pub eight-many : (repaired E w c g part marks) .number ≡ 8 → c < lostIn w marks 0
-    eight-many e = ltb-true c (lostIn w marks 0) (AnswerLaws.eight-large (2 ^ E .bits) (λ x. isLocal E w c x 0) (ltb c (lostIn w marks 0)) g part marks e)
+    eight-many e = ltb-true c (lostIn w marks 0) (OutcomeLaws.eight-large (2 ^ E .bits) (λ x. isLocal E w c x 0) (ltb c (lostIn w marks 0)) g part marks e)
 
     pub nine-contradictory : (repaired E w c g part marks) .number ≡ 9 → (lostIn w marks 0 ≤ c) × ((y : List ℕ) → Satisfies E w c marks part y → ⊥)
     nine-contradictory e =
-        let N = AnswerLaws.nine-never (2 ^ E .bits) (λ x. isLocal E w c x 0) (ltb c (lostIn w marks 0)) g part marks e in
+        let N = OutcomeLaws.nine-never (2 ^ E .bits) (λ x. isLocal E w c x 0) (ltb c (lostIn w marks 0)) g part marks e in
         (ltb-false c (lostIn w marks 0) (N .0), N .1)
 
     -- the only filling stands in the stretch, and its marks are clear
-    pub done-single : (repaired E w c g part marks) .number ≡ 0 → Answer.Single (2 ^ E .bits) (λ x. isLocal E w c x 0) (ltb c (lostIn w marks 0)) g part marks
-    done-single e = AnswerLaws.done-single (2 ^ E .bits) (λ x. isLocal E w c x 0) (ltb c (lostIn w marks 0)) g part marks only-small e
+    pub done-single : (repaired E w c g part marks) .number ≡ 0 → Outcome.Single (2 ^ E .bits) (λ x. isLocal E w c x 0) (ltb c (lostIn w marks 0)) g part marks
+    done-single e = OutcomeLaws.done-single (2 ^ E .bits) (λ x. isLocal E w c x 0) (ltb c (lostIn w marks 0)) g part marks only-small e

@@ -58,7 +58,14 @@ module _ (w g : ℕ) (xs : List ℕ) where
       with-length =
           let r = room in
           let e : suc g * w ≡ g * w + w = suc-mul g w in
-          omega (arith, length-append (take (g * w) xs) (part ++ drop (suc g * w) xs), length-append part (drop (suc g * w) xs), length-drop (suc g * w) xs, front)
+          omega (
+            arith,
+            length-append (take (g * w) xs) (part ++ drop (suc g * w) xs),
+            length-append part (drop (suc g * w) xs),
+            length-drop
+                (suc g * w) xs,
+            front,
+          )
 
       -- inside the stretch the new part stands
       pub with-inside : (j : ℕ) → j < w → getD (withStretch w g xs part) (g * w + j) 0 ≡ getD part j 0

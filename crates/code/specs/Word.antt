@@ -1,11 +1,11 @@
 -- A word of m groups of w places, and when it is a codeword. The place j of group g is the place g·w + j of the word.
 use mathlib.Core.Path.{_≡_}
-use mathlib.Core.Bool.{Bool}
+use mathlib.Core.Bool.{Bool, _&&_}
 use mathlib.Core.List.{List}
 use Prim.Native.Nat.{ℕ, suc, _+_, _*_, _<_, _^_}
 use lib.Dec.{T, eqb}
 use lib.ListN.{length, getD}
-use Rattle.counting.specs.Test.{both, allBelow}
+use Rattle.counting.specs.Test.{allBelow}
 use Rattle.binary_field.specs.Xor.{_⊕_}
 use Rattle.binary_field.specs.Sum.{sumBelow}
 use Rattle.code.specs.Edition.{Edition, times, raised}
@@ -16,8 +16,8 @@ module _ (E : Edition) where
   coefficient c j = raised E (E .locator j) c ⊕ times E 2 (raised E (E .locator j) (suc c))
 
   -- the coefficient of place j of group g in the second sum across, 2^g·b^q
-  unfoldable pub twisted : ℕ → ℕ → ℕ → ℕ
-  twisted c g j = times E (raised E 2 g) (raised E (coefficient c j) (E .small))
+  unfoldable pub secondCoefficient : ℕ → ℕ → ℕ → ℕ
+  secondCoefficient c g j = times E (raised E 2 g) (raised E (coefficient c j) (E .small))
 
   -- the sum over the places of group g of byte·h j
   unfoldable pub groupSum : ℕ → List ℕ → ℕ → (ℕ → ℕ) → ℕ
@@ -37,7 +37,7 @@ module _ (E : Edition) where
 
   -- "the sum over all places, in group i counted from 0, of byte·2^i·b^16"
   abbrev pub secondAcross : ℕ → ℕ → ℕ → List ℕ → ℕ
-  secondAcross m w c word = wordSum m w word (twisted c)
+  secondAcross m w c word = wordSum m w word (secondCoefficient c)
 
   -- the first v local sums of group g are zero
   unfoldable pub isLocal : ℕ → ℕ → List ℕ → ℕ → Bool
@@ -45,7 +45,7 @@ module _ (E : Edition) where
 
   -- "A word is a codeword if all of these are zero"
   unfoldable pub isCodeword : ℕ → ℕ → ℕ → List ℕ → Bool
-  isCodeword m w c word = both (allBelow m (isLocal w c word)) (both (eqb (firstAcross m w c word) 0) (eqb (secondAcross m w c word) 0))
+  isCodeword m w c word = allBelow m (isLocal w c word) && (eqb (firstAcross m w c word) 0 && eqb (secondAcross m w c word) 0)
 
   -- a word of n symbols
   pub record Symbols (n : ℕ) (word : List ℕ) : Type 0 where

@@ -4,7 +4,7 @@ use mathlib.Core.List.{List}
 use Prim.Native.Nat.{ℕ, _<_}
 use lib.Dec.{T, eqb, eqb→eq}
 use Rattle.counting.specs.Test.{allBelow}
-use Rattle.counting.specs.TestLaws.{both-l, both-r, both-intro, all-at, all-intro}
+use Rattle.counting.specs.TestLaws.{and-l, and-r, and-intro, all-at, all-intro}
 use Rattle.code.specs.Edition.{Edition}
 use Rattle.code.specs.Word.{localSum, firstAcross, secondAcross, isLocal, isCodeword, Equations}
 
@@ -25,15 +25,15 @@ module _ (E : Edition) where
     pub equations : T (isCodeword E m w c word) → Equations E m w c word
     unfolding isCodeword
     equations t =
-        let across = both-r (allBelow m (isLocal E w c word)) _ t in
+        let across = and-r (allBelow m (isLocal E w c word)) _ t in
         record {
-          locals = λ g l. local-zero w c word g (all-at m (isLocal E w c word) (both-l (allBelow m (isLocal E w c word)) _ t) g l);
-          first = eqb→eq (firstAcross E m w c word) 0 (both-l (eqb (firstAcross E m w c word) 0) _ across);
-          second = eqb→eq (secondAcross E m w c word) 0 (both-r (eqb (firstAcross E m w c word) 0) _ across);
+          locals = λ g l. local-zero w c word g (all-at m (isLocal E w c word) (and-l (allBelow m (isLocal E w c word)) _ t) g l);
+          first = eqb→eq (firstAcross E m w c word) 0 (and-l (eqb (firstAcross E m w c word) 0) _ across);
+          second = eqb→eq (secondAcross E m w c word) 0 (and-r (eqb (firstAcross E m w c word) 0) _ across);
         }
 
     pub is-codeword : Equations E m w c word → T (isCodeword E m w c word)
     unfolding isCodeword
     is-codeword Q =
-        both-intro (allBelow m (isLocal E w c word)) _ (all-intro m (isLocal E w c word) (λ g l. zero-local w c word g (Q .locals g l)))
-        (both-intro (eqb (firstAcross E m w c word) 0) _ (rw (Q .first) tt) (rw (Q .second) tt))
+        and-intro (allBelow m (isLocal E w c word)) _ (all-intro m (isLocal E w c word) (λ g l. zero-local w c word g (Q .locals g l)))
+        (and-intro (eqb (firstAcross E m w c word) 0) _ (rw (Q .first) tt) (rw (Q .second) tt))

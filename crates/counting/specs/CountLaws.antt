@@ -44,7 +44,8 @@ pub total-append : (n i : ℕ) (f : ℕ → ℕ) → totalBelow (n + i) f ≡ to
 unfolding totalBelow
 total-append n zero f = ap (λ x. totalBelow x f) (add-zero n) ∙ sym (add-zero (totalBelow n f))
 total-append n (suc i) f =
-    ap (λ x. totalBelow x f) (add-suc n i) ∙ ap (λ s. s + f (n + i)) (total-append n i f) ∙ add-assoc (totalBelow n f) (totalBelow i (λ j. f (n + j))) (f (n + i))
+    ap (λ x. totalBelow x f) (add-suc n i) ∙ ap (λ s. s + f (n + i)) (total-append n i f)
+    ∙ add-assoc (totalBelow n f) (totalBelow i (λ j. f (n + j))) (f (n + i))
 
 pub count-ext : (n : ℕ) (f g : ℕ → Bool) → ((i : ℕ) → i < n → f i ≡ g i) → countBelow n f ≡ countBelow n g
 count-ext n f g h = total-ext n _ _ (λ i l. ap one (h i l))

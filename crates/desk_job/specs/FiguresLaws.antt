@@ -1,6 +1,6 @@
 -- Laws of the figures of a loss pattern.
 use mathlib.Core.Path.{_≡_, refl, sym, ap, ap₂, _∙_, subst}
-use mathlib.Core.Bool.{Bool, true, false, cond}
+use mathlib.Core.Bool.{Bool, true, false, cond, _&&_}
 use mathlib.Core.List.{List}
 use Prim.Native.Nat.{ℕ, zero, suc, _+_, _-_, _*_, _<_, _≤_}
 use native.Mathlib.Numerals.{add-one}
@@ -10,14 +10,14 @@ use borrow.Author.Tests.{lt-ltb, le-ltb}
 use lib.Dec.{T}
 use lib.ListN.{length, getD, take, drop, set, replicate, length-set, getD-replicate}
 use lib.Seq.{ext-getD, getD-set-same, getD-set-other}
-use Rattle.counting.specs.Test.{both, allBelow}
+use Rattle.counting.specs.Test.{allBelow}
 use Rattle.counting.specs.TestLaws.{all-at}
 use Rattle.code.specs.Marks.{lostIn}
 use Rattle.code.specs.Determined.{listOf}
 use Rattle.code.specs.DeterminedLaws.{list-length, list-at}
 use Rattle.code.specs.StretchLaws.{stretch-count}
-use Rattle.groups.specs.Lent.{Lent}
-use Rattle.groups.specs.LentLaws.{part-stretch, part-length}
+use Rattle.code.specs.Lent.{Lent}
+use Rattle.code.specs.LentLaws.{part-stretch, part-length}
 use Rattle.desk_job.specs.Figures.{lostCount, lostCounts}
 
 module _ (m w : ℕ) (marks : List ℕ) (g : ℕ) where
@@ -75,4 +75,4 @@ all-broken n f i l e = go (allBelow n f) refl
 
 pub all-ext : (n : ℕ) (f h : ℕ → Bool) → ((i : ℕ) → i < n → f i ≡ h i) → allBelow n f ≡ allBelow n h
 all-ext zero f h same = refl
-all-ext (suc n) f h same = ap₂ both (same n (omega arith)) (all-ext n f h (λ i l. same i (omega arith)))
+all-ext (suc n) f h same = ap₂ _&&_ (same n (omega arith)) (all-ext n f h (λ i l. same i (omega arith)))

@@ -19,7 +19,7 @@ use Rattle.shape.specs.RefusalsLaws.{orElse-zero}
 use Rattle.shape.specs.Laws.{places-most}
 use Rattle.marks.specs.Refusal.{Marked}
 use Rattle.marks.specs.RefusalLaws.{good-of-marks, marks-of-good}
-use Rattle.judge.specs.Answer.{judgedNumberOf, judgedNumberIn}
+use Rattle.judge.specs.Judgement.{judgedNumberOf, judgedNumberIn}
 use Rattle.judge.specs.Laws.{zero-excess}
 use Rattle.desk_job.specs.declared.Job.{Job}
 use Rattle.desk_job.specs.Figures.{lostCount, lostCounts}

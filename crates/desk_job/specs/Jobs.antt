@@ -7,7 +7,7 @@ use lib.ListN.{length, getD, take, replicate}
 use Rattle.counting.specs.Test.{allBelow}
 use Rattle.shape.specs.Shapes.{placeCount}
 use Rattle.code.specs.Marks.{excess}
-use Rattle.judge.specs.Answer.{judgedNumberOf}
+use Rattle.judge.specs.Judgement.{judgedNumberOf}
 use Rattle.desk_job.specs.declared.Job.{Job}
 use Rattle.desk_job.specs.Figures.{lostCount, lossFigures}
 

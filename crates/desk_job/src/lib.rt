@@ -8,7 +8,7 @@ ghost use lib.Dec.{eqb};
 ghost use lib.ListN.{length, getD, replicate};
 ghost use Rattle.counting.specs.Test.{allBelow};
 ghost use Rattle.shape.specs.Shapes.{Good};
-ghost use Rattle.judge.specs.Answer.{judgedNumberOf};
+ghost use Rattle.judge.specs.Judgement.{judgedNumberOf};
 ghost use Rattle.desk_job.specs.Figures.{lossFigures};
 ghost use Rattle.desk_job.specs.Jobs.{emptyJob, isGood, hasFigures, isSoundJob};
 

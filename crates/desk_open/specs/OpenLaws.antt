@@ -9,7 +9,7 @@ use borrow.Author.Tests.{eqb-false, not-false}
 use lib.ListN.{length, getD, take, set, replicate}
 use lib.Seq.{length-take-le, set-at, take-suc, take-at}
 use Rattle.shape.specs.RefusalsLaws.{refuse-zero, orElse-zero}
-use Rattle.judge.specs.Answer.{judgedNumberOf}
+use Rattle.judge.specs.Judgement.{judgedNumberOf}
 use Rattle.desk_job.specs.declared.Job.{Job}
 use Rattle.desk_record.specs.declared.Desk.{Desk}
 use Rattle.desk_open.specs.declared.Opened.{Opened}

@@ -19,7 +19,8 @@ use Rattle.desk_record.proofs.Desk as D
 pub jobs-long : (desk : Desk) (vs : List Val) → Is D.the-row desk vs → length (desk .jobs) ≡ 8
 jobs-long desk vs p = simp length-map at (p .1 .1 .1 .0 .1 .0 .1)
 
-long : (jobs : List Job) (us : List Val) (s : ℕ) → s < length jobs → shadow (each (J.the-field .row .Denot) (J.the-field .row .own) (map (J.the-field .into) jobs) us)
+long : (jobs : List Job) (us : List Val) (s : ℕ) → s < length jobs → shadow
+    (each (J.the-field .row .Denot) (J.the-field .row .own) (map (J.the-field .into) jobs) us)
     → length (getD jobs s noJob .marks) ≡ 240
 long [] us s h p = absurd (not-suc-le-zero h)
 long (job ∷ jobs) [] s h p = absurd p

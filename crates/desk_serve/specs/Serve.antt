@@ -7,8 +7,8 @@ use lib.Dec.{eqb}
 use lib.ListN.{length}
 use Rattle.shape.specs.Refusals.{refuse, _orElse_}
 use Rattle.shape.specs.Shapes.{placeCount}
-use Rattle.code.specs.Answer.{Outcome}
-use Rattle.recover.specs.Service.{recoverOf}
+use Rattle.code.specs.Outcome.{Outcome}
+use Rattle.recover.specs.Recover.{recoverOf}
 use Rattle.desk_job.specs.declared.Job.{Job}
 use Rattle.desk_record.specs.declared.Desk.{Desk}
 use Rattle.shape.specs.declared.Mending.{Mending}

@@ -13,13 +13,13 @@ use Rattle.shape.specs.AnswersLaws.{mending-number, mending-refused}
 use Rattle.shape.specs.Refusals.{refuse, _orElse_, unlessRefused}
 use Rattle.shape.specs.RefusalsLaws.{unless-refused, refuse-zero, orElse-zero, orElse-first}
 use Rattle.shape.specs.Shapes.{placeCount}
-use Rattle.byte_edition.specs.Edition.{bytes}
+use Rattle.byte_edition.specs.Edition.{byteEdition}
 use Rattle.code.specs.Word.{isCodeword}
 use Rattle.code.specs.Marks.{excess}
-use Rattle.code.specs.AnswerLaws.{refused-unchanged}
+use Rattle.code.specs.OutcomeLaws.{refused-unchanged}
 use Rattle.code.specs.Contradiction.{contradictingGroup}
 use Rattle.code.specs.Recovery.{recovered}
-use Rattle.recover.specs.Service.{recoverRefusal, recoverOf, recoverIn, unlessBefore}
+use Rattle.recover.specs.Recover.{recoverRefusal, recoverOf, recoverIn, unlessBefore}
 use Rattle.desk_job.specs.declared.Job.{Job}
 use Rattle.desk_record.specs.declared.Desk.{Desk}
 use Rattle.desk_record.specs.Desks.{jobAt, slotOf, isSound, isOpen}
@@ -78,10 +78,11 @@ pub recover-unchanged : (m w c : ℕ) (word marks : List ℕ) → ((recoverOf m 
 unfolding recoverIn
 recover-unchanged m w c word marks = go (recoverRefusal m w c word marks)
   where
-    go : (r : ℕ) → ((unlessBefore r (recovered bytes m w c word marks) word marks) .number ≡ 0 → ⊥)
-        → (unlessBefore r (recovered bytes m w c word marks) word marks) .word ≡ word
+    go : (r : ℕ) → ((unlessBefore r (recovered byteEdition m w c word marks) word marks) .number ≡ 0 → ⊥)
+        → (unlessBefore r (recovered byteEdition m w c word marks) word marks) .word ≡ word
     go zero h =
-        refused-unchanged (2 ^ bytes .bits) (isCodeword bytes m w c) (ltb 2 (excess m w c marks)) (contradictingGroup bytes m w c word marks) word marks h .0
+        refused-unchanged (2 ^ byteEdition .bits) (isCodeword byteEdition m w c) (ltb 2 (excess m w c marks)) (contradictingGroup byteEdition m w c word marks)
+        word marks h .0
     go (suc r) h = refl
 
 pub unless-same : (r : ℕ) (written lent : List ℕ) → ((r ≡ 0 → ⊥) → written ≡ lent) → written ≡ unlessRefused r written lent

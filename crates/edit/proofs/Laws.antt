@@ -25,18 +25,18 @@ use Rattle.shape.specs.Shapes.{Good, Sold, dataCount, saleRefusal, wordRefusal}
 use Rattle.shape.specs.Laws.{sold-of-refusal, sale-numbers, word-most}
 use Rattle.code.specs.Edition.{times, raised}
 use Rattle.code.specs.Contradiction.{contradictingGroup}
-use Rattle.code.specs.Word.{groupSum, localSum, coefficient, twisted, isCodeword}
+use Rattle.code.specs.Word.{groupSum, localSum, coefficient, secondCoefficient, isCodeword}
 use Rattle.code.specs.Combined.{combined}
 use Rattle.code.specs.CombinedLaws.{combined-at}
 use Rattle.code.specs.Lone.{lone}
 use Rattle.code.specs.LoneLaws.{lone-inside, lone-before}
 use Rattle.code.specs.Marks.{lostIn}
-use Rattle.byte_edition.specs.Edition.{bytes}
+use Rattle.byte_edition.specs.Edition.{byteEdition}
 use Rattle.fill.specs.Filled.{Filled}
 use Rattle.syndrome.specs.declared.Sums.{Sums}
 use Rattle.candidate.specs.Solved.{pairAt}
 use Rattle.candidate.specs.SolvedLaws.{combined-length}
-use Rattle.edit.specs.Service.{numberRefusal, numberRefusalIn, editRefusal, editRefusalIn, editOf, editIn, editedWord, editedBuffer, editedBufferIn}
+use Rattle.edit.specs.Edit.{numberRefusal, numberRefusalIn, editRefusal, editRefusalIn, editOf, editIn, editedWord, editedBuffer, editedBufferIn}
 use Rattle.edit.specs.Rows.{tailMarks, localMarks, firstFixes, secondFixes, rowStart, fixOf, fixesAt}
 use Rattle.edit.specs.RowsLaws.{fix-length, fix-before, fix-after, marks-long, marks-count, marks-present}
 use Rattle.edit.specs.Steps.{Refilled, AddedRows, correctedOf}
@@ -71,8 +71,9 @@ filled c j b before after fits F =
 
 pub refilled : (w c g j b : ℕ) (before after : List ℕ) (sums : Sums) → 1 ≤ c → c ≤ 3 → c + 2 ≤ w → w ≤ 16 → length before ≡ w
     → Filled (localMarks w c) (set before j b) after
-    → sums .first ≡ groupSum bytes w before 0 (coefficient bytes c) ⊕ groupSum bytes (length after) after 0 (coefficient bytes c)
-    → sums .second ≡ groupSum bytes w before 0 (twisted bytes c g) ⊕ groupSum bytes (length after) after 0 (twisted bytes c g)
+    → sums .first ≡ groupSum byteEdition w before 0 (coefficient byteEdition c) ⊕ groupSum byteEdition (length after) after 0 (coefficient byteEdition c)
+    → sums .second ≡ groupSum byteEdition w before 0 (secondCoefficient byteEdition c g) ⊕ groupSum byteEdition (length after) after 0
+    (secondCoefficient byteEdition c g)
     → Refilled w c g j b before after sums
 refilled w zero g j b before after sums some few wide narrow long F first second = absurd (omega arith)
 refilled w (suc i) g j b before after sums some few wide narrow long F first second =
@@ -83,10 +84,12 @@ refilled w (suc i) g j b before after sums some few wide narrow long F first sec
       carries = λ p l. F .present p (marks-present w i (omega arith) (omega arith) narrow p l);
       zero = λ e l.
           subst (λ n. n ≤ 16 → length (localMarks w (suc i)) ≡ n → lostIn n (localMarks w (suc i)) 0 ≤ 4 → (e : ℕ) → e < lostIn n (localMarks w (suc i)) 0
-          → localSum bytes n after 0 e ≡ 0)
+          → localSum byteEdition n after 0 e ≡ 0)
           size (F .zero) narrow (marks-long w i (omega arith) (omega arith) narrow) (omega arith) e (omega arith);
-      first = first ∙ ap (λ n. groupSum bytes w before 0 (coefficient bytes (suc i)) ⊕ groupSum bytes n after 0 (coefficient bytes (suc i))) (F .size ∙ size);
-      second = second ∙ ap (λ n. groupSum bytes w before 0 (twisted bytes (suc i) g) ⊕ groupSum bytes n after 0 (twisted bytes (suc i) g)) (F .size ∙ size);
+      first = first ∙ ap (λ n. groupSum byteEdition w before 0 (coefficient byteEdition (suc i)) ⊕ groupSum byteEdition n after 0
+          (coefficient byteEdition (suc i))) (F .size ∙ size);
+      second = second ∙ ap (λ n. groupSum byteEdition w before 0 (secondCoefficient byteEdition (suc i) g) ⊕ groupSum byteEdition n after 0
+          (secondCoefficient byteEdition (suc i) g)) (F .size ∙ size);
     }
 
 -- ---- the last group corrected
@@ -95,19 +98,19 @@ checks-fit m w c good = let k : 1 * w ≤ m * w = mul-le-mul-right w (good .some
 
 -- the rows stand at the end of the last group, which is the end of the word
 pub corrected : (m w c first second : ℕ) (word part : List ℕ) → Good m w c → c ≤ 3 → length word ≡ m * w
-    → AddedRows first (take (c + 2) (drop (rowStart w c) firstFixes)) (times bytes second (raised bytes 2 (15 - m)))
+    → AddedRows first (take (c + 2) (drop (rowStart w c) firstFixes)) (times byteEdition second (raised byteEdition 2 (15 - m)))
     (take (c + 2) (drop (rowStart w c) secondFixes))
     (drop (m * w - (c + 2)) word) part
     → take (m * w - (c + 2)) word ++ part ≡ correctedOf m w c first second word
 unfolding correctedOf firstFixes secondFixes
 corrected m w zero first second word part good few size A = absurd (omega (arith, good .checked))
 corrected m w (suc i) first second word part good few size A =
-    ext-getD 0 _ _ (long ∙ sym (combined-length bytes (m * w) 2 word _ _)) λ p l.
+    ext-getD 0 _ _ (long ∙ sym (combined-length byteEdition (m * w) 2 word _ _)) λ p l.
     let k : p < m * w = subst (λ n. p < n) long l in
     elim (decLt p a) [
       | yes h ↦
           List·getD-append (take a word) part 0 p (subst (λ n. p < n) (sym front) h) ∙ getD-take a word p 0 h
-          ∙ sym (at p k ∙ ap₂ (λ x y. getD word p 0 ⊕ (times bytes first x ⊕ times bytes v y)) (off 0 firstFixes (first-long) p k h)
+          ∙ sym (at p k ∙ ap₂ (λ x y. getD word p 0 ⊕ (times byteEdition first x ⊕ times byteEdition v y)) (off 0 firstFixes (first-long) p k h)
           (off 1 secondFixes second-long p k h)
           ∙ ap₂ (λ x y. getD word p 0 ⊕ (x ⊕ y)) (product-zero 8 285 first) (product-zero 8 285 v) ∙ ap (λ x. getD word p 0 ⊕ x) (⊕-self 0) ∙ ⊕-zero-r
           (getD word p 0))
@@ -121,10 +124,10 @@ corrected m w (suc i) first second word part good few size A =
     a = m * w - (suc i + 2)
 
     v : ℕ
-    v = times bytes second (raised bytes 2 (15 - m))
+    v = times byteEdition second (raised byteEdition 2 (15 - m))
 
     C : List ℕ
-    C = combined bytes (m * w) word 2 (pairAt first v) (λ k. lone m w (m - 1) (fixOf (fixesAt k) w (suc i)))
+    C = combined byteEdition (m * w) word 2 (pairAt first v) (λ k. lone m w (m - 1) (fixOf (fixesAt k) w (suc i)))
 
     last-end : (m - 1) * w + w ≡ m * w
     last-end = let s = good .some in let e : suc (m - 1) ≡ m = omega arith in sym (suc-mul (m - 1) w) ∙ ap (λ n. n * w) e
@@ -151,10 +154,10 @@ corrected m w (suc i) first second word part good few size A =
     last-less = let s = good .some in omega arith
 
     at : (p : ℕ) → p < m * w → getD C p 0
-        ≡ getD word p 0 ⊕ (times bytes first (getD (lone m w (m - 1) (fixOf firstFixes w (suc i))) p 0) ⊕ times bytes v
+        ≡ getD word p 0 ⊕ (times byteEdition first (getD (lone m w (m - 1) (fixOf firstFixes w (suc i))) p 0) ⊕ times byteEdition v
         (getD (lone m w (m - 1) (fixOf secondFixes w (suc i))) p 0))
     at p l =
-        combined-at bytes m w 2 word _ _ p l
+        combined-at byteEdition m w 2 word _ _ p l
         ∙ ap (λ x. getD word p 0 ⊕ x) (sum-suc 1 _ ∙ ap₂ _⊕_ (sum-suc 0 _ ∙ ap₂ _⊕_ (sum-none _) refl ∙ ⊕-zero-l _) refl)
 
     off : (k : ℕ) (fixes : List ℕ) → length (fixOf fixes w (suc i)) ≡ w → (p : ℕ) → p < m * w → p < a → getD (lone m w (m - 1) (fixOf fixes w (suc i))) p 0 ≡ 0
@@ -186,12 +189,12 @@ corrected m w (suc i) first second word part good few size A =
         ap (λ n. getD (take a word ++ part) (n + j) 0) (sym front) ∙ getD-append-add (take a word) part j 0
         ∙ A .each j (omega arith)
         ∙ ap₂ (λ x y. x ⊕ y) (getD-drop a word j 0)
-        (ap₂ (λ x y. times bytes first x ⊕ times bytes v y) (sym (on firstFixes first-long j l)) (sym (on secondFixes second-long j l)))
+        (ap₂ (λ x y. times byteEdition first x ⊕ times byteEdition v y) (sym (on firstFixes first-long j l)) (sym (on secondFixes second-long j l)))
         ∙ sym (at (a + j) (omega arith))
 
 -- the same of the parts as they are lent
 pub corrected-lent : (m w c first second v : ℕ) (word part : List ℕ) → Good m w c → c ≤ 3 → length word ≡ m * w
-    → v ≡ times bytes second (raised bytes 2 (15 - m))
+    → v ≡ times byteEdition second (raised byteEdition 2 (15 - m))
     → AddedRows first (take (rowStart w c + (c + 2) - rowStart w c) (drop (rowStart w c) firstFixes)) v
     (take (rowStart w c + (c + 2) - rowStart w c) (drop (rowStart w c) secondFixes))
     (take (length word - (length word - (c + 2))) (drop (length word - (c + 2)) word)) part
@@ -204,9 +207,9 @@ corrected-lent m w c first second v word part good few size e A =
     ap (λ x. take a word ++ (part ++ x)) (drop-of-length-le (drop a word) d) ∙ ap (λ x. take a word ++ x) (append-nil part)
     ∙ ap (λ n. take (n - (c + 2)) word ++ part) size
     ∙ corrected m w c first second word part good few size
-    (subst (λ n. AddedRows first (take (c + 2) (drop (rowStart w c) firstFixes)) (times bytes second (raised bytes 2 (15 - m)))
+    (subst (λ n. AddedRows first (take (c + 2) (drop (rowStart w c) firstFixes)) (times byteEdition second (raised byteEdition 2 (15 - m)))
     (take (c + 2) (drop (rowStart w c) secondFixes)) (drop (n - (c + 2)) word) part) size
-    (subst (λ x. AddedRows first (take (c + 2) (drop (rowStart w c) firstFixes)) (times bytes second (raised bytes 2 (15 - m)))
+    (subst (λ x. AddedRows first (take (c + 2) (drop (rowStart w c) firstFixes)) (times byteEdition second (raised byteEdition 2 (15 - m)))
     (take (c + 2) (drop (rowStart w c) secondFixes)) x part) (take-all (length word - a) (drop a word) d)
     (subst (λ z. AddedRows first (take (c + 2) (drop (rowStart w c) firstFixes)) z (take (c + 2) (drop (rowStart w c) secondFixes))
     (take (length word - a) (drop a word)) part) e
@@ -263,7 +266,7 @@ not-nine m w c lent number = go (saleRefusal m w c) (wordRefusal m w c lent) (le
 -- number, answer and buffer of a call, by how it goes
 module _ (m w c : ℕ) (word : List ℕ) (number b : ℕ) where
   group : ℕ
-  group = contradictingGroup bytes m w c word (replicate (length word) 0)
+  group = contradictingGroup byteEdition m w c word (replicate (length word) 0)
 
   by-number : (r : ℕ) → r ≡ editRefusal m w c word number
       → (mendingAt r group ≡ editOf m w c word number) × (unlessRefused r (editedWord m w c word number b) word ≡ editedBuffer m w c word number b)
@@ -282,18 +285,18 @@ module _ (m w c : ℕ) (word : List ℕ) (number b : ℕ) where
       )
 
   module _ (accepted : numberRefusal m w c (length word) number ≡ 0) where
-    decided : (v : Bool) → isCodeword bytes m w c word ≡ v → refuse 9 (not v) ≡ editRefusal m w c word number
+    decided : (v : Bool) → isCodeword byteEdition m w c word ≡ v → refuse 9 (not v) ≡ editRefusal m w c word number
     unfolding editRefusalIn
-    decided v e = sym (ap (λ r. r orElse refuse 9 (not (isCodeword bytes m w c word))) accepted ∙ ap (λ v. refuse 9 (not v)) e)
+    decided v e = sym (ap (λ r. r orElse refuse 9 (not (isCodeword byteEdition m w c word))) accepted ∙ ap (λ v. refuse 9 (not v)) e)
 
-    pub edit-contradictory : (g : ℕ) → isCodeword bytes m w c word ≡ false → g ≡ contradictingGroup bytes m w c word (replicate (length word) 0)
+    pub edit-contradictory : (g : ℕ) → isCodeword byteEdition m w c word ≡ false → g ≡ contradictingGroup byteEdition m w c word (replicate (length word) 0)
         → (Mending.Contradictory g ≡ editOf m w c word number) × ((9 ≡ editRefusal m w c word number) × (word ≡ editedBuffer m w c word number b))
     unfolding group
     edit-contradictory g e h =
         let B = by-number 9 (decided false e) in
         (ap Mending.Contradictory h ∙ B .0, (decided false e, B .1))
 
-    pub edit-done : (end : List ℕ) → isCodeword bytes m w c word ≡ true → end ≡ editedWord m w c word number b
+    pub edit-done : (end : List ℕ) → isCodeword byteEdition m w c word ≡ true → end ≡ editedWord m w c word number b
         → (Mending.Done ≡ editOf m w c word number) × ((0 ≡ editRefusal m w c word number) × (end ≡ editedBuffer m w c word number b))
     edit-done end e h =
         let B = by-number 0 (decided true e) in

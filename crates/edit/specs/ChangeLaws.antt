@@ -20,7 +20,7 @@ use Rattle.shape.specs.Shapes.{Good, dataCount}
 use Rattle.places.specs.Places.{isCheck, extractOf}
 use Rattle.places.specs.Laws.{check-inner, check-last, extract-agree}
 use Rattle.code.specs.Edition.{times, raised}
-use Rattle.code.specs.Word.{groupSum, localSum, wordSum, coefficient, twisted, Symbols, Codeword}
+use Rattle.code.specs.Word.{groupSum, localSum, wordSum, coefficient, secondCoefficient, Symbols, Codeword}
 use Rattle.code.specs.WordLaws.{equations, is-codeword}
 use Rattle.code.specs.Combined.{combined}
 use Rattle.code.specs.CombinedLaws.{combined-at, combined-group, combined-word, combined-symbols}
@@ -28,11 +28,11 @@ use Rattle.code.specs.Lone.{lone}
 use Rattle.code.specs.LoneLaws.{lone-inside, lone-before, lone-own, lone-zero, lone-word}
 use Rattle.code.specs.Stretch.{stretch, withStretch}
 use Rattle.code.specs.StretchLaws.{stretch-at, stretch-length, stretch-sum, stretch-with, with-length, with-inside, with-before, with-after}
-use Rattle.byte_edition.specs.Edition.{bytes}
+use Rattle.byte_edition.specs.Edition.{byteEdition}
 use Rattle.byte_edition.specs.EditionLaws.{bytes-sound}
 use Rattle.syndrome.specs.declared.Sums.{Sums}
 use Rattle.candidate.specs.Solved.{pairAt}
-use Rattle.edit.specs.Service.{placeOf, editedIn}
+use Rattle.edit.specs.Edit.{placeOf, editedIn}
 use Rattle.edit.specs.PlacesLaws.{group-less, place-less, place-is, extract-set}
 use Rattle.edit.specs.Laws.{edited-encoded}
 use Rattle.edit.specs.Rows.{firstFixes, secondFixes, fixOf, fixesAt}
@@ -47,11 +47,11 @@ sum-change n g f h l same =
 sum-two : (f : ℕ → ℕ) → sumBelow 2 f ≡ f 0 ⊕ f 1
 sum-two f = sum-suc 1 f ∙ ap (λ s. s ⊕ f 1) (sum-suc 0 f ∙ ap (λ s. s ⊕ f 0) (sum-none f) ∙ ⊕-zero-l (f 0))
 
-group-lt : (w g : ℕ) (x : List ℕ) (h : ℕ → ℕ) → groupSum bytes w x g h < 256
+group-lt : (w g : ℕ) (x : List ℕ) (h : ℕ → ℕ) → groupSum byteEdition w x g h < 256
 unfolding groupSum
 group-lt w g x h = sum-lt 8 w _ (λ j _. product-lt 8 285 (getD x (g * w + j) 0) (h j))
 
-module _ (m w i : ℕ) (good : Good m w (suc i)) (few : suc i ≤ 3) (word : List ℕ) (C : Codeword bytes m w (suc i) word) (number b : ℕ)
+module _ (m w i : ℕ) (good : Good m w (suc i)) (few : suc i ≤ 3) (word : List ℕ) (C : Codeword byteEdition m w (suc i) word) (number b : ℕ)
     (below : number < dataCount m w (suc i)) (byte : b < 256) (after : List ℕ) (s : Sums)
     (R : Refilled w (suc i) (number / (w - suc i)) (number % (w - suc i)) b (stretch w (number / (w - suc i)) word) after s)
     (each : (p : ℕ) → getD (withStretch w (number / (w - suc i)) word after) p 0 < 256) where
@@ -65,7 +65,7 @@ module _ (m w i : ℕ) (good : Good m w (suc i)) (few : suc i ≤ 3) (word : Lis
   x = withStretch w g word after
 
   v : ℕ
-  v = times bytes (s .second) (raised bytes 2 (15 - m))
+  v = times byteEdition (s .second) (raised byteEdition 2 (15 - m))
 
   U : ℕ → ℕ
   U = pairAt (s .first) v
@@ -74,7 +74,7 @@ module _ (m w i : ℕ) (good : Good m w (suc i)) (few : suc i ≤ 3) (word : Lis
   H k = lone m w (m - 1) (fixOf (fixesAt k) w (suc i))
 
   z : List ℕ
-  z = combined bytes (m * w) x 2 U H
+  z = combined byteEdition (m * w) x 2 U H
 
   wide : 0 < w
   wide = let k = good .wide in omega arith
@@ -108,9 +108,9 @@ module _ (m w i : ℕ) (good : Good m w (suc i)) (few : suc i ≤ 3) (word : Lis
   unfolding x g
   x-size = with-length w g word fits after (R .size) ∙ C .symbols .size
 
-  x-own : (h : ℕ → ℕ) → groupSum bytes w x g h ≡ groupSum bytes w after 0 h
+  x-own : (h : ℕ → ℕ) → groupSum byteEdition w x g h ≡ groupSum byteEdition w after 0 h
   unfolding x g
-  x-own h = sym (stretch-sum bytes w g x h) ∙ ap (λ y. groupSum bytes w y 0 h) (stretch-with w g word after fits (R .size))
+  x-own h = sym (stretch-sum byteEdition w g x h) ∙ ap (λ y. groupSum byteEdition w y 0 h) (stretch-with w g word after fits (R .size))
 
   x-at : (k : ℕ) → ¬ (k ≡ g) → (q : ℕ) → q < w → getD x (k * w + q) 0 ≡ getD word (k * w + q) 0
   unfolding x g
@@ -121,32 +121,32 @@ module _ (m w i : ℕ) (good : Good m w (suc i)) (few : suc i ≤ 3) (word : Lis
         with-after w g word fits after (R .size) (k * w + q) (let y : suc g * w ≤ k * w = mul-le-mul-right w a in omega arith))
   ]
 
-  x-other : (k : ℕ) → ¬ (k ≡ g) → (h : ℕ → ℕ) → groupSum bytes w x k h ≡ groupSum bytes w word k h
+  x-other : (k : ℕ) → ¬ (k ≡ g) → (h : ℕ → ℕ) → groupSum byteEdition w x k h ≡ groupSum byteEdition w word k h
   unfolding groupSum
-  x-other k n h = sum-ext w _ _ (λ q d. ap (λ a. times bytes a (h q)) (x-at k n q d))
+  x-other k n h = sum-ext w _ _ (λ q d. ap (λ a. times byteEdition a (h q)) (x-at k n q d))
 
-  x-local : (k : ℕ) → k < m → (e : ℕ) → e < suc i → localSum bytes w x k e ≡ 0
+  x-local : (k : ℕ) → k < m → (e : ℕ) → e < suc i → localSum byteEdition w x k e ≡ 0
   x-local k d e h = elim (ℕ-discrete k g) [
-    | yes q ↦ subst (λ a. localSum bytes w x a e ≡ 0) (sym q) (x-own _ ∙ R .zero e h)
-    | no q ↦ x-other k q _ ∙ equations bytes m w (suc i) word (C .zero) .locals k d e h
+    | yes q ↦ subst (λ a. localSum byteEdition w x a e ≡ 0) (sym q) (x-own _ ∙ R .zero e h)
+    | no q ↦ x-other k q _ ∙ equations byteEdition m w (suc i) word (C .zero) .locals k d e h
   ]
 
   -- a sum across that was zero comes to what the group changes
-  x-across : (h : ℕ → ℕ → ℕ) → wordSum bytes m w word h ≡ 0
-      → wordSum bytes m w x h ≡ groupSum bytes w (stretch w g word) 0 (h g) ⊕ groupSum bytes w after 0 (h g)
+  x-across : (h : ℕ → ℕ → ℕ) → wordSum byteEdition m w word h ≡ 0
+      → wordSum byteEdition m w x h ≡ groupSum byteEdition w (stretch w g word) 0 (h g) ⊕ groupSum byteEdition w after 0 (h g)
   unfolding wordSum
   x-across h e =
-      sym (⊕-zero-l _) ∙ ap (λ a. a ⊕ sumBelow m (λ k. groupSum bytes w x k (h k))) (sym e)
-      ∙ sum-change m g (λ k. groupSum bytes w word k (h k)) (λ k. groupSum bytes w x k (h k)) l (λ k _ n. sym (x-other k n (h k)))
-      ∙ ap₂ _⊕_ (sym (stretch-sum bytes w g word (h g))) (x-own (h g))
+      sym (⊕-zero-l _) ∙ ap (λ a. a ⊕ sumBelow m (λ k. groupSum byteEdition w x k (h k))) (sym e)
+      ∙ sum-change m g (λ k. groupSum byteEdition w word k (h k)) (λ k. groupSum byteEdition w x k (h k)) l (λ k _ n. sym (x-other k n (h k)))
+      ∙ ap₂ _⊕_ (sym (stretch-sum byteEdition w g word (h g))) (x-own (h g))
 
-  x-first : wordSum bytes m w x (λ _. coefficient bytes (suc i)) ≡ s .first
+  x-first : wordSum byteEdition m w x (λ _. coefficient byteEdition (suc i)) ≡ s .first
   unfolding g
-  x-first = x-across _ (equations bytes m w (suc i) word (C .zero) .first) ∙ sym (R .first)
+  x-first = x-across _ (equations byteEdition m w (suc i) word (C .zero) .first) ∙ sym (R .first)
 
-  x-second : wordSum bytes m w x (twisted bytes (suc i)) ≡ s .second
+  x-second : wordSum byteEdition m w x (secondCoefficient byteEdition (suc i)) ≡ s .second
   unfolding g
-  x-second = x-across _ (equations bytes m w (suc i) word (C .zero) .second) ∙ sym (R .second)
+  x-second = x-across _ (equations byteEdition m w (suc i) word (C .zero) .second) ∙ sym (R .second)
 
   -- ---- and its last group corrected
   first-lt : s .first < 256
@@ -158,61 +158,62 @@ module _ (m w i : ℕ) (good : Good m w (suc i)) (few : suc i ≤ 3) (word : Lis
   U-lt : (k : ℕ) → U k < 256
   unfolding U v
   U-lt zero = first-lt
-  U-lt (suc k) = product-lt 8 285 (s .second) (raised bytes 2 (15 - m))
+  U-lt (suc k) = product-lt 8 285 (s .second) (raised byteEdition 2 (15 - m))
 
-  H-local : (a : ℕ) → a < 2 → (k : ℕ) → k < m → (e : ℕ) → e < suc i → localSum bytes w (H a) k e ≡ 0
+  H-local : (a : ℕ) → a < 2 → (k : ℕ) → k < m → (e : ℕ) → e < suc i → localSum byteEdition w (H a) k e ≡ 0
   unfolding H
   H-local a la k d e h = elim (ℕ-discrete k (m - 1)) [
-    | yes q ↦ subst (λ n. localSum bytes w (H a) n e ≡ 0) (sym q) (own a la)
+    | yes q ↦ subst (λ n. localSum byteEdition w (H a) n e ≡ 0) (sym q) (own a la)
     | no q ↦ other a la q
   ]
     where
-      own : (a : ℕ) → a < 2 → localSum bytes w (H a) (m - 1) e ≡ 0
-      own zero la = lone-own m w (m - 1) (fixOf firstFixes w (suc i)) last-less first-long bytes _ ∙ first-local w i few-i room-i (good .narrow) e h
-      own (suc a) la = lone-own m w (m - 1) (fixOf secondFixes w (suc i)) last-less second-long bytes _ ∙ second-local w i few-i room-i (good .narrow) e h
+      own : (a : ℕ) → a < 2 → localSum byteEdition w (H a) (m - 1) e ≡ 0
+      own zero la = lone-own m w (m - 1) (fixOf firstFixes w (suc i)) last-less first-long byteEdition _ ∙ first-local w i few-i room-i (good .narrow) e h
+      own (suc a) la = lone-own m w (m - 1) (fixOf secondFixes w (suc i)) last-less second-long byteEdition _ ∙ second-local w i few-i room-i (good .narrow) e h
 
-      other : (a : ℕ) → a < 2 → ¬ (k ≡ m - 1) → localSum bytes w (H a) k e ≡ 0
-      other zero la q = lone-zero m w (m - 1) (fixOf firstFixes w (suc i)) last-less first-long bytes k q _
-      other (suc a) la q = lone-zero m w (m - 1) (fixOf secondFixes w (suc i)) last-less second-long bytes k q _
+      other : (a : ℕ) → a < 2 → ¬ (k ≡ m - 1) → localSum byteEdition w (H a) k e ≡ 0
+      other zero la q = lone-zero m w (m - 1) (fixOf firstFixes w (suc i)) last-less first-long byteEdition k q _
+      other (suc a) la q = lone-zero m w (m - 1) (fixOf secondFixes w (suc i)) last-less second-long byteEdition k q _
 
-  z-first : wordSum bytes m w z (λ _. coefficient bytes (suc i)) ≡ 0
+  z-first : wordSum byteEdition m w z (λ _. coefficient byteEdition (suc i)) ≡ 0
   unfolding z U v H
   z-first =
-      combined-word bytes m w 2 x U H (λ _. coefficient bytes (suc i))
+      combined-word byteEdition m w 2 x U H (λ _. coefficient byteEdition (suc i))
       ∙ ap₂ _⊕_ x-first
       (sum-two _
       ∙ ap₂ _⊕_
-      (ap (times bytes (s .first)) (lone-word m w (m - 1) (fixOf firstFixes w (suc i)) last-less first-long bytes _ ∙ first-first w i few-i room-i
+      (ap (times byteEdition (s .first)) (lone-word m w (m - 1) (fixOf firstFixes w (suc i)) last-less first-long byteEdition _ ∙ first-first w i few-i room-i
       (good .narrow))
       ∙ product-one 8 285 (lit< tt) (s .first) first-lt)
-      (ap (times bytes v) (lone-word m w (m - 1) (fixOf secondFixes w (suc i)) last-less second-long bytes _ ∙ second-first w i few-i room-i (good .narrow))
+      (ap (times byteEdition v) (lone-word m w (m - 1) (fixOf secondFixes w (suc i)) last-less second-long byteEdition _
+      ∙ second-first w i few-i room-i (good .narrow))
       ∙ product-zero 8 285 v)
       ∙ ⊕-zero-r (s .first))
       ∙ ⊕-self (s .first)
 
-  z-second : wordSum bytes m w z (twisted bytes (suc i)) ≡ 0
+  z-second : wordSum byteEdition m w z (secondCoefficient byteEdition (suc i)) ≡ 0
   unfolding z U v H
   z-second =
-      combined-word bytes m w 2 x U H (twisted bytes (suc i))
+      combined-word byteEdition m w 2 x U H (secondCoefficient byteEdition (suc i))
       ∙ ap₂ _⊕_ x-second
       (sum-two _
       ∙ ap₂ _⊕_
-      (ap (times bytes (s .first)) (lone-word m w (m - 1) (fixOf firstFixes w (suc i)) last-less first-long bytes _ ∙ first-second w i few-i room-i
+      (ap (times byteEdition (s .first)) (lone-word m w (m - 1) (fixOf firstFixes w (suc i)) last-less first-long byteEdition _ ∙ first-second w i few-i room-i
       (good .narrow) (m - 1))
       ∙ product-zero 8 285 (s .first))
-      (ap (times bytes v) (lone-word m w (m - 1) (fixOf secondFixes w (suc i)) last-less second-long bytes _)
+      (ap (times byteEdition v) (lone-word m w (m - 1) (fixOf secondFixes w (suc i)) last-less second-long byteEdition _)
       ∙ second-second w i few-i room-i (good .narrow) m (s .second) (good .some) (good .few) second-lt)
       ∙ ⊕-zero-l (s .second))
       ∙ ⊕-self (s .second)
 
-  z-codeword : Codeword bytes m w (suc i) z
+  z-codeword : Codeword byteEdition m w (suc i) z
   unfolding z x g
   z-codeword = record {
-    symbols = combined-symbols bytes m w 2 x U H (record { size = x-size; each = each }) U-lt;
-    zero = is-codeword bytes m w (suc i) z (record {
+    symbols = combined-symbols byteEdition m w 2 x U H (record { size = x-size; each = each }) U-lt;
+    zero = is-codeword byteEdition m w (suc i) z (record {
       locals = λ k d e h.
-          combined-group bytes m w 2 x U H k _ d
-          ∙ ap₂ _⊕_ (x-local k d e h) (sum-zero 2 _ (λ a la. ap (times bytes (U a)) (H-local a la k d e h) ∙ product-zero 8 285 (U a))) ∙ ⊕-self 0;
+          combined-group byteEdition m w 2 x U H k _ d
+          ∙ ap₂ _⊕_ (x-local k d e h) (sum-zero 2 _ (λ a la. ap (times byteEdition (U a)) (H-local a la k d e h) ∙ product-zero 8 285 (U a))) ∙ ⊕-self 0;
       first = z-first;
       second = z-second;
     });
@@ -283,18 +284,19 @@ module _ (m w i : ℕ) (good : Good m w (suc i)) (few : suc i ≤ 3) (word : Lis
       at : (k q : ℕ) → k < m → q < w → k * w + q < m * w → isCheck m w (suc i) (k * w + q) ≡ false
           → getD z (k * w + q) 0 ≡ getD (set word (placeOf m w (suc i) number) b) (k * w + q) 0
       at k q d h n e =
-          combined-at bytes m w 2 x U H (k * w + q) n
-          ∙ ap₂ _⊕_ (x-data k q d h e) (sum-zero 2 _ (λ a la. ap (times bytes (U a)) (H-data a la k q d h e) ∙ product-zero 8 285 (U a)))
+          combined-at byteEdition m w 2 x U H (k * w + q) n
+          ∙ ap₂ _⊕_ (x-data k q d h e) (sum-zero 2 _ (λ a la. ap (times byteEdition (U a)) (H-data a la k q d h e) ∙ product-zero 8 285 (U a)))
           ∙ ⊕-zero-r _ ∙ ap (λ t. getD (set word t b) (k * w + q) 0) (sym place)
 
-  changed-suc : correctedOf m w (suc i) (s .first) (s .second) (withStretch w (number / (w - suc i)) word after) ≡ editedIn bytes m w (suc i) word number b
+  changed-suc : correctedOf m w (suc i) (s .first) (s .second) (withStretch w (number / (w - suc i)) word after)
+      ≡ editedIn byteEdition m w (suc i) word number b
   unfolding correctedOf z x g U v H
   changed-suc = edited-encoded bytes-sound good word C number b below byte .only z z-codeword z-data
 
-pub changed : (m w c : ℕ) → Good m w c → c ≤ 3 → (word : List ℕ) → Codeword bytes m w c word → (number b : ℕ) → number < dataCount m w c → b < 256
+pub changed : (m w c : ℕ) → Good m w c → c ≤ 3 → (word : List ℕ) → Codeword byteEdition m w c word → (number b : ℕ) → number < dataCount m w c → b < 256
     → (after : List ℕ) (s : Sums)
     → Refilled w c (number / (w - c)) (number % (w - c)) b (stretch w (number / (w - c)) word) after s
     → ((p : ℕ) → getD (withStretch w (number / (w - c)) word after) p 0 < 256)
-    → correctedOf m w c (s .first) (s .second) (withStretch w (number / (w - c)) word after) ≡ editedIn bytes m w c word number b
+    → correctedOf m w c (s .first) (s .second) (withStretch w (number / (w - c)) word after) ≡ editedIn byteEdition m w c word number b
 changed m w zero good few word C number b below byte after s R each = absurd (omega (arith, good .checked))
 changed m w (suc i) good few word C number b below byte after s R each = changed-suc m w i good few word C number b below byte after s R each

@@ -12,9 +12,9 @@ use Rattle.places.specs.Places.{extractOf}
 use Rattle.code.specs.Edition.{Edition}
 use Rattle.code.specs.Word.{isLocal, Symbols, Codeword}
 use Rattle.word_check.specs.declared.Checked.{Checked}
-use Rattle.encode.specs.Service.{encodedIn}
+use Rattle.encode.specs.Encode.{encodedIn}
 use Rattle.encode.specs.DemandTwo.{Encoded}
-use Rattle.edit.specs.Service.{placeOf, changedData, editIn, editedBufferIn}
+use Rattle.edit.specs.Edit.{placeOf, changedData, editIn, editedBufferIn}
 
 -- what a call that is not refused is lent: "a shape, a codeword, a data number below k and a byte"
 pub record Call (E : Edition) (m w c : ℕ) (word : List ℕ) (number symbol : ℕ) : Type 0 where

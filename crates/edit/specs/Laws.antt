@@ -34,10 +34,10 @@ use Rattle.code.specs.DeterminedLaws.{local-unique}
 use Rattle.code.specs.CombinedLaws.{place-less}
 use Rattle.code.specs.Contradiction.{contradictingGroup}
 use Rattle.code.specs.ContradictionLaws.{whole-groups}
-use Rattle.encode.specs.Service.{encodedIn}
+use Rattle.encode.specs.Encode.{encodedIn}
 use Rattle.encode.specs.DemandTwo.{Encoded}
 use Rattle.encode.specs.Laws.{encoded, lost-check}
-use Rattle.edit.specs.Service.{placeOf, changedData, editedIn, numberRefusalIn, editRefusalIn, editIn, editedBufferIn}
+use Rattle.edit.specs.Edit.{placeOf, changedData, editedIn, numberRefusalIn, editRefusalIn, editIn, editedBufferIn}
 use Rattle.edit.specs.Demand.{Call, MayDiffer, Edited, EitherOrder, editedBelow, AllEdited, Lowest, Refusals}
 use Rattle.edit.specs.PlacesLaws.{place-inside, extract-set}
 

@@ -1,4 +1,4 @@
-pub mod Service
+pub mod Edit
 pub mod Demand
 pub mod PlacesLaws
 pub mod Laws

@@ -17,7 +17,7 @@ use Rattle.shape.specs.Shapes.{Limits, GoodIn, placeCount, dataCount}
 use Rattle.places.specs.Places.{isCheck, othersFrom, dataPlaces, bytesAt, extractOf}
 use Rattle.places.specs.FromLaws.{others-ext, others-length}
 use Rattle.places.specs.Laws.{check-inner, check-last, checks-before, data-length}
-use Rattle.edit.specs.Service.{placeOf}
+use Rattle.edit.specs.Edit.{placeOf}
 
 module _ (check : ℕ → Bool) where
   -- each is at least p

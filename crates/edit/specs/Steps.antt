@@ -5,10 +5,10 @@ use Prim.Native.Nat.{ℕ, _+_, _-_, _*_, _<_}
 use lib.ListN.{length, getD, set}
 use Rattle.binary_field.specs.Xor.{_⊕_}
 use Rattle.code.specs.Edition.{times, raised}
-use Rattle.code.specs.Word.{groupSum, localSum, coefficient, twisted}
+use Rattle.code.specs.Word.{groupSum, localSum, coefficient, secondCoefficient}
 use Rattle.code.specs.Combined.{combined}
 use Rattle.code.specs.Lone.{lone}
-use Rattle.byte_edition.specs.Edition.{bytes}
+use Rattle.byte_edition.specs.Edition.{byteEdition}
 use Rattle.syndrome.specs.declared.Sums.{Sums}
 use Rattle.candidate.specs.Solved.{pairAt}
 use Rattle.edit.specs.Rows.{fixOf, fixesAt}
@@ -17,16 +17,18 @@ use Rattle.edit.specs.Rows.{fixOf, fixesAt}
 pub record Refilled (w c g j b : ℕ) (before after : List ℕ) (sums : Sums) : Type 0 where
   pub size : length after ≡ w
   pub carries : (i : ℕ) → i + c < w → getD after i 0 ≡ getD (set before j b) i 0
-  pub zero : (e : ℕ) → e < c → localSum bytes w after 0 e ≡ 0
-  pub first : sums .first ≡ groupSum bytes w before 0 (coefficient bytes c) ⊕ groupSum bytes w after 0 (coefficient bytes c)
-  pub second : sums .second ≡ groupSum bytes w before 0 (twisted bytes c g) ⊕ groupSum bytes w after 0 (twisted bytes c g)
+  pub zero : (e : ℕ) → e < c → localSum byteEdition w after 0 e ≡ 0
+  pub first : sums .first ≡ groupSum byteEdition w before 0 (coefficient byteEdition c) ⊕ groupSum byteEdition w after 0 (coefficient byteEdition c)
+  pub second : sums .second ≡ groupSum byteEdition w before 0 (secondCoefficient byteEdition c g) ⊕ groupSum byteEdition w after 0
+      (secondCoefficient byteEdition c g)
 
 -- u times h and v times k added
 pub record AddedRows (u : ℕ) (h : List ℕ) (v : ℕ) (k before after : List ℕ) : Type 0 where
   pub size : length after ≡ length before
-  pub each : (i : ℕ) → i < length before → getD after i 0 ≡ getD before i 0 ⊕ (times bytes u (getD h i 0) ⊕ times bytes v (getD k i 0))
+  pub each : (i : ℕ) → i < length before → getD after i 0 ≡ getD before i 0 ⊕ (times byteEdition u (getD h i 0) ⊕ times byteEdition v (getD k i 0))
 
 -- the word with multiples of the two rows added to its last group
 unfoldable pub correctedOf : ℕ → ℕ → ℕ → ℕ → ℕ → List ℕ → List ℕ
 correctedOf m w c first second word =
-    combined bytes (m * w) word 2 (pairAt first (times bytes second (raised bytes 2 (15 - m)))) (λ i. lone m w (m - 1) (fixOf (fixesAt i) w c))
+    combined byteEdition (m * w) word 2 (pairAt first (times byteEdition second (raised byteEdition 2 (15 - m))))
+    (λ i. lone m w (m - 1) (fixOf (fixesAt i) w c))

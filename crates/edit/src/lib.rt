@@ -9,9 +9,9 @@ ghost use lib.Dec.{T};
 ghost use lib.ListN.{length};
 ghost use Rattle.shape.specs.Shapes.{Good, dataCount};
 ghost use Rattle.shape.specs.Answers.{mendingNumber};
-ghost use Rattle.byte_edition.specs.Edition.{bytes};
+ghost use Rattle.byte_edition.specs.Edition.{byteEdition};
 ghost use Rattle.code.specs.Word.{isCodeword};
-ghost use Rattle.edit.specs.Service.{numberRefusal, editRefusal, editOf, editedWord, editedBuffer};
+ghost use Rattle.edit.specs.Edit.{numberRefusal, editRefusal, editOf, editedWord, editedBuffer};
 ghost use Rattle.edit.specs.Steps.{Refilled, AddedRows, correctedOf};
 
 // The refusal of a call by its shape, its length and its number: 1 to 4, 29, 5, then 30; 0 if there is none.
@@ -89,7 +89,7 @@ fn change(m: usize, w: usize, c: usize, number: usize, byte: u8, word: &mut [u8]
     requires { ⌜ c ≤ 3 ⌝ }
     requires { ⌜ length (now word) ≡ m * w ⌝ }
     requires { ⌜ number < dataCount m w c ⌝ }
-    requires { ⌜ T (isCodeword bytes m w c (now word)) ⌝ }
+    requires { ⌜ T (isCodeword byteEdition m w c (now word)) ⌝ }
     ensures { λ _. ⌜ now (word .exit) ≡ editedWord m w c (now (word .entry)) number byte ⌝ }
 {
     let v = w - c;

@@ -6,7 +6,7 @@ use Rattle.shape.specs.declared.Answer.{Answer}
 use Rattle.places.specs.Places.{extractOf}
 use Rattle.code.specs.Edition.{Edition}
 use Rattle.code.specs.Word.{Codeword}
-use Rattle.encode.specs.Service.{encodeIn, encodedBufferIn}
+use Rattle.encode.specs.Encode.{encodeIn, encodedBufferIn}
 
 -- a word is the one codeword that carries these data
 pub record Encoded (E : Edition) (m w c : ℕ) (carried word : List ℕ) : Type 0 where

@@ -17,17 +17,18 @@ use Rattle.shape.specs.RefusalsLaws.{orElse-zero}
 use Rattle.shape.specs.Shapes.{Limits, GoodIn, SoldIn, placeCount, dataCount, saleRefusalIn, bufferRefusalIn}
 use Rattle.shape.specs.Laws.{Unshaped, word-of-good, good-of-buffers, buffers-of-good, refusal-of-sold, retired-of-good, sale-unshaped}
 use Rattle.places.specs.Places.{isCheck, extractOf, placedOf, placedWordIn, checkMarks, mark}
-use Rattle.places.specs.Laws.{checks-inner, checks-last, marks-length, marks-at, marks-small, placed-length, placed-word, placed-below, extract-placed, extract-agree, agree-extract}
+use Rattle.places.specs.Laws.{checks-inner, checks-last, marks-length, marks-at, marks-small, placed-length, placed-word, placed-below, extract-placed}
+use Rattle.places.specs.Laws.{extract-agree, agree-extract}
 use Rattle.marks.specs.RefusalLaws.{marks-of-good}
 use Rattle.code.specs.Edition.{Edition, Sound}
 use Rattle.code.specs.Word.{Symbols, Codeword}
 use Rattle.code.specs.Marks.{lost, lostIn, excess}
-use Rattle.code.specs.Answer.{Outcome, written}
+use Rattle.code.specs.Outcome.{Outcome, written}
 use Rattle.code.specs.Recovery.{Agrees, recovered}
 use Rattle.code.specs.RecoveryLaws.{recovered-done, only-one}
 use Rattle.code.specs.EncodingLaws.{carried, carried-agrees}
-use Rattle.recover.specs.Service.{unlessBefore, recoverRefusalIn, recoverIn}
-use Rattle.encode.specs.Service.{encodedIn, encodeRefusalIn, encodeIn, encodedBufferIn, encodeRefusal}
+use Rattle.recover.specs.Recover.{unlessBefore, recoverRefusalIn, recoverIn}
+use Rattle.encode.specs.Encode.{encodedIn, encodeRefusalIn, encodeIn, encodedBufferIn, encodeRefusal}
 use Rattle.encode.specs.DemandTwo.{Encoded, DemandTwo, Retired}
 
 module _ {E : Edition} (S : Sound E) {m w c : ℕ} (good : GoodIn (E .limits) m w c) where
@@ -102,7 +103,11 @@ module _ {E : Edition} (S : Sound E) {m w c : ℕ} (good : GoodIn (E .limits) m 
       only = λ y C d.
           only-one E S m w c few wide narrow (placedOf m w c carries) (checkMarks m w c) symbols (let e = two in omega arith)
           y (encodedIn E m w c carries)
-          (record { codeword = C; agree = λ p l e. agree-extract m w c y (placedOf m w c carries) (d ∙ sym (extract-placed good carries size)) p l (sym (lost-check p l) ∙ e) })
+          (record {
+            codeword = C;
+            agree = λ p l e. agree-extract m w c y (placedOf m w c carries) (d ∙ sym (extract-placed good carries size)) p l
+                (sym (lost-check p l) ∙ e);
+          })
           agrees;
     }
 
@@ -122,13 +127,15 @@ module _ {E : Edition} (S : Sound E) {m w c : ℕ} (good : GoodIn (E .limits) m 
     pub checks-recovered : (recoverIn E m w c (placedOf m w c carries) (checkMarks m w c)) .number ≡ 0
     unfolding recoverIn
     checks-recovered =
-        ap (λ r. (unlessBefore r (recovered E m w c (placedOf m w c carries) (checkMarks m w c)) (placedOf m w c carries) (checkMarks m w c)) .number) not-refused
+        ap (λ r. (unlessBefore r (recovered E m w c (placedOf m w c carries) (checkMarks m w c)) (placedOf m w c carries) (checkMarks m w c)) .number)
+        not-refused
         ∙ ap (λ (o : Outcome). o .number) (recovered-done E S m w c few wide narrow (placedOf m w c carries) (checkMarks m w c) symbols agreeing
         (let e = two in omega arith) agreeing-agrees)
 
     pub recovered-checks : (recoverIn E m w c (placedOf m w c carries) (checkMarks m w c)) .word ≡ encodedIn E m w c carries
     unfolding recoverIn encodedIn
-    recovered-checks = ap (λ r. (unlessBefore r (recovered E m w c (placedOf m w c carries) (checkMarks m w c)) (placedOf m w c carries) (checkMarks m w c)) .word) not-refused
+    recovered-checks = ap (λ r. (unlessBefore r (recovered E m w c (placedOf m w c carries) (checkMarks m w c)) (placedOf m w c carries)
+        (checkMarks m w c)) .word) not-refused
 
 -- the refusals
 module _ {L : Limits} (m w c n k : ℕ) where
@@ -179,7 +186,8 @@ module _ (E : Edition) (m w c : ℕ) (carries word after : List ℕ) (accepted :
   pub after-size : length after ≡ m * w
   after-size = ap length put-is ∙ placed-length m w c carries
 
-  pub buffer-end : Sound E → ((i : ℕ) → getD carries i 0 < 2 ^ E .bits) → (end : List ℕ) → end ≡ (recoverIn E m w c after (checkMarks m w c)) .word → end ≡ encodedBufferIn E m w c carries word
+  pub buffer-end : Sound E → ((i : ℕ) → getD carries i 0 < 2 ^ E .bits) → (end : List ℕ) → end ≡ (recoverIn E m w c after (checkMarks m w c)) .word → end
+      ≡ encodedBufferIn E m w c carries word
   unfolding encodedBufferIn
   buffer-end S small end e =
       e ∙ ap (λ u. (recoverIn E m w c u (checkMarks m w c)) .word) put-is ∙ recovered-checks S (G .0) carries (G .2) small

@@ -1,3 +1,3 @@
-pub mod Service
+pub mod Encode
 pub mod DemandTwo
 pub mod Laws

@@ -5,8 +5,8 @@ ghost use lib.ListN.{length};
 ghost use Rattle.shape.specs.Shapes.{Good, placeCount};
 ghost use Rattle.shape.specs.Answers.{answerNumber};
 ghost use Rattle.places.specs.Places.{checkMarks};
-ghost use Rattle.recover.specs.Service.{recoverOf};
-ghost use Rattle.encode.specs.Service.{encodeRefusal, encodeOf, encodedBuffer};
+ghost use Rattle.recover.specs.Recover.{recoverOf};
+ghost use Rattle.encode.specs.Encode.{encodeRefusal, encodeOf, encodedBuffer};
 
 // The refusal of a call by its shape and its lengths: 1 to 4, 29, then 5; 0 if there is none.
 fn refusal(m: usize, w: usize, c: usize, word: usize, bytes: usize) -> u8

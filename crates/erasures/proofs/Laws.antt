@@ -9,46 +9,49 @@ use lib.ListN.{length, getD, take, drop, set, drop-of-length-le}
 use lib.Seq.{drop-cons, take-suc, take-suc-set, drop-set-lt, take-all, drop-drop}
 use borrow.Author.Tests.{eq-eqb, ne-eqb}
 use Rattle.code.specs.Stretch.{stretch, withStretch}
-use Rattle.erasures.specs.Kept.{keptOf}
-use Rattle.erasures.specs.Whole.{KeptUpTo}
+use Rattle.erasures.specs.Bound.{boundOf}
+use Rattle.erasures.specs.Whole.{BoundUpTo}
 use Rattle.erasures.specs.WholeLaws.{upto-more}
 
 module _ (xs : List ℕ) (i : ℕ) (h : i < length xs) where
-  pub pass-step : (d : ℕ) → (getD xs i 0 ≡ 1 → ⊥) → take (i + 1) xs ++ keptOf d (drop (i + 1) xs) ≡ take i xs ++ keptOf d (drop i xs)
-  unfolding keptOf
+  pub pass-step : (d : ℕ) → (getD xs i 0 ≡ 1 → ⊥) → take (i + 1) xs ++ boundOf d (drop (i + 1) xs) ≡ take i xs ++ boundOf d (drop i xs)
+  unfolding boundOf
   pass-step d n =
       let z : d - 0 ≡ d = omega arith in
       rw (add-one, take-suc xs i 0, drop-cons xs i 0, ne-eqb (getD xs i 0) 1 n, z, append-assoc)
 
-  pub keep-step : (c k : ℕ) → getD xs i 0 ≡ 1 → k < c → take (i + 1) xs ++ keptOf (c - (k + 1)) (drop (i + 1) xs) ≡ take i xs ++ keptOf (c - k) (drop i xs)
-  unfolding keptOf
-  keep-step c k e l =
+  pub clear-free-step : (c k : ℕ) → getD xs i 0 ≡ 1 → k < c → take (i + 1) xs ++ boundOf (c - (k + 1)) (drop (i + 1) xs)
+      ≡ take i xs ++ boundOf (c - k) (drop i xs)
+  unfolding boundOf
+  clear-free-step c k e l =
       let d : c - k ≡ suc (c - (k + 1)) = omega arith in
       let z : suc (c - (k + 1)) - 1 ≡ c - (k + 1) = omega arith in
       rw (d, add-one i, take-suc xs i 0, drop-cons xs i 0, eq-eqb (getD xs i 0) 1 e, z, append-assoc)
 
-  pub clear-step : (c k : ℕ) → getD xs i 0 ≡ 1 → c ≤ k → take (i + 1) (set xs i 0) ++ keptOf (c - k) (drop (i + 1) (set xs i 0)) ≡ take i xs ++ keptOf (c - k) (drop i xs)
-  unfolding keptOf
+  pub clear-step : (c k : ℕ) → getD xs i 0 ≡ 1 → c ≤ k → take (i + 1) (set xs i 0) ++ boundOf (c - k) (drop (i + 1) (set xs i 0))
+      ≡ take i xs ++ boundOf (c - k) (drop i xs)
+  unfolding boundOf
   clear-step c k e l =
       let d : c - k ≡ 0 = omega arith in
       let s : i < suc i = omega arith in
       rw (d, add-one i, take-suc-set, drop-set-lt, drop-cons xs i 0, eq-eqb (getD xs i 0) 1 e, append-assoc)
 
-pub kept-end : (xs : List ℕ) (i d : ℕ) → length xs ≤ i → take i xs ++ keptOf d (drop i xs) ≡ xs
-unfolding keptOf
-kept-end xs i d h = rw (drop-of-length-le xs, take-all, append-nil)
+pub bound-end : (xs : List ℕ) (i d : ℕ) → length xs ≤ i → take i xs ++ boundOf d (drop i xs) ≡ xs
+unfolding boundOf
+bound-end xs i d h = rw (drop-of-length-le xs, take-all, append-nil)
 
 -- a group ends within the word
 pub room : (g w m : ℕ) → g < m → g * w + w ≤ m * w
 room g w m l = let z : suc g * w ≤ m * w = mul-le-mul-right w l in omega (arith, suc-mul g w)
 
 -- the group's part is lent as k = w places and comes back as ys
-module _ (m g w c k : ℕ) (marks held ys : List ℕ) (e : k ≡ w) (y : ys ≡ keptOf c (take k (drop (g * w) held))) where
-  put-back : take (g * w) held ++ (ys ++ drop k (drop (g * w) held)) ≡ withStretch w g held (keptOf c (stretch w g held))
+module _ (m g w c k : ℕ) (marks held ys : List ℕ) (e : k ≡ w) (y : ys ≡ boundOf c (take k (drop (g * w) held))) where
+  put-back : take (g * w) held ++ (ys ++ drop k (drop (g * w) held)) ≡ withStretch w g held (boundOf c (stretch w g held))
   unfolding withStretch stretch
   put-back = rw (y, e, drop-drop, suc-mul)
 
-  pub group-step : length marks ≡ m * w → g < m → KeptUpTo g w c marks held → KeptUpTo (g + 1) w c marks (take (g * w) held ++ (ys ++ drop k (drop (g * w) held)))
+  pub group-step : length marks ≡ m * w → g < m → BoundUpTo g w c marks held
+      → BoundUpTo (g + 1) w c marks (take (g * w) held ++ (ys ++ drop k (drop (g * w) held)))
   group-step n l K =
       let f : suc g * w ≤ length marks = subst (λ n. suc g * w ≤ n) (sym n) (mul-le-mul-right w l) in
       rw (put-back, add-one) (upto-more g w c marks held f K)

@@ -6,7 +6,7 @@ use Prim.Native.Nat.{ℕ, zero, suc, _+_, _-_, _≤_, _<_}
 use native.Mathlib.Omega.{arith}
 use native.Mathlib.Decide.{ℕ-discrete}
 use lib.ListN.{length}
-use Rattle.erasures.specs.Kept.{free}
+use Rattle.erasures.specs.Bound.{free}
 use Rattle.erasures.specs.Places.{NextFree}
 use Rattle.erasures.specs.FirstTwo.{consIf, firstTwo}
 
@@ -15,9 +15,9 @@ unfoldable pub placesFrom : (ℕ → Bool) → ℕ → ℕ → List ℕ
 placesFrom f zero start = []
 placesFrom f (suc n) start = consIf (f start) start (placesFrom f n (suc start))
 
--- the places that are lost and not kept
+-- the places that are lost and not bound
 abbrev pub freePlaces : List ℕ → List ℕ → List ℕ
-freePlaces marks kept = placesFrom (free marks kept) (length marks) 0
+freePlaces marks bound = placesFrom (free marks bound) (length marks) 0
 
 module _ (f : ℕ → Bool) where
   none-from : (n s r : ℕ) → s + n ≤ r → ((p : ℕ) → p < r → s ≤ p → f p ≡ false) → placesFrom f n s ≡ []
@@ -44,24 +44,24 @@ module _ (f : ℕ → Bool) where
         ∙ ap (λ m. r ∷ placesFrom f m (r + 1)) (sym e))
   ]
 
-module _ (marks kept : List ℕ) (first : ℕ) (N : NextFree marks kept 0 first) where
-  pub two-none : length marks ≤ first → record { count = 0; first = 0; second = 0 } ≡ firstTwo (freePlaces marks kept)
-  two-none h = ap firstTwo (sym (none-from (free marks kept) (length marks) 0 first (omega arith) (N .passed)))
+module _ (marks bound : List ℕ) (first : ℕ) (N : NextFree marks bound 0 first) where
+  pub two-none : length marks ≤ first → record { count = 0; first = 0; second = 0 } ≡ firstTwo (freePlaces marks bound)
+  two-none h = ap firstTwo (sym (none-from (free marks bound) (length marks) 0 first (omega arith) (N .passed)))
 
-  module _ (inside : first < length marks) (second : ℕ) (M : NextFree marks kept (first + 1) second) where
+  module _ (inside : first < length marks) (second : ℕ) (M : NextFree marks bound (first + 1) second) where
     rest : List ℕ
-    rest = placesFrom (free marks kept) (0 + length marks - (first + 1)) (first + 1)
+    rest = placesFrom (free marks bound) (0 + length marks - (first + 1)) (first + 1)
 
-    start : freePlaces marks kept ≡ first ∷ rest
+    start : freePlaces marks bound ≡ first ∷ rest
     unfolding rest
-    start = next-from (free marks kept) (length marks) 0 first (omega arith) (omega arith) (N .passed) (N .found inside)
+    start = next-from (free marks bound) (length marks) 0 first (omega arith) (omega arith) (N .passed) (N .found inside)
 
-    pub two-one : length marks ≤ second → record { count = 1; first = first; second = 0 } ≡ firstTwo (freePlaces marks kept)
+    pub two-one : length marks ≤ second → record { count = 1; first = first; second = 0 } ≡ firstTwo (freePlaces marks bound)
     unfolding rest
     two-one h =
-        sym (ap firstTwo (start ∙ ap (λ ps. first ∷ ps) (none-from (free marks kept) _ (first + 1) second (omega arith) (M .passed))))
+        sym (ap firstTwo (start ∙ ap (λ ps. first ∷ ps) (none-from (free marks bound) _ (first + 1) second (omega arith) (M .passed))))
 
-    pub two-two : second < length marks → record { count = 2; first = first; second = second } ≡ firstTwo (freePlaces marks kept)
+    pub two-two : second < length marks → record { count = 2; first = first; second = second } ≡ firstTwo (freePlaces marks bound)
     unfolding rest
     two-two h =
-        sym (ap firstTwo (start ∙ ap (λ ps. first ∷ ps) (next-from (free marks kept) _ (first + 1) second (M .on) (omega arith) (M .passed) (M .found h))))
+        sym (ap firstTwo (start ∙ ap (λ ps. first ∷ ps) (next-from (free marks bound) _ (first + 1) second (M .on) (omega arith) (M .passed) (M .found h))))

@@ -1,5 +1,5 @@
-pub mod Kept
-pub mod KeptLaws
+pub mod Bound
+pub mod BoundLaws
 pub mod Whole
 pub mod WholeLaws
 pub mod Places

@@ -14,12 +14,12 @@ use Rattle.counting.specs.CountLaws.{total-ext, total-sum, total-rows}
 use Rattle.code.specs.Marks.{lost, lostIn, excess}
 use Rattle.code.specs.Stretch.{stretch, withStretch}
 use Rattle.code.specs.StretchLaws.{stretch-at, stretch-length, stretch-count, with-length, with-inside, with-before, with-after}
-use Rattle.erasures.specs.Kept.{free, keptOf}
-use Rattle.erasures.specs.KeptLaws.{kept-length, kept-present, kept-count, kept-full}
-use Rattle.erasures.specs.Whole.{keptGroups, KeptAll, KeptUpTo}
+use Rattle.erasures.specs.Bound.{free, boundOf}
+use Rattle.erasures.specs.BoundLaws.{bound-length, bound-present, bound-count, bound-full}
+use Rattle.erasures.specs.Whole.{boundGroups, BoundAll, BoundUpTo}
 
-pub upto-none : (w c : ℕ) (marks : List ℕ) → KeptUpTo 0 w c marks marks
-unfolding keptGroups
+pub upto-none : (w c : ℕ) (marks : List ℕ) → BoundUpTo 0 w c marks marks
+unfolding boundGroups
 upto-none w c marks = record { size = refl; done = λ h l. absurd (omega arith); rest = λ p l. refl; equal = refl }
 
 -- two lists that are the same on a group
@@ -31,16 +31,16 @@ same-stretch w g xs ys a b e =
     let k : j < w = subst (λ n. j < n) (stretch-length w g xs a) l in
     stretch-at w g xs j k ∙ e j k ∙ sym (stretch-at w g ys j k))
 
-module _ (g w c : ℕ) (marks held : List ℕ) (fits : suc g * w ≤ length marks) (K : KeptUpTo g w c marks held) where
+module _ (g w c : ℕ) (marks held : List ℕ) (fits : suc g * w ≤ length marks) (K : BoundUpTo g w c marks held) where
   room : suc g * w ≤ length held
   room = subst (λ n. suc g * w ≤ n) (sym (K .size)) fits
 
   part : List ℕ
-  part = keptOf c (stretch w g held)
+  part = boundOf c (stretch w g held)
 
   part-size : length part ≡ w
   unfolding part
-  part-size = kept-length c (stretch w g held) ∙ stretch-length w g held room
+  part-size = bound-length c (stretch w g held) ∙ stretch-length w g held room
 
   after : List ℕ
   after = withStretch w g held part
@@ -49,10 +49,10 @@ module _ (g w c : ℕ) (marks held : List ℕ) (fits : suc g * w ≤ length mark
   unfolding after
   after-size = with-length w g held room part part-size
 
-  as-before : keptOf c (stretch w g held) ≡ keptOf c (stretch w g marks)
-  as-before = ap (keptOf c) (same-stretch w g held marks room fits (λ j k. K .rest (g * w + j) (omega arith)))
+  as-before : boundOf c (stretch w g held) ≡ boundOf c (stretch w g marks)
+  as-before = ap (boundOf c) (same-stretch w g held marks room fits (λ j k. K .rest (g * w + j) (omega arith)))
 
-  own : stretch w g after ≡ keptOf c (stretch w g marks)
+  own : stretch w g after ≡ boundOf c (stretch w g marks)
   unfolding after part
   own =
       ext-getD 0 (stretch w g after) part (stretch-length w g after long ∙ sym part-size)
@@ -75,67 +75,67 @@ module _ (g w c : ℕ) (marks held : List ℕ) (fits : suc g * w ≤ length mark
       same-stretch w h after held (omega arith) (omega arith) (λ j k. with-before w g held room part part-size (h * w + j) (omega arith))
 
   -- one group more
-  pub upto-more : KeptUpTo (suc g) w c marks (withStretch w g held (keptOf c (stretch w g held)))
-  unfolding after part keptGroups
+  pub upto-more : BoundUpTo (suc g) w c marks (withStretch w g held (boundOf c (stretch w g held)))
+  unfolding after part boundGroups
   upto-more = record {
     size = after-size ∙ K .size;
     done = λ h l. elim (decLt h g) [
       | yes k ↦ earlier h k ∙ K .done h k
-      | no k ↦ (let e : h ≡ g = omega arith in subst (λ n. stretch w n after ≡ keptOf c (stretch w n marks)) (sym e) own)
+      | no k ↦ (let e : h ≡ g = omega arith in subst (λ n. stretch w n after ≡ boundOf c (stretch w n marks)) (sym e) own)
     ];
     rest = λ p l. with-after w g held room part part-size p l ∙ K .rest p (let e = suc-mul g w in omega arith);
     equal = ap₂ (withStretch w g) (K .equal) as-before;
   }
 
-module _ (m w c : ℕ) (marks kept : List ℕ) (long : length marks ≡ m * w) (K : KeptUpTo m w c marks kept) where
+module _ (m w c : ℕ) (marks bound : List ℕ) (long : length marks ≡ m * w) (K : BoundUpTo m w c marks bound) where
   inside : (g : ℕ) → g < m → length (stretch w g marks) ≡ w
   inside g l = stretch-length w g marks (subst (λ n. suc g * w ≤ n) (sym long) (mul-le-mul-right w l))
 
   lost-marks : (g j : ℕ) → j < w → lost (stretch w g marks) j ≡ lost marks (g * w + j)
   lost-marks g j k = ap (λ b. eqb b 1) (stretch-at w g marks j k)
 
-  lost-kept : (g j : ℕ) → g < m → j < w → lost (keptOf c (stretch w g marks)) j ≡ lost kept (g * w + j)
-  lost-kept g j l k = ap (λ s. lost s j) (sym (K .done g l)) ∙ ap (λ b. eqb b 1) (stretch-at w g kept j k)
+  lost-bound : (g j : ℕ) → g < m → j < w → lost (boundOf c (stretch w g marks)) j ≡ lost bound (g * w + j)
+  lost-bound g j l k = ap (λ s. lost s j) (sym (K .done g l)) ∙ ap (λ b. eqb b 1) (stretch-at w g bound j k)
 
-  present : (g j : ℕ) → g < m → j < w → lost marks (g * w + j) ≡ false → lost kept (g * w + j) ≡ false
-  present g j l k e = sym (lost-kept g j l k) ∙ kept-present c (stretch w g marks) j (lost-marks g j k ∙ e)
+  present : (g j : ℕ) → g < m → j < w → lost marks (g * w + j) ≡ false → lost bound (g * w + j) ≡ false
+  present g j l k e = sym (lost-bound g j l k) ∙ bound-present c (stretch w g marks) j (lost-marks g j k ∙ e)
 
-  count-of : (g : ℕ) → g < m → lostIn w kept g ≡ lostIn (length (stretch w g marks)) (keptOf c (stretch w g marks)) 0
+  count-of : (g : ℕ) → g < m → lostIn w bound g ≡ lostIn (length (stretch w g marks)) (boundOf c (stretch w g marks)) 0
   count-of g l =
-      sym (stretch-count w g kept) ∙ ap (λ s. lostIn w s 0) (K .done g l) ∙ ap (λ n. lostIn n (keptOf c (stretch w g marks)) 0) (sym (inside g l))
+      sym (stretch-count w g bound) ∙ ap (λ s. lostIn w s 0) (K .done g l) ∙ ap (λ n. lostIn n (boundOf c (stretch w g marks)) 0) (sym (inside g l))
 
-  few : (g : ℕ) → g < m → lostIn w kept g ≡ min c (lostIn w marks g)
+  few : (g : ℕ) → g < m → lostIn w bound g ≡ min c (lostIn w marks g)
   few g l =
-      count-of g l ∙ kept-count c (stretch w g marks)
+      count-of g l ∙ bound-count c (stretch w g marks)
       ∙ ap (min c) (ap (λ n. lostIn n (stretch w g marks) 0) (inside g l) ∙ stretch-count w g marks)
 
-  -- a place is lost as it is kept or free
+  -- a place is lost as it is bound or free
   split : (a b : Bool) → (a ≡ false → b ≡ false) → one (a && not b) + one b ≡ one a
   split true true h = refl
   split true false h = refl
   split false true h = let z = ap one (h refl) in absurd (omega arith)
   split false false h = refl
 
-  free-in : (g : ℕ) → g < m → countBelow w (λ j. free marks kept (g * w + j)) ≡ lostIn w marks g - c
+  free-in : (g : ℕ) → g < m → countBelow w (λ j. free marks bound (g * w + j)) ≡ lostIn w marks g - c
   unfolding lostIn
   free-in g l =
-      let s = total-sum w (λ j. one (free marks kept (g * w + j))) (λ j. one (lost kept (g * w + j))) in
-      let t = total-ext w _ (λ j. one (lost marks (g * w + j))) (λ j k. split (lost marks (g * w + j)) (lost kept (g * w + j)) (present g j l k)) in
+      let s = total-sum w (λ j. one (free marks bound (g * w + j))) (λ j. one (lost bound (g * w + j))) in
+      let t = total-ext w _ (λ j. one (lost marks (g * w + j))) (λ j k. split (lost marks (g * w + j)) (lost bound (g * w + j)) (present g j l k)) in
       let f = few g l in
       omega arith
 
-  pub kept-all : KeptAll m w c marks kept
+  pub bound-all : BoundAll m w c marks bound
   unfolding excess
-  kept-all = record {
+  bound-all = record {
     size = K .size;
-    kept-lost = λ p l e.
+    bound-lost = λ p l e.
         let z : 0 < w = wide p l in
         let d = div-add-mod' p w in
         let k = div-lt-iff-lt-mul z .1 l in
-        subst (λ n. lost kept n ≡ false) d (present (p / w) (p % w) k (mod-lt p z) (subst (λ n. lost marks n ≡ false) (sym d) e));
-    kept-few = λ g l. subst (λ n. n ≤ c) (sym (few g l)) (min-le-left c (lostIn w marks g));
-    kept-full = λ g j l k e f. count-of g l ∙ kept-full c (stretch w g marks) j (lost-marks g j k ∙ e) (lost-kept g j l k ∙ f);
-    free-count = total-rows m w (λ p. one (free marks kept p)) ∙ total-ext m _ _ free-in;
+        subst (λ n. lost bound n ≡ false) d (present (p / w) (p % w) k (mod-lt p z) (subst (λ n. lost marks n ≡ false) (sym d) e));
+    bound-few = λ g l. subst (λ n. n ≤ c) (sym (few g l)) (min-le-left c (lostIn w marks g));
+    bound-full = λ g j l k e f. count-of g l ∙ bound-full c (stretch w g marks) j (lost-marks g j k ∙ e) (lost-bound g j l k ∙ f);
+    free-count = total-rows m w (λ p. one (free marks bound p)) ∙ total-ext m _ _ free-in;
   }
     where
       wide : (p : ℕ) → p < m * w → 0 < w

@@ -1,10 +1,10 @@
-// The lost places of a word: in each group the first c are kept for the group's own equations, the others are free.
+// The lost places of a word: in each group the first c are bound for the group's own equations, the others are free.
 ghost use mathlib.Core.Path.{_≡_};
 ghost use Prim.Native.Nat.{_*_};
 ghost use lib.ListN.{length, getD};
 ghost use Rattle.shape.specs.Shapes.{Good};
-ghost use Rattle.erasures.specs.Kept.{free, keptOf};
-ghost use Rattle.erasures.specs.Whole.{keptGroups, KeptAll};
+ghost use Rattle.erasures.specs.Bound.{free, boundOf};
+ghost use Rattle.erasures.specs.Whole.{boundGroups, BoundAll};
 ghost use Rattle.erasures.specs.Places.{FreePlaces, NextFree};
 ghost use Rattle.erasures.specs.FirstTwo.{firstTwo};
 ghost use Rattle.erasures.specs.FirstTwoLaws.{freePlaces};
@@ -17,15 +17,15 @@ pub struct Free {
 }
 
 // Clears the marks of the lost places after the first c.
-pub fn keep_part(part: &mut [u8], c: usize)
-    ensures { λ _. ⌜ now (part .exit) ≡ keptOf c (now (part .entry)) ⌝ }
+pub fn clear_free_part(part: &mut [u8], c: usize)
+    ensures { λ _. ⌜ now (part .exit) ≡ boundOf c (now (part .entry)) ⌝ }
 {
-    let mut kept: usize = 0;
+    let mut bound: usize = 0;
     let mut i: usize = 0;
     while i < part.len() {
         if part[i] == 1 {
-            if kept < c {
-                kept += 1;
+            if bound < c {
+                bound += 1;
             } else {
                 part[i] = 0;
             }
@@ -35,10 +35,10 @@ pub fn keep_part(part: &mut [u8], c: usize)
 }
 
 // Clears the marks of the free places of every group. A shape that is not good, or marks of another length, are left as they are.
-pub fn keep(m: usize, w: usize, c: usize, marks: &mut [u8])
-    ensures kept { λ _. ⌜ (Good m w c → length (now (marks .entry)) ≡ m * w → KeptAll m w c (now (marks .entry)) (now (marks .exit))) ⌝ }
+pub fn clear_free(m: usize, w: usize, c: usize, marks: &mut [u8])
+    ensures bound { λ _. ⌜ (Good m w c → length (now (marks .entry)) ≡ m * w → BoundAll m w c (now (marks .entry)) (now (marks .exit))) ⌝ }
     ensures size { λ _. ⌜ length (now (marks .exit)) ≡ length (now (marks .entry)) ⌝ }
-    ensures equal { λ _. ⌜ (Good m w c → length (now (marks .entry)) ≡ m * w → now (marks .exit) ≡ keptGroups m w c (now (marks .entry))) ⌝ }
+    ensures equal { λ _. ⌜ (Good m w c → length (now (marks .entry)) ≡ m * w → now (marks .exit) ≡ boundGroups m w c (now (marks .entry))) ⌝ }
     ensures other { λ _. ⌜ ((Good m w c → length (now (marks .entry)) ≡ m * w → ⊥) → now (marks .exit) ≡ now (marks .entry)) ⌝ }
 {
     if shape::word_refusal(m, w, c, marks.len()) != 0 {
@@ -49,7 +49,7 @@ pub fn keep(m: usize, w: usize, c: usize, marks: &mut [u8])
     while g <= last {
         let a = g * w;
         let e = a + w;
-        keep_part(&mut marks[a..e], c);
+        clear_free_part(&mut marks[a..e], c);
         g += 1;
     }
 }
@@ -61,23 +61,23 @@ fn mark_at(marks: &[u8], p: usize) -> u8
     if p < marks.len() { marks[p] } else { 0 }
 }
 
-fn is_free(marks: &[u8], kept: &[u8], p: usize) -> bool
-    ensures { λ r. ⌜ r ≡ free (now (marks .entry)) (now (kept .entry)) p ⌝ }
+fn is_free(marks: &[u8], bound: &[u8], p: usize) -> bool
+    ensures { λ r. ⌜ r ≡ free (now (marks .entry)) (now (bound .entry)) p ⌝ }
 {
     if mark_at(marks, p) == 1 {
-        mark_at(kept, p) != 1
+        mark_at(bound, p) != 1
     } else {
         false
     }
 }
 
 // The first free place from start on; a number past the last place if there is none.
-fn next_free(marks: &[u8], kept: &[u8], start: usize) -> usize
-    ensures { λ r. ⌜ NextFree (now (marks .entry)) (now (kept .entry)) start r ⌝ }
+fn next_free(marks: &[u8], bound: &[u8], start: usize) -> usize
+    ensures { λ r. ⌜ NextFree (now (marks .entry)) (now (bound .entry)) start r ⌝ }
 {
     let mut i = start;
     while i < marks.len() {
-        if is_free(marks, kept, i) {
+        if is_free(marks, bound, i) {
             return i;
         }
         i += 1;
@@ -85,12 +85,12 @@ fn next_free(marks: &[u8], kept: &[u8], start: usize) -> usize
     i
 }
 
-// The first two free places. Past its end kept counts as not lost.
-pub fn free_places(marks: &[u8], kept: &[u8]) -> Free
-    ensures { λ r. ⌜ FreePlaces (now (marks .entry)) (now (kept .entry)) (r .count) (r .first) (r .second) ⌝ }
-    ensures { λ r. ⌜ r ≡ firstTwo (freePlaces (now (marks .entry)) (now (kept .entry))) ⌝ }
+// The first two free places. Past its end bound counts as not lost.
+pub fn free_places(marks: &[u8], bound: &[u8]) -> Free
+    ensures { λ r. ⌜ FreePlaces (now (marks .entry)) (now (bound .entry)) (r .count) (r .first) (r .second) ⌝ }
+    ensures { λ r. ⌜ r ≡ firstTwo (freePlaces (now (marks .entry)) (now (bound .entry))) ⌝ }
 {
-    let first = next_free(marks, kept, 0);
+    let first = next_free(marks, bound, 0);
     if marks.len() <= first {
         return Free {
             count: 0,
@@ -99,7 +99,7 @@ pub fn free_places(marks: &[u8], kept: &[u8]) -> Free
         };
     }
     let after = first + 1;
-    let second = next_free(marks, kept, after);
+    let second = next_free(marks, bound, after);
     if marks.len() <= second {
         return Free {
             count: 1,

@@ -4,11 +4,11 @@ use mathlib.Core.Logic.{_↔_}
 use mathlib.Core.List.{List}
 use Prim.Native.Nat.{ℕ}
 use Rattle.code.specs.Word.{Codeword}
-use Rattle.recover.specs.Service.{recoverOf}
-use Rattle.byte_edition.specs.Edition.{bytes}
+use Rattle.recover.specs.Recover.{recoverOf}
+use Rattle.byte_edition.specs.Edition.{byteEdition}
 use Rattle.recover.specs.DemandTwo.{Named}
 use Rattle.word_check.specs.declared.Checked.{Checked}
-use Rattle.word_check.specs.Answer.{checkedOf}
+use Rattle.word_check.specs.Checked.{checkedOf}
 use Rattle.stream.specs.NoneLost.{noneLost}
 use Rattle.desk_serve.specs.Serve.{Serving}
 
@@ -18,7 +18,7 @@ pub record CheckedAsRecovered (m w c : ℕ) (word : List ℕ) : Type 0 where
   pub no : (g : ℕ) → (checkedOf m w c word ≡ Checked.Other g)
       ↔ (((recoverOf m w c word (noneLost word)) .number ≡ 9) × ((recoverOf m w c word (noneLost word)) .group ≡ g))
   -- "the lowest group whose present bytes no filling can satisfy locally, or m"
-  pub named : (g : ℕ) → checkedOf m w c word ≡ Checked.Other g → Named bytes m w c word (noneLost word) g
+  pub named : (g : ℕ) → checkedOf m w c word ≡ Checked.Other g → Named byteEdition m w c word (noneLost word) g
 
 -- Two serves under one handle end alike: the same number, the same group, the same desk and, where the number is 0, the same word.
 pub record SameServing (a b : Serving) : Type 0 where

@@ -11,21 +11,21 @@ use Rattle.shape.specs.Refusals.{refuse, _orElse_}
 use Rattle.shape.specs.RefusalsLaws.{orElse-zero}
 use Rattle.shape.specs.Shapes.{byteLimits, Good, placeCount}
 use Rattle.shape.specs.Laws.{word-of-good}
-use Rattle.byte_edition.specs.Edition.{bytes}
+use Rattle.byte_edition.specs.Edition.{byteEdition}
 use Rattle.byte_edition.specs.EditionLaws.{bytes-sound}
 use Rattle.code.specs.Word.{isCodeword, Symbols, Codeword}
 use Rattle.code.specs.Marks.{Agree}
-use Rattle.code.specs.Answer.{SameEnd}
+use Rattle.code.specs.Outcome.{SameEnd}
 use Rattle.marks.specs.Refusal.{Marked}
 use Rattle.marks.specs.RefusalLaws.{marks-of-good}
-use Rattle.judge.specs.Answer.{judgedNumberOf}
+use Rattle.judge.specs.Judgement.{judgedNumberOf}
 use Rattle.judge.specs.Laws.{eight-excess}
-use Rattle.recover.specs.Service.{recoverOf}
+use Rattle.recover.specs.Recover.{recoverOf}
 use Rattle.recover.specs.AttemptLaws.{accepted, eight-exactly}
 use Rattle.recover.specs.DemandTwo.{Named}
 use Rattle.recover.specs.DemandTwoLaws.{good-start, demand-two, lost-bytes}
 use Rattle.word_check.specs.declared.Checked.{Checked}
-use Rattle.word_check.specs.Answer.{wholeGroup, checkedIn, checkedOf}
+use Rattle.word_check.specs.Checked.{wholeGroup, checkedIn, checkedOf}
 use Rattle.word_check.specs.Laws.{yes-exactly}
 use Rattle.stream.specs.NoneLost.{noneLost}
 use Rattle.stream.specs.NoneLostLaws.{none-marked, codeword-stays, other-nine}
@@ -46,11 +46,11 @@ recover-as-judge m w c word marks good size small marks-size each =
     let J = eight-excess byteLimits m w c marks (marks-of-good m w c marks M) in
     ((λ e. J .1 (R .0 e)), (λ e. R .1 (J .0 e)))
 
-module _ (m w c : ℕ) (word : List ℕ) (good : Good m w c) (s : Symbols bytes (m * w) word) where
+module _ (m w c : ℕ) (word : List ℕ) (good : Good m w c) (s : Symbols byteEdition (m * w) word) where
   -- of a codeword
-  checked-yes : Codeword bytes m w c word → CheckedAsRecovered m w c word
+  checked-yes : Codeword byteEdition m w c word → CheckedAsRecovered m w c word
   checked-yes C =
-      let k = yes-exactly bytes m w c word good s .1 C in
+      let k = yes-exactly byteEdition m w c word good s .1 C in
       let r : (recoverOf m w c word (noneLost word)) .number ≡ 0 = ap (λ o. o .number) (codeword-stays good word s C) in
       record {
         yes = ((λ _. r), (λ _. k));
@@ -59,11 +59,11 @@ module _ (m w c : ℕ) (word : List ℕ) (good : Good m w c) (s : Symbols bytes 
       }
 
   -- of another word
-  checked-other : isCodeword bytes m w c word ≡ false → checkedOf m w c word ≡ Checked.Other (wholeGroup m w c word)
+  checked-other : isCodeword byteEdition m w c word ≡ false → checkedOf m w c word ≡ Checked.Other (wholeGroup m w c word)
   unfolding checkedIn
   checked-other e = rw (word-of-good m w c (length word) good (s .size), e)
 
-  checked-no : isCodeword bytes m w c word ≡ false → CheckedAsRecovered m w c word
+  checked-no : isCodeword byteEdition m w c word ≡ false → CheckedAsRecovered m w c word
   checked-no e =
       let k = checked-other e in
       let r = other-nine good word s e in
@@ -75,7 +75,7 @@ module _ (m w c : ℕ) (word : List ℕ) (good : Good m w c) (s : Symbols bytes 
       record {
         yes = ((λ q. absurd (let z : _≡_ {A = ℕ} 0 1 = cc in omega arith)), (λ q. absurd (omega arith)));
         no = λ g. ((λ q. (n, h ∙ same g q)), (λ q. k ∙ ap Checked.Other (sym h ∙ q .1)));
-        named = λ g q. subst (Named bytes m w c word (noneLost word)) (h ∙ same g q) (D .group n);
+        named = λ g q. subst (Named byteEdition m w c word (noneLost word)) (h ∙ same g q) (D .group n);
       }
     where
       otherGroup : Checked → ℕ
@@ -85,12 +85,12 @@ module _ (m w c : ℕ) (word : List ℕ) (good : Good m w c) (s : Symbols bytes 
 
 -- for a good shape and n bytes
 pub check-as-recover : (m w c : ℕ) (word : List ℕ) → Good m w c → length word ≡ m * w → ((p : ℕ) → getD word p 0 < 256) → CheckedAsRecovered m w c word
-check-as-recover m w c word good size small = go (isCodeword bytes m w c word) refl
+check-as-recover m w c word good size small = go (isCodeword byteEdition m w c word) refl
   where
-    s : Symbols bytes (m * w) word
+    s : Symbols byteEdition (m * w) word
     s = record { size = size; each = small }
 
-    go : (b : Bool) → isCodeword bytes m w c word ≡ b → CheckedAsRecovered m w c word
+    go : (b : Bool) → isCodeword byteEdition m w c word ≡ b → CheckedAsRecovered m w c word
     go true e = checked-yes m w c word good s (record { symbols = s; zero = subst T (sym e) tt })
     go false e = checked-no m w c word good s e
 
@@ -103,7 +103,7 @@ module _ (handle : ℕ) (word₁ word₂ : List ℕ) (desk : Desk) (size : lengt
 
   recovery : SameEnd (recoveryOf job word₁) (recoveryOf job word₂)
   unfolding job
-  recovery = lost-bytes bytes (job .m) (job .w) (job .c) word₁ word₂ (marksOf job) size same
+  recovery = lost-bytes byteEdition (job .m) (job .w) (job .c) word₁ word₂ (marksOf job) size same
 
   number-same : serveNumber handle word₁ desk ≡ serveNumber handle word₂ desk
   unfolding serveNumber jobNumber job

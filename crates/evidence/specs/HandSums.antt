@@ -6,10 +6,10 @@ use Rattle.binary_field.specs.Product.{product}
 use Rattle.binary_field.specs.Power.{power}
 use Rattle.shape.specs.Shapes.{describedOf, describedNumber, describedFigures}
 use Rattle.code.specs.Marks.{excess}
-use Rattle.recover.specs.Service.{recoverOf}
-use Rattle.encode.specs.Service.{encodedWord, encodedIn}
+use Rattle.recover.specs.Recover.{recoverOf}
+use Rattle.encode.specs.Encode.{encodedWord, encodedIn}
 use Rattle.wide_field.specs.Locators.{locator}
-use Rattle.wide_edition.specs.Edition.{wide}
+use Rattle.wide_edition.specs.Edition.{wideEdition}
 use Rattle.evidence.specs.WordSums.{number, outcomeList}
 
 -- in each pair the two are the same
@@ -46,4 +46,5 @@ handSums =
     (number (product 16 69643 2 32768), number 4107) ∷ (number (power 16 69643 2 257), number 5726) ∷
     (number (product 16 69643 5726 (locator 254)), number 1) ∷
     -- m 1, w 4, c 1, data 1: word 1, 20881, 23334, 2742; m 2, w 3, c 1, data 1, 1: word 1, 1, 0, 29321, 65233, 35928
-    (encodedIn wide 1 4 1 (1 ∷ []), 1 ∷ 20881 ∷ 23334 ∷ 2742 ∷ []) ∷ (encodedIn wide 2 3 1 (1 ∷ 1 ∷ []), 1 ∷ 1 ∷ 0 ∷ 29321 ∷ 65233 ∷ 35928 ∷ []) ∷ []
+    (encodedIn wideEdition 1 4 1 (1 ∷ []), 1 ∷ 20881 ∷ 23334 ∷ 2742 ∷ []) ∷ (encodedIn wideEdition 2 3 1 (1 ∷ 1 ∷ []), 1 ∷ 1 ∷ 0 ∷ 29321 ∷ 65233 ∷ 35928 ∷ []) ∷
+    []

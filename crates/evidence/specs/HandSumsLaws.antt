@@ -25,7 +25,37 @@ hand-sums = (
         refl,
         (
           refl,
-          (refl, (refl, (encoded-first, (encoded-second, (three-excess, (three-done, (three-lost, (five-excess, (five-lost, (last-byte, (refl, (at-257-number, (locator-inverse, (wide-first, (wide-second, tt))))))))))))))),
+          (
+            refl,
+            (
+              refl,
+              (
+                encoded-first,
+                (
+                  encoded-second,
+                  (
+                    three-excess,
+                    (
+                      three-done,
+                      (
+                        three-lost,
+                        (
+                          five-excess,
+                          (
+                            five-lost,
+                            (
+                              last-byte,
+                              (refl, (at-257-number, (locator-inverse, (wide-first, (wide-second, tt))))),
+                            ),
+                          ),
+                        ),
+                      ),
+                    ),
+                  ),
+                ),
+              ),
+            ),
+          ),
         ),
       ),
     ),

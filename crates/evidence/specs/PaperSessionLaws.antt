@@ -3,7 +3,7 @@ use mathlib.Core.Path.{_≡_, refl, ap, _∙_}
 use mathlib.Core.List.{List, [], _∷_}
 use Prim.Native.Nat.{ℕ}
 use Rattle.shape.specs.Shapes.{shapeRefusalIn, retiredRefusal, saleRefusalIn, wordRefusalIn, bufferRefusalIn}
-use Rattle.encode.specs.Service.{encodeRefusalIn}
+use Rattle.encode.specs.Encode.{encodeRefusalIn}
 use Rattle.text.specs.Decimal.{digitsOf, decimal, digitsAfter, numberOf}
 use Rattle.text.specs.Fields.{parts, fields, same, meaning}
 use Rattle.text.specs.Records.{nameKind, lineName, contents, allUnder, lineKind, lineBytes, lineMarks}

@@ -7,62 +7,65 @@ use lib.ListN.{length, getD}
 use Rattle.shape.specs.Shapes.{GoodIn, SoldIn, placeCount, dataCount, sureCount}
 use Rattle.marks.specs.Refusal.{marksRefusalIn}
 use Rattle.code.specs.Marks.{excess}
-use Rattle.code.specs.Answer.{SameEnd}
+use Rattle.code.specs.Outcome.{SameEnd}
 use Rattle.code.specs.Determined.{Ambiguous, Undetermined}
-use Rattle.wide_edition.specs.Edition.{wideLimits, wide}
+use Rattle.wide_edition.specs.Edition.{wideLimits, wideEdition}
 use Rattle.wide_edition.specs.EditionLaws.{wide-sound}
-use Rattle.judge.specs.Answer.{judgedNumberIn}
+use Rattle.judge.specs.Judgement.{judgedNumberIn}
 use Rattle.judge.specs.SureCount.{IsSureIn}
 use Rattle.judge.specs.Laws as JudgeLaws
 use Rattle.judge.specs.AnyTwoLaws as AnyTwoLaws
-use Rattle.recover.specs.Service.{recoverIn}
+use Rattle.recover.specs.Recover.{recoverIn}
 use Rattle.recover.specs.DemandTwo as Recover
 use Rattle.recover.specs.DemandTwoLaws as RecoverLaws
 use Rattle.repair.specs.DemandTwo as Repair
 use Rattle.repair.specs.DemandTwoLaws as RepairLaws
 use Rattle.encode.specs.DemandTwo as Encode
 use Rattle.encode.specs.Laws as EncodeLaws
-use Rattle.order.specs.Service.{recoverAfter, OrderHolds}
-use Rattle.order.specs.ServiceLaws.{order-theorem, same-recovery}
+use Rattle.order.specs.RepairOrder.{recoverAfter, OrderHolds}
+use Rattle.order.specs.RepairOrderLaws.{order-theorem, same-recovery}
 
 -- "Encoding gives the one codeword that carries the data, and the data come out again", for c up to 3
 pub encode-demand : (m w c : ℕ) (carried word : List ℕ) → SoldIn wideLimits m w c → length carried ≡ dataCount m w c → ((i : ℕ) → getD carried i 0 < 65536)
-    → length word ≡ placeCount m w → Encode.DemandTwo wide m w c carried word
+    → length word ≡ placeCount m w → Encode.DemandTwo wideEdition m w c carried word
 encode-demand m w c carried word sold size small long = EncodeLaws.demand-two wide-sound m w c carried word sold size small long
 
 -- a good shape with four checks is refused 29
-pub encode-retired : (m w c : ℕ) (carried word : List ℕ) → GoodIn wideLimits m w c → c ≡ 4 → Encode.Retired wide m w c carried word
-encode-retired m w c carried word good e = EncodeLaws.retired wide m w c carried word good e
+pub encode-retired : (m w c : ℕ) (carried word : List ℕ) → GoodIn wideLimits m w c → c ≡ 4 → Encode.Retired wideEdition m w c carried word
+encode-retired m w c carried word good e = EncodeLaws.retired wideEdition m w c carried word good e
 
 -- for a good shape, n symbols and n marks of 0 or 1
 module _ (m w c : ℕ) (word marks : List ℕ) (good : GoodIn wideLimits m w c) (size : length word ≡ m * w) (small : (p : ℕ) → getD word p 0 < 65536)
     (marks-size : length marks ≡ m * w) (each : (p : ℕ) → getD marks p 0 < 2) where
   -- Recover
-  pub recover-demand : Recover.DemandTwo wide m w c word marks
+  pub recover-demand : Recover.DemandTwo wideEdition m w c word marks
   recover-demand = RecoverLaws.demand-two wide-sound m w c word marks good size small marks-size each
 
   -- Repair
-  pub repair-demand : (g : ℕ) → g < m → Repair.DemandTwo wide m w c g word marks
+  pub repair-demand : (g : ℕ) → g < m → Repair.DemandTwo wideEdition m w c g word marks
   repair-demand g l = RepairLaws.demand-two wide-sound m w c g word marks good size small marks-size each l
 
   -- Order doesn't matter
-  pub order-demand : (list : List ℕ) → OrderHolds wide m w c list word marks
+  pub order-demand : (list : List ℕ) → OrderHolds wideEdition m w c list word marks
   order-demand list = order-theorem wide-sound m w c list word marks good size small marks-size each
 
 -- and of every call, good or bad: the recovery after a list of repairs answers as the recovery at once
-pub order-any : (m w c : ℕ) (list word marks : List ℕ) → ((p : ℕ) → getD word p 0 < 65536) → SameEnd (recoverAfter wide m w c list word marks) (recoverIn wide m w c word marks)
+pub order-any : (m w c : ℕ) (list word marks : List ℕ) → ((p : ℕ) → getD word p 0 < 65536)
+    → SameEnd (recoverAfter wideEdition m w c list word marks) (recoverIn wideEdition m w c word marks)
 order-any m w c list word marks small = same-recovery wide-sound m w c list word marks small
 
--- "0 if no two different codewords agree at all present places, else 8"; that is an excess above two
+-- for marks that Judge accepts
 module _ (m w c : ℕ) (marks : List ℕ) (accepted : marksRefusalIn wideLimits m w c marks ≡ 0) where
-  pub judge-undetermined : (judgedNumberIn wideLimits m w c marks ≡ 8) ↔ Undetermined wide m w c marks
+  -- "0 if no two different codewords agree at all present places, else 8"
+  pub judge-undetermined : (judgedNumberIn wideLimits m w c marks ≡ 8) ↔ Undetermined wideEdition m w c marks
   judge-undetermined = JudgeLaws.eight-undetermined wide-sound m w c marks accepted
 
+  -- that is an excess above two
   pub judge-excess : (judgedNumberIn wideLimits m w c marks ≡ 8) ↔ (2 < excess m w c marks)
   judge-excess = JudgeLaws.eight-excess wideLimits m w c marks accepted
 
   -- no other two sums across would determine more
-  pub any-two : (h₁ h₂ : ℕ → ℕ → ℕ) → 2 < excess m w c marks → Ambiguous wide m w c marks h₁ h₂
+  pub any-two : (h₁ h₂ : ℕ → ℕ → ℕ) → 2 < excess m w c marks → Ambiguous wideEdition m w c marks h₁ h₂
   any-two h₁ h₂ = AnyTwoLaws.any-two wide-sound m w c marks accepted h₁ h₂
 
 -- the sure count is "the largest number such that every pattern of that many losses or fewer is judged 0"

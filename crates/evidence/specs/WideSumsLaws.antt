@@ -11,13 +11,13 @@ use Rattle.binary_field.specs.Sum.{sumBelow}
 use Rattle.shape.specs.Shapes.{shapeRefusalIn}
 use Rattle.shape.specs.Laws.{good-of-refusal}
 use Rattle.places.specs.Places.{extractOf, dataPlaces, othersFrom, isCheck, bytesAt}
-use Rattle.code.specs.Word.{coefficient, twisted, groupSum, wordSum, isLocal, isCodeword, Codeword}
-use Rattle.encode.specs.Service.{encodedIn}
+use Rattle.code.specs.Word.{coefficient, secondCoefficient, groupSum, wordSum, isLocal, isCodeword, Codeword}
+use Rattle.encode.specs.Encode.{encodedIn}
 use Rattle.encode.specs.Laws.{encoded}
 use Rattle.wide_field.specs.Locators.{locator}
 use Rattle.wide_field.specs.SymbolsLaws.{at-257, order-locator}
 use Rattle.wide_field.specs.LocatorsLaws.{locator-power, locator-last}
-use Rattle.wide_edition.specs.Edition.{wideLimits, wide}
+use Rattle.wide_edition.specs.Edition.{wideLimits, wideEdition}
 use Rattle.wide_edition.specs.EditionLaws.{wide-sound}
 use Rattle.evidence.specs.WordSums.{number}
 use Rattle.evidence.specs.WordSumsLaws.{below}
@@ -31,8 +31,8 @@ firstWord : List ℕ
 firstWord = 1 ∷ 20881 ∷ 23334 ∷ 2742 ∷ []
 
 -- m 1, w 4, c 1, data 1
-first-codeword : Codeword wide 1 4 1 firstWord
-unfolding firstWord isCodeword isLocal wordSum groupSum sumBelow coefficient twisted power product bitSum double masked _⊕_ locator
+first-codeword : Codeword wideEdition 1 4 1 firstWord
+unfolding firstWord isCodeword isLocal wordSum groupSum sumBelow coefficient secondCoefficient power product bitSum double masked _⊕_ locator
 first-codeword = record { symbols = record { size = refl; each = below 65536 (lit< tt) firstWord tt }; zero = tt }
 
 first-extract : extractOf 1 4 1 firstWord ≡ 1 ∷ []
@@ -43,7 +43,7 @@ good-1-4-1 : shapeRefusalIn wideLimits 1 4 1 ≡ 0
 unfolding shapeRefusalIn
 good-1-4-1 = refl
 
-pub wide-first : encodedIn wide 1 4 1 (1 ∷ []) ≡ 1 ∷ 20881 ∷ 23334 ∷ 2742 ∷ []
+pub wide-first : encodedIn wideEdition 1 4 1 (1 ∷ []) ≡ 1 ∷ 20881 ∷ 23334 ∷ 2742 ∷ []
 unfolding firstWord
 wide-first =
     sym (encoded wide-sound (good-of-refusal 1 4 1 good-1-4-1) (1 ∷ []) refl (below 65536 (lit< tt) (1 ∷ []) tt) .only firstWord first-codeword first-extract)
@@ -52,8 +52,8 @@ secondWord : List ℕ
 secondWord = 1 ∷ 1 ∷ 0 ∷ 29321 ∷ 65233 ∷ 35928 ∷ []
 
 -- m 2, w 3, c 1, data 1, 1
-second-codeword : Codeword wide 2 3 1 secondWord
-unfolding secondWord isCodeword isLocal wordSum groupSum sumBelow coefficient twisted power product bitSum double masked _⊕_ locator
+second-codeword : Codeword wideEdition 2 3 1 secondWord
+unfolding secondWord isCodeword isLocal wordSum groupSum sumBelow coefficient secondCoefficient power product bitSum double masked _⊕_ locator
 second-codeword = record { symbols = record { size = refl; each = below 65536 (lit< tt) secondWord tt }; zero = tt }
 
 second-extract : extractOf 2 3 1 secondWord ≡ 1 ∷ 1 ∷ []
@@ -64,7 +64,8 @@ good-2-3-1 : shapeRefusalIn wideLimits 2 3 1 ≡ 0
 unfolding shapeRefusalIn
 good-2-3-1 = refl
 
-pub wide-second : encodedIn wide 2 3 1 (1 ∷ 1 ∷ []) ≡ 1 ∷ 1 ∷ 0 ∷ 29321 ∷ 65233 ∷ 35928 ∷ []
+pub wide-second : encodedIn wideEdition 2 3 1 (1 ∷ 1 ∷ []) ≡ 1 ∷ 1 ∷ 0 ∷ 29321 ∷ 65233 ∷ 35928 ∷ []
 unfolding secondWord
 wide-second =
-    sym (encoded wide-sound (good-of-refusal 2 3 1 good-2-3-1) (1 ∷ 1 ∷ []) refl (below 65536 (lit< tt) (1 ∷ 1 ∷ []) tt) .only secondWord second-codeword second-extract)
+    sym (encoded wide-sound (good-of-refusal 2 3 1 good-2-3-1) (1 ∷ 1 ∷ []) refl (below 65536 (lit< tt) (1 ∷ 1 ∷ []) tt) .only secondWord second-codeword
+    second-extract)

@@ -1,13 +1,13 @@
 -- Laws: The words done by hand: each is shown a codeword by its sums, and the theorems on encoding and recovery say the rest.
 use mathlib.Core.Path.{_≡_, refl, sym, ap, _∙_, subst}
-use mathlib.Core.Bool.{false}
+use mathlib.Core.Bool.{false, _||_}
 use mathlib.Core.List.{List, [], _∷_}
 use Prim.Native.Nat.{ℕ, _<_, _≤_}
 use native.Mathlib.Omega.{arith}
 use native.Mathlib.Decide.{decLt}
 use lib.Dec.{T, ltb, ltb→lt, eqb, eqb→eq, lit<}
 use lib.ListN.{length, getD, List·getD-eq-default}
-use Rattle.counting.specs.Test.{allBelow, either}
+use Rattle.counting.specs.Test.{allBelow}
 use Rattle.counting.specs.TestLaws.{all-at}
 use Rattle.counting.specs.Count.{totalBelow}
 use Rattle.counting.specs.First.{firstBelow}
@@ -19,19 +19,19 @@ use Rattle.gf256.specs.Locators.{locators}
 use Rattle.shape.specs.Shapes.{shapeRefusal, shapeRefusalIn, wordRefusalIn}
 use Rattle.shape.specs.Laws.{good-of-refusal}
 use Rattle.places.specs.Laws.{extract-1-4-1, extract-2-3-1}
-use Rattle.byte_edition.specs.Edition.{bytes}
+use Rattle.byte_edition.specs.Edition.{byteEdition}
 use Rattle.byte_edition.specs.EditionLaws.{bytes-sound}
-use Rattle.code.specs.Word.{coefficient, twisted, groupSum, wordSum, isLocal, isCodeword, Symbols, Codeword}
+use Rattle.code.specs.Word.{coefficient, secondCoefficient, groupSum, wordSum, isLocal, isCodeword, Symbols, Codeword}
 use Rattle.code.specs.Marks.{lost, lostIn, excess, Agree}
-use Rattle.code.specs.Answer.{refused, contradictory, written}
+use Rattle.code.specs.Outcome.{refused, contradictory, written}
 use Rattle.code.specs.Contradiction.{isBroken, contradictingGroup}
 use Rattle.code.specs.Filling.{search}
 use Rattle.code.specs.Stretch.{stretch}
 use Rattle.code.specs.Recovery.{Agrees}
 use Rattle.marks.specs.Refusal.{marksRefusalIn, areMarks}
-use Rattle.recover.specs.Service.{recoverRefusal, recoverRefusalIn, recoverOf}
+use Rattle.recover.specs.Recover.{recoverRefusal, recoverRefusalIn, recoverOf}
 use Rattle.recover.specs.AttemptLaws.{accepted, service-eight, service-done}
-use Rattle.encode.specs.Service.{encodedWord}
+use Rattle.encode.specs.Encode.{encodedWord}
 use Rattle.encode.specs.Laws.{encoded}
 use Rattle.stream.specs.NoneLost.{noneLost}
 use Rattle.stream.specs.NoneLostLaws.{other-nine}
@@ -50,15 +50,15 @@ small : (xs : List ℕ) → T (allBelow (length xs) (λ p. ltb (getD xs p 0) 256
 small = below 256 (lit< tt)
 
 -- two words at the present places
-agree : (n : ℕ) (marks x y : List ℕ) → T (allBelow n (λ p. either (lost marks p) (eqb (getD x p 0) (getD y p 0)))) → Agree n marks x y
-agree n marks x y t p l e = eqb→eq (getD x p 0) (getD y p 0) (subst (λ v. T (either v (eqb (getD x p 0) (getD y p 0)))) e (all-at n _ t p l))
+agree : (n : ℕ) (marks x y : List ℕ) → T (allBelow n (λ p. (lost marks p || eqb (getD x p 0) (getD y p 0)))) → Agree n marks x y
+agree n marks x y t p l e = eqb→eq (getD x p 0) (getD y p 0) (subst (λ v. T (v || eqb (getD x p 0) (getD y p 0))) e (all-at n _ t p l))
 
 -- ---- m 1, w 4, c 1, data 1
 firstWord : List ℕ
 firstWord = 1 ∷ 79 ∷ 147 ∷ 221 ∷ []
 
-first-codeword : Codeword bytes 1 4 1 firstWord
-unfolding firstWord isCodeword isLocal wordSum groupSum sumBelow coefficient twisted power product bitSum double masked _⊕_ locators
+first-codeword : Codeword byteEdition 1 4 1 firstWord
+unfolding firstWord isCodeword isLocal wordSum groupSum sumBelow coefficient secondCoefficient power product bitSum double masked _⊕_ locators
 first-codeword = record { symbols = record { size = refl; each = small firstWord tt }; zero = tt }
 
 good-1-4-1 : shapeRefusal 1 4 1 ≡ 0
@@ -73,8 +73,8 @@ encoded-first = sym (encoded bytes-sound (good-of-refusal 1 4 1 good-1-4-1) (1 �
 secondWord : List ℕ
 secondWord = 1 ∷ 1 ∷ 0 ∷ 78 ∷ 206 ∷ 128 ∷ []
 
-second-codeword : Codeword bytes 2 3 1 secondWord
-unfolding secondWord isCodeword isLocal wordSum groupSum sumBelow coefficient twisted power product bitSum double masked _⊕_ locators
+second-codeword : Codeword byteEdition 2 3 1 secondWord
+unfolding secondWord isCodeword isLocal wordSum groupSum sumBelow coefficient secondCoefficient power product bitSum double masked _⊕_ locators
 second-codeword = record { symbols = record { size = refl; each = small secondWord tt }; zero = tt }
 
 good-2-3-1 : shapeRefusal 2 3 1 ≡ 0
@@ -102,7 +102,7 @@ three-called : called threeLost firstThree 2
 unfolding called threeLost firstThree recoverRefusalIn wordRefusalIn marksRefusalIn shapeRefusalIn areMarks excess lostIn totalBelow
 three-called = (refl, refl)
 
-three-agrees : Agrees bytes 2 3 1 firstThree threeLost secondWord
+three-agrees : Agrees byteEdition 2 3 1 firstThree threeLost secondWord
 unfolding threeLost firstThree secondWord
 three-agrees = record { codeword = second-codeword; agree = agree 6 firstThree secondWord threeLost tt }
 
@@ -112,7 +112,8 @@ unfolding called threeLost firstThree secondWord
 three-lost =
     let e = three-called .1 in
     ap outcomeList
-    (service-done bytes-sound 2 3 1 threeLost firstThree (accepted 2 3 1 threeLost firstThree 0 (three-called .0) refl) (small threeLost tt) secondWord (omega arith) three-agrees)
+    (service-done bytes-sound 2 3 1 threeLost firstThree (accepted 2 3 1 threeLost firstThree 0 (three-called .0) refl) (small threeLost tt) secondWord
+    (omega arith) three-agrees)
 
 pub three-done : number ((recoverOf 2 3 1 (255 ∷ 255 ∷ 255 ∷ 78 ∷ 206 ∷ 128 ∷ []) (1 ∷ 1 ∷ 1 ∷ 0 ∷ 0 ∷ 0 ∷ [])) .number) ≡ number 0
 three-done = ap (λ l. number (getD l 0 0)) three-lost
@@ -134,7 +135,8 @@ pub five-lost : outcomeList (recoverOf 2 3 1 (1 ∷ 1 ∷ 0 ∷ 78 ∷ 206 ∷ 1
 unfolding called firstFive secondWord
 five-lost =
     let e = five-called .1 in
-    ap outcomeList (service-eight bytes-sound 2 3 1 secondWord firstFive (accepted 2 3 1 secondWord firstFive 0 (five-called .0) refl) (small secondWord tt) (omega arith))
+    ap outcomeList (service-eight bytes-sound 2 3 1 secondWord firstFive (accepted 2 3 1 secondWord firstFive 0 (five-called .0) refl) (small secondWord tt)
+    (omega arith))
 
 pub five-excess : number (excess 2 3 1 (1 ∷ 1 ∷ 1 ∷ 1 ∷ 1 ∷ 0 ∷ [])) ≡ number 3
 unfolding called firstFive
@@ -152,7 +154,7 @@ two-called : called twoLost secondFifth 0
 unfolding called twoLost secondFifth recoverRefusalIn wordRefusalIn marksRefusalIn shapeRefusalIn areMarks excess lostIn totalBelow
 two-called = (refl, refl)
 
-two-agrees : Agrees bytes 2 3 1 secondFifth twoLost secondWord
+two-agrees : Agrees byteEdition 2 3 1 secondFifth twoLost secondWord
 unfolding twoLost secondFifth secondWord
 two-agrees = record { codeword = second-codeword; agree = agree 6 secondFifth secondWord twoLost tt }
 
@@ -161,7 +163,8 @@ pub two-lost : recoverOf 2 3 1 (1 ∷ 0 ∷ 0 ∷ 78 ∷ 0 ∷ 128 ∷ []) (0 �
 unfolding called twoLost secondFifth secondWord
 two-lost =
     let e = two-called .1 in
-    service-done bytes-sound 2 3 1 twoLost secondFifth (accepted 2 3 1 twoLost secondFifth 0 (two-called .0) refl) (small twoLost tt) secondWord (omega arith) two-agrees
+    service-done bytes-sound 2 3 1 twoLost secondFifth (accepted 2 3 1 twoLost secondFifth 0 (two-called .0) refl) (small twoLost tt) secondWord
+    (omega arith) two-agrees
 
 -- the first five lost
 fiveLost : List ℕ
@@ -182,17 +185,17 @@ five-lost-again =
 lastChanged : List ℕ
 lastChanged = 1 ∷ 1 ∷ 0 ∷ 78 ∷ 206 ∷ 129 ∷ []
 
-last-symbols : Symbols bytes 6 lastChanged
+last-symbols : Symbols byteEdition 6 lastChanged
 unfolding lastChanged
 last-symbols = record { size = refl; each = small lastChanged tt }
 
-last-no-codeword : isCodeword bytes 2 3 1 lastChanged ≡ false
-unfolding lastChanged isCodeword isLocal wordSum groupSum sumBelow coefficient twisted power product bitSum double masked _⊕_ locators
+last-no-codeword : isCodeword byteEdition 2 3 1 lastChanged ≡ false
+unfolding lastChanged isCodeword isLocal wordSum groupSum sumBelow coefficient secondCoefficient power product bitSum double masked _⊕_ locators
 last-no-codeword = refl
 
 -- the bytes of group 1 break its equation, those of group 0 do not
-last-group : contradictingGroup bytes 2 3 1 lastChanged (noneLost lastChanged) ≡ 1
-unfolding lastChanged contradictingGroup firstBelow isBroken search stretch isLocal groupSum sumBelow coefficient twisted power product bitSum double
+last-group : contradictingGroup byteEdition 2 3 1 lastChanged (noneLost lastChanged) ≡ 1
+unfolding lastChanged contradictingGroup firstBelow isBroken search stretch isLocal groupSum sumBelow coefficient secondCoefficient power product bitSum double
     masked _⊕_ locators
 last-group = refl
 
@@ -215,7 +218,7 @@ lost-called : called lastChanged lastLost 0
 unfolding called lastChanged lastLost recoverRefusalIn wordRefusalIn marksRefusalIn shapeRefusalIn areMarks excess lostIn totalBelow
 lost-called = (refl, refl)
 
-lost-agrees : Agrees bytes 2 3 1 lastLost lastChanged secondWord
+lost-agrees : Agrees byteEdition 2 3 1 lastLost lastChanged secondWord
 unfolding lastChanged lastLost secondWord
 lost-agrees = record { codeword = second-codeword; agree = agree 6 lastLost secondWord lastChanged tt }
 
@@ -225,22 +228,23 @@ unfolding called lastChanged lastLost secondWord
 last-lost =
     let e = lost-called .1 in
     ap outcomeList
-    (service-done bytes-sound 2 3 1 lastChanged lastLost (accepted 2 3 1 lastChanged lastLost 0 (lost-called .0) refl) (small lastChanged tt) secondWord (omega arith) lost-agrees)
+    (service-done bytes-sound 2 3 1 lastChanged lastLost (accepted 2 3 1 lastChanged lastLost 0 (lost-called .0) refl) (small lastChanged tt) secondWord
+    (omega arith) lost-agrees)
 
 -- nothing lost, the bytes of the second group 0: each group meets its own equation and the equations across fail
 secondZero : List ℕ
 secondZero = 1 ∷ 1 ∷ 0 ∷ 0 ∷ 0 ∷ 0 ∷ []
 
-zero-symbols : Symbols bytes 6 secondZero
+zero-symbols : Symbols byteEdition 6 secondZero
 unfolding secondZero
 zero-symbols = record { size = refl; each = small secondZero tt }
 
-zero-no-codeword : isCodeword bytes 2 3 1 secondZero ≡ false
-unfolding secondZero isCodeword isLocal wordSum groupSum sumBelow coefficient twisted power product bitSum double masked _⊕_ locators
+zero-no-codeword : isCodeword byteEdition 2 3 1 secondZero ≡ false
+unfolding secondZero isCodeword isLocal wordSum groupSum sumBelow coefficient secondCoefficient power product bitSum double masked _⊕_ locators
 zero-no-codeword = refl
 
-zero-group : contradictingGroup bytes 2 3 1 secondZero (noneLost secondZero) ≡ 2
-unfolding secondZero contradictingGroup firstBelow isBroken search stretch isLocal groupSum sumBelow coefficient twisted power product bitSum double
+zero-group : contradictingGroup byteEdition 2 3 1 secondZero (noneLost secondZero) ≡ 2
+unfolding secondZero contradictingGroup firstBelow isBroken search stretch isLocal groupSum sumBelow coefficient secondCoefficient power product bitSum double
     masked _⊕_ locators
 zero-group = refl
 

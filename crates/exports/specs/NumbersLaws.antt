@@ -3,17 +3,17 @@ use mathlib.Core.Path.{_≡_, refl}
 use mathlib.Core.List.{List}
 use Prim.Native.Nat.{ℕ, zero, suc, _^_}
 use lib.Dec.{ltb}
-use Rattle.byte_edition.specs.Edition.{bytes}
+use Rattle.byte_edition.specs.Edition.{byteEdition}
 use Rattle.code.specs.Word.{isLocal, isCodeword}
 use Rattle.code.specs.Marks.{lostIn, excess}
 use Rattle.code.specs.Contradiction.{contradictingGroup}
-use Rattle.code.specs.Answer.{Outcome}
-use Rattle.code.specs.AnswerLaws.{other-group}
+use Rattle.code.specs.Outcome.{Outcome}
+use Rattle.code.specs.OutcomeLaws.{other-group}
 use Rattle.code.specs.Recovery.{recovered}
 use Rattle.code.specs.Repair.{repairedGroup}
 use Rattle.code.specs.Stretch.{stretch}
-use Rattle.recover.specs.Service.{unlessBefore, recoverOf, recoverIn, recoverRefusal}
-use Rattle.repair.specs.Service.{repairOf, repairIn, repairRefusal}
+use Rattle.recover.specs.Recover.{unlessBefore, recoverOf, recoverIn, recoverRefusal}
+use Rattle.repair.specs.Repair.{repairOf, repairIn, repairRefusal}
 
 -- a refusal that comes before carries no group
 before-group : (r : ℕ) (o : Outcome) (word marks : List ℕ) → ((o .number ≡ 9 → ⊥) → o .group ≡ 0)
@@ -24,11 +24,12 @@ before-group (suc r) o word marks none = λ _. refl
 pub recover-group : (m w c : ℕ) (word marks : List ℕ) → ((recoverOf m w c word marks) .number ≡ 9 → ⊥) → (recoverOf m w c word marks) .group ≡ 0
 unfolding recoverIn
 recover-group m w c word marks =
-    before-group (recoverRefusal m w c word marks) (recovered bytes m w c word marks) word marks
-    (other-group (2 ^ bytes .bits) (isCodeword bytes m w c) (ltb 2 (excess m w c marks)) (contradictingGroup bytes m w c word marks) word marks)
+    before-group (recoverRefusal m w c word marks) (recovered byteEdition m w c word marks) word marks
+    (other-group (2 ^ byteEdition .bits) (isCodeword byteEdition m w c) (ltb 2 (excess m w c marks)) (contradictingGroup byteEdition m w c word marks) word
+    marks)
 
 pub repair-group : (m w c g : ℕ) (word marks : List ℕ) → ((repairOf m w c g word marks) .number ≡ 9 → ⊥) → (repairOf m w c g word marks) .group ≡ 0
 unfolding repairIn
 repair-group m w c g word marks =
-    before-group (repairRefusal m w c g word marks) (repairedGroup bytes w c g word marks) word marks
-    (other-group (2 ^ bytes .bits) (λ x. isLocal bytes w c x 0) (ltb c (lostIn w (stretch w g marks) 0)) g (stretch w g word) (stretch w g marks))
+    before-group (repairRefusal m w c g word marks) (repairedGroup byteEdition w c g word marks) word marks
+    (other-group (2 ^ byteEdition .bits) (λ x. isLocal byteEdition w c x 0) (ltb c (lostIn w (stretch w g marks) 0)) g (stretch w g word) (stretch w g marks))

@@ -8,16 +8,16 @@ use word_check::Checked;
 ghost use mathlib.Core.Path.{_≡_};
 ghost use lib.ListN.{length, getD};
 ghost use Rattle.shape.specs.Shapes.{shapeRefusal, bufferRefusal, describedNumber, describedFigures, figuresOf};
-ghost use Rattle.word_check.specs.Answer.{checkedOf};
+ghost use Rattle.word_check.specs.Checked.{checkedOf};
 ghost use Rattle.c_answers.specs.Mends.{outcomeMended};
 ghost use Rattle.exports.specs.Numbers.{checkedMended};
 ghost use Rattle.places.specs.Places.{extractedData};
-ghost use Rattle.judge.specs.Answer.{judgedNumber, judgedNumberOf};
-ghost use Rattle.profile.specs.Answer.{profiledOf};
+ghost use Rattle.judge.specs.Judgement.{judgedNumber, judgedNumberOf};
+ghost use Rattle.profile.specs.Profiled.{profiledOf};
 ghost use Rattle.exports.specs.Profiles.{profileAnswer};
-ghost use Rattle.recover.specs.Service.{recoverOf};
-ghost use Rattle.repair.specs.Service.{repairOf};
-ghost use Rattle.encode.specs.Service.{encodeRefusal, encodedBuffer};
+ghost use Rattle.recover.specs.Recover.{recoverOf};
+ghost use Rattle.repair.specs.Repair.{repairOf};
+ghost use Rattle.encode.specs.Encode.{encodeRefusal, encodedBuffer};
 
 // The number of a judgement.
 fn judged_number(judged: Judged) -> u8

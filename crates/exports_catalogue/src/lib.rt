@@ -2,7 +2,7 @@
 use catalogue::Changed;
 use catalogue::Looked;
 ghost use mathlib.Core.Path.{_≡_};
-ghost use Rattle.catalogue.specs.Service.{lookedOf, putOf, putBuffer};
+ghost use Rattle.catalogue.specs.LookupAndPut.{lookedOf, putOf, putBuffer};
 ghost use Rattle.exports_catalogue.specs.Answers.{lookupAnswer, changeAnswer};
 
 // What Lookup gives to C: the number, 0 for done, and the shape and the revision; 0 on a refusal.

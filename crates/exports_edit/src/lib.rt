@@ -1,7 +1,7 @@
 // Edit as C calls it: the number given back, 0 for done, and the group that a 9 carries.
 use c_answers::Mended;
 ghost use mathlib.Core.Path.{_≡_};
-ghost use Rattle.edit.specs.Service.{editOf, editedBuffer};
+ghost use Rattle.edit.specs.Edit.{editOf, editedBuffer};
 ghost use Rattle.c_answers.specs.Mends.{mendingMended};
 
 #[no_mangle]

@@ -8,13 +8,13 @@ ghost use mathlib.Core.Path.{_≡_};
 ghost use lib.ListN.{length, getD};
 ghost use Rattle.shape.specs.Shapes.{shapeRefusalIn, bufferRefusalIn, describedNumber, describedFigures};
 ghost use Rattle.shape.specs.Answers.{mendingAt};
-ghost use Rattle.word_check.specs.Answer.{checkedIn};
+ghost use Rattle.word_check.specs.Checked.{checkedIn};
 ghost use Rattle.places.specs.Places.{extractedDataIn};
-ghost use Rattle.judge.specs.Answer.{judgedNumber, judgedNumberIn};
-ghost use Rattle.recover.specs.Service.{recoverIn};
-ghost use Rattle.repair.specs.Service.{repairIn};
-ghost use Rattle.encode.specs.Service.{encodeRefusalIn, encodedBufferIn};
-ghost use Rattle.wide_edition.specs.Edition.{wideLimits, wide};
+ghost use Rattle.judge.specs.Judgement.{judgedNumber, judgedNumberIn};
+ghost use Rattle.recover.specs.Recover.{recoverIn};
+ghost use Rattle.repair.specs.Repair.{repairIn};
+ghost use Rattle.encode.specs.Encode.{encodeRefusalIn, encodedBufferIn};
+ghost use Rattle.wide_edition.specs.Edition.{wideLimits, wideEdition};
 ghost use Rattle.wide_shape.specs.Shapes.{figuresOf};
 ghost use Rattle.c_answers.specs.Mends.{mendingMended};
 ghost use Rattle.exports_wide.specs.Numbers.{checkedMended};
@@ -119,7 +119,7 @@ pub extern "C" fn axlebloom_wide_sure(m: usize, w: usize, c: usize) -> usize
 
 #[no_mangle]
 pub extern "C" fn axlebloom_wide_check(m: usize, w: usize, c: usize, word: &[u16]) -> Mended
-    ensures { λ r. ⌜ r ≡ checkedMended (checkedIn wide m w c (now (word .entry))) ⌝ }
+    ensures { λ r. ⌜ r ≡ checkedMended (checkedIn wideEdition m w c (now (word .entry))) ⌝ }
 {
     mended_of_check(wide_check::check(m, w, c, word))
 }
@@ -133,7 +133,7 @@ pub extern "C" fn axlebloom_wide_encode(
     word: &mut [u16],
 ) -> u8
     ensures number { λ r. ⌜ r ≡ encodeRefusalIn wideLimits m w c (length (now (word .entry))) (length (now (symbols .entry))) ⌝ }
-    ensures buffer { λ _. ⌜ now (word .exit) ≡ encodedBufferIn wide m w c (now (symbols .entry)) (now (word .entry)) ⌝ }
+    ensures buffer { λ _. ⌜ now (word .exit) ≡ encodedBufferIn wideEdition m w c (now (symbols .entry)) (now (word .entry)) ⌝ }
 {
     c_answers::number(wide_encode::encode(m, w, c, symbols, word))
 }
@@ -168,9 +168,9 @@ pub extern "C" fn axlebloom_wide_repair(
     word: &mut [u16],
     marks: &mut [u8],
 ) -> Mended
-    ensures answer { λ r. ⌜ r ≡ mendingMended (mendingAt ((repairIn wide m w c g (now (word .entry)) (now (marks .entry))) .number) ((repairIn wide m w c g (now (word .entry)) (now (marks .entry))) .group)) ⌝ }
-    ensures word { λ _. ⌜ now (word .exit) ≡ (repairIn wide m w c g (now (word .entry)) (now (marks .entry))) .word ⌝ }
-    ensures marks { λ _. ⌜ now (marks .exit) ≡ (repairIn wide m w c g (now (word .entry)) (now (marks .entry))) .marks ⌝ }
+    ensures answer { λ r. ⌜ r ≡ mendingMended (mendingAt ((repairIn wideEdition m w c g (now (word .entry)) (now (marks .entry))) .number) ((repairIn wideEdition m w c g (now (word .entry)) (now (marks .entry))) .group)) ⌝ }
+    ensures word { λ _. ⌜ now (word .exit) ≡ (repairIn wideEdition m w c g (now (word .entry)) (now (marks .entry))) .word ⌝ }
+    ensures marks { λ _. ⌜ now (marks .exit) ≡ (repairIn wideEdition m w c g (now (word .entry)) (now (marks .entry))) .marks ⌝ }
 {
     c_answers::mended_of(wide_repair::repair(m, w, c, g, word, marks))
 }
@@ -183,9 +183,9 @@ pub extern "C" fn axlebloom_wide_recover(
     word: &mut [u16],
     marks: &mut [u8],
 ) -> Mended
-    ensures answer { λ r. ⌜ r ≡ mendingMended (mendingAt ((recoverIn wide m w c (now (word .entry)) (now (marks .entry))) .number) ((recoverIn wide m w c (now (word .entry)) (now (marks .entry))) .group)) ⌝ }
-    ensures word { λ _. ⌜ now (word .exit) ≡ (recoverIn wide m w c (now (word .entry)) (now (marks .entry))) .word ⌝ }
-    ensures marks { λ _. ⌜ now (marks .exit) ≡ (recoverIn wide m w c (now (word .entry)) (now (marks .entry))) .marks ⌝ }
+    ensures answer { λ r. ⌜ r ≡ mendingMended (mendingAt ((recoverIn wideEdition m w c (now (word .entry)) (now (marks .entry))) .number) ((recoverIn wideEdition m w c (now (word .entry)) (now (marks .entry))) .group)) ⌝ }
+    ensures word { λ _. ⌜ now (word .exit) ≡ (recoverIn wideEdition m w c (now (word .entry)) (now (marks .entry))) .word ⌝ }
+    ensures marks { λ _. ⌜ now (marks .exit) ≡ (recoverIn wideEdition m w c (now (word .entry)) (now (marks .entry))) .marks ⌝ }
 {
     c_answers::mended_of(wide_recover::recover(m, w, c, word, marks))
 }

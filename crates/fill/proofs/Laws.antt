@@ -17,12 +17,12 @@ use Rattle.binary_field.specs.ProductLaws.{product-comm}
 use Rattle.binary_field.specs.Sum.{sumBelow, innerProduct}
 use Rattle.binary_field.specs.SumLaws.{sum-ext}
 use Rattle.code.specs.Edition.{Edition, Sound, times, raised}
-use Rattle.byte_edition.specs.Edition.{bytes}
+use Rattle.byte_edition.specs.Edition.{byteEdition}
 use Rattle.code.specs.Word.{groupSum, localSum}
 use Rattle.code.specs.Marks.{lost, lostIn}
 use Rattle.code.specs.StretchLaws.{own-place}
-use Rattle.coefficients.specs.Rows.{powerRows, noRow}
-use Rattle.coefficients.specs.RowsLaws.{power-at}
+use Rattle.check_rows.specs.Rows.{powerRows, noRow}
+use Rattle.check_rows.specs.RowsLaws.{power-at}
 use Rattle.solve.specs.Elimination.{entry, eliminated}
 use Rattle.solve.specs.Steps.{System}
 use Rattle.solve.specs.SolutionLaws.{solution}
@@ -71,7 +71,7 @@ module _ (marks : List ℕ) where
 
 -- ---- a syndrome
 pub syndrome : (part : List ℕ) (e : ℕ) → e < 4 → length part ≤ 16
-    → innerProduct 8 285 (length part) part (getD powerRows e noRow) ≡ localSum bytes (length part) part 0 e
+    → innerProduct 8 285 (length part) part (getD powerRows e noRow) ≡ localSum byteEdition (length part) part 0 e
 unfolding innerProduct groupSum
 syndrome part e h l =
     sum-ext (length part) _ _ (λ j b. ap₂ (product 8 285) (ap (λ p. getD part p 0) (sym (own-place (length part) j))) (power-at e j h (omega arith)))
@@ -115,7 +115,8 @@ module _ (marks xs ys zs at : List ℕ) (Z M N : List (List ℕ)) (t : ℕ) (P :
     | no l ↦ (let a = P .ascending j i (omega arith) hi in omega arith)
   ]
 
-  module _ (E : Edition) (T : Sound E) (blank : (i : ℕ) → entry Z i 4 ≡ 0) (fits : length xs ≤ E .small) (S : System (E .bits) M t) (Q : EquationsIn E ys at t M)
+  module _ (E : Edition) (T : Sound E) (blank : (i : ℕ) → entry Z i 4 ≡ 0) (fits : length xs ≤ E .small) (S : System (E .bits) M t)
+      (Q : EquationsIn E ys at t M)
       (hN : N ≡ eliminated (E .bits) (E .poly) M t) where
     solved : (e : ℕ) → e < t → sumBelow t (λ i. times E (entry N i 4) (raised E (E .locator (getD at i 0)) e)) ≡ localSum E (length ys) ys 0 e
     solved e h =

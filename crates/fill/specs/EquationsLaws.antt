@@ -16,7 +16,7 @@ use Rattle.binary_field.specs.SumLaws.{sum-ext}
 use Rattle.binary_field.specs.Element.{Element, reduced}
 use Rattle.binary_field.specs.ElementLaws.{field, same-value, pow-value, sum-value}
 use Rattle.code.specs.Edition.{Edition, Sound, raised}
-use Rattle.byte_edition.specs.Edition.{bytes}
+use Rattle.byte_edition.specs.Edition.{byteEdition}
 use Rattle.code.specs.Word.{localSum}
 use Rattle.solve.specs.Elimination.{row, entry}
 use Rattle.solve.specs.Kernel.{TrivialKernel}
@@ -32,11 +32,11 @@ EquationsIn E part at t M = (e : ℕ) → e < t → EquationIn E part at t e (ro
 
 -- one of bytes
 abbrev pub Equation : List ℕ → List ℕ → ℕ → ℕ → List ℕ → Type 0
-Equation = EquationIn bytes
+Equation = EquationIn byteEdition
 
 -- and the first t
 abbrev pub Equations : List ℕ → List ℕ → ℕ → List (List ℕ) → Type 0
-Equations = EquationsIn bytes
+Equations = EquationsIn byteEdition
 
 -- any t columns of t rows of powers of different locators are independent
 module _ (E : Edition) (S : Sound E) (t : ℕ) (at : ℕ → ℕ) (inside : (i : ℕ) → i < t → at i < E .small)
@@ -54,7 +54,8 @@ module _ (E : Edition) (S : Sound E) (t : ℕ) (at : ℕ → ℕ) (inside : (i :
       (sym (locator-value i hi) ∙ ap (λ (x : Element (E .bits)). x .0) e ∙ locator-value j hj)
 
   power-sum : (x : ℕ → ℕ) (e : ℕ)
-      → (psum (field (S .facts)) locator (below t) (λ i. reduced (E .bits) (x i)) e) .0 ≡ sumBelow t (λ i. product (E .bits) (E .poly) (raised E (E .locator (at i)) e) (x i))
+      → (psum (field (S .facts)) locator (below t) (λ i. reduced (E .bits) (x i)) e) .0
+      ≡ sumBelow t (λ i. product (E .bits) (E .poly) (raised E (E .locator (at i)) e) (x i))
   unfolding locator
   power-sum x e =
       sum-value (S .facts) t _

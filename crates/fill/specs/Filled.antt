@@ -7,7 +7,7 @@ use mathlib.Core.List.{List}
 use Prim.Native.Nat.{ℕ, _≤_, _<_}
 use lib.ListN.{length, getD}
 use Rattle.code.specs.Edition.{Edition}
-use Rattle.byte_edition.specs.Edition.{bytes}
+use Rattle.byte_edition.specs.Edition.{byteEdition}
 use Rattle.code.specs.Word.{localSum}
 use Rattle.code.specs.Marks.{lost, lostIn}
 
@@ -20,4 +20,4 @@ pub record FilledIn (E : Edition) (marks before after : List ℕ) : Type 0 where
 
 -- of bytes: at most four of at most sixteen
 abbrev pub Filled : List ℕ → List ℕ → List ℕ → Type 0
-Filled = FilledIn bytes
+Filled = FilledIn byteEdition

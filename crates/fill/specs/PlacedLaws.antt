@@ -57,7 +57,8 @@ module _ (xs at : List ℕ) (M : List (List ℕ)) where
     -- at places that hold 0, each symbol written adds its term to a local sum
     module _ (E : Edition) (blank : (i : ℕ) → i < t → getD xs (getD at i 0) 0 ≡ 0) (e : ℕ) where
       sum-to : (n : ℕ) → n ≤ t
-          → localSum E (length xs) (placed xs at M n) 0 e ≡ localSum E (length xs) xs 0 e ⊕ sumBelow n (λ i. times E (entry M i 4) (raised E (E .locator (getD at i 0)) e))
+          → localSum E (length xs) (placed xs at M n) 0 e ≡ localSum E (length xs) xs 0 e ⊕ sumBelow n
+          (λ i. times E (entry M i 4) (raised E (E .locator (getD at i 0)) e))
       sum-to zero h = ap (λ l. localSum E (length xs) l 0 e) placed-none ∙ sym (ap (λ s. localSum E (length xs) xs 0 e ⊕ s) (sum-none _) ∙ ⊕-zero-r _)
       sum-to (suc n) h =
           let b = inside n (omega arith) in
@@ -65,7 +66,8 @@ module _ (xs at : List ℕ) (M : List (List ℕ)) where
           let z : getD (placed xs at M n) (getD at n 0) 0 ≡ 0 =
           placed-other n (getD at n 0) (λ i l w. let a = ascending i n l (omega arith) in omega arith) ∙ blank n (omega arith) in
           ap (λ l. localSum E (length xs) l 0 e) (placed-suc n) ∙ local-set E (length xs) (placed xs at M n) (getD at n 0) (entry M n 4) e b (omega arith)
-          ∙ ap₂ _⊕_ (sum-to n (omega arith)) (ap (λ a. times E a (raised E (E .locator (getD at n 0)) e)) (ap (λ a. a ⊕ entry M n 4) z ∙ ⊕-zero-l _)) ∙ ⊕-assoc _ _ _
+          ∙ ap₂ _⊕_ (sum-to n (omega arith)) (ap (λ a. times E a (raised E (E .locator (getD at n 0)) e)) (ap (λ a. a ⊕ entry M n 4) z ∙ ⊕-zero-l _))
+          ∙ ⊕-assoc _ _ _
           ∙ ap (λ a. localSum E (length xs) xs 0 e ⊕ a) (sym (sum-suc n _))
 
       pub placed-sum : localSum E (length xs) (placed xs at M t) 0 e

@@ -49,8 +49,8 @@ fn equation(part: &[u8], at: [usize; 4], t: usize, e: usize) -> [u8; 16]
     requires { ⌜ (t ≤ 4) × (e < 4) × (length (now part) ≤ 16) × Inside (length (now part)) at t ⌝ }
     ensures { λ r. ⌜ Equation (now (part .entry)) at t e r ⌝ }
 {
-    let powers = coefficients::power_row(e);
-    let syndrome = coefficients::power_sum(part, e);
+    let powers = check_rows::power_row(e);
+    let syndrome = check_rows::power_sum(part, e);
     [
         powers[at[0] % 16],
         powers[at[1] % 16],
@@ -94,7 +94,7 @@ fn equations(part: &[u8], at: [usize; 4], t: usize) -> [[u8; 16]; 4]
     if part.len() == 16 {
         return equations_of(part, at, t);
     }
-    let x = coefficients::padded(part);
+    let x = check_rows::padded(part);
     equations_of(&x, at, t)
 }
 

@@ -8,8 +8,8 @@ use lib.ListN.{length}
 use Rattle.shape.specs.declared.Mending.{Mending}
 use Rattle.shape.specs.Answers.{mendingAt, mendingNumber, mendingGroup}
 use Rattle.shape.specs.Refusals.{refuse, _orElse_, unlessRefused}
-use Rattle.code.specs.Answer.{Outcome}
-use Rattle.recover.specs.Service.{recoverOf}
+use Rattle.code.specs.Outcome.{Outcome}
+use Rattle.recover.specs.Recover.{recoverOf}
 use Rattle.gather_record.specs.declared.Gather.{Gather}
 use Rattle.gather_record.specs.Record.{placesOf, bytesOf, marksOf, gatherRefusal}
 

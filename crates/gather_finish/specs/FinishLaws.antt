@@ -16,14 +16,14 @@ use Rattle.shape.specs.Refusals.{refuse, _orElse_}
 use Rattle.shape.specs.RefusalsLaws.{refuse-zero, orElse-zero, orElse-first}
 use Rattle.shape.specs.Shapes.{shapeRefusal}
 use Rattle.shape.specs.Laws.{shape-most}
-use Rattle.byte_edition.specs.Edition.{bytes}
+use Rattle.byte_edition.specs.Edition.{byteEdition}
 use Rattle.code.specs.Word.{isCodeword}
 use Rattle.code.specs.Marks.{excess}
 use Rattle.code.specs.Contradiction.{contradictingGroup}
-use Rattle.code.specs.AnswerLaws.{other-group}
+use Rattle.code.specs.OutcomeLaws.{other-group}
 use Rattle.code.specs.Recovery.{recovered}
 use Rattle.marks.specs.Refusal.{areMarks}
-use Rattle.recover.specs.Service.{unlessBefore, recoverOf, recoverIn, recoverRefusal}
+use Rattle.recover.specs.Recover.{unlessBefore, recoverOf, recoverIn, recoverRefusal}
 use Rattle.gather_record.specs.declared.Gather.{Gather}
 use Rattle.gather_record.specs.Record.{placesOf, marksOf, gatherRefusal}
 use Rattle.gather_record.specs.RecordLaws.{Open, open-parts}
@@ -81,9 +81,10 @@ recovery-group : (m w c : ℕ) (word marks : List ℕ) → ((recoverOf m w c wor
 unfolding recoverIn
 recovery-group m w c word marks = go (recoverRefusal m w c word marks)
   where
-    go : (r : ℕ) → ((unlessBefore r (recovered bytes m w c word marks) word marks) .number ≡ 9 → ⊥)
-        → (unlessBefore r (recovered bytes m w c word marks) word marks) .group ≡ 0
-    go zero = other-group (2 ^ bytes .bits) (isCodeword bytes m w c) (ltb 2 (excess m w c marks)) (contradictingGroup bytes m w c word marks) word marks
+    go : (r : ℕ) → ((unlessBefore r (recovered byteEdition m w c word marks) word marks) .number ≡ 9 → ⊥)
+        → (unlessBefore r (recovered byteEdition m w c word marks) word marks) .group ≡ 0
+    go zero = other-group (2 ^ byteEdition .bits) (isCodeword byteEdition m w c) (ltb 2 (excess m w c marks)) (contradictingGroup byteEdition m w c word marks)
+        word marks
     go (suc r) = λ _. refl
 
 mending-group : (r group : ℕ) → ((r ≡ 9 → ⊥) → group ≡ 0) → mendingGroup (mendingAt r group) ≡ group

@@ -5,7 +5,7 @@ use mathlib.Core.List.{List}
 use Prim.Native.Nat.{ℕ}
 use lib.ListN.{length}
 use Rattle.shape.specs.Shapes.{Good}
-use Rattle.judge.specs.Answer.{judgedNumberOf}
+use Rattle.judge.specs.Judgement.{judgedNumberOf}
 use Rattle.gather_record.specs.declared.Gather.{Gather}
 use Rattle.gather_record.specs.Record.{Whole, marksOf, gatherRefusal, begun, beginOf}
 use Rattle.gather_take.specs.Take.{takeOf}

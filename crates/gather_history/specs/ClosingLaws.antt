@@ -11,15 +11,15 @@ use Rattle.shape.specs.Refusals.{refuse}
 use Rattle.shape.specs.RefusalsLaws.{unless-refused}
 use Rattle.shape.specs.Shapes.{Good, shapeRefusal}
 use Rattle.shape.specs.Laws.{places-most, refusal-of-good, word-of-good}
-use Rattle.byte_edition.specs.Edition.{bytes}
+use Rattle.byte_edition.specs.Edition.{byteEdition}
 use Rattle.code.specs.Word.{isCodeword}
 use Rattle.code.specs.Marks.{excess}
 use Rattle.code.specs.Contradiction.{contradictingGroup}
-use Rattle.code.specs.Answer.{eight, nine, done}
-use Rattle.code.specs.AnswerLaws.{cases}
+use Rattle.code.specs.Outcome.{eight, nine, done}
+use Rattle.code.specs.OutcomeLaws.{cases}
 use Rattle.code.specs.Recovery.{recovered}
-use Rattle.judge.specs.Answer.{judgedNumberOf, judgedNumberIn}
-use Rattle.recover.specs.Service.{unlessBefore, recoverRefusal, recoverRefusalIn, recoverIn}
+use Rattle.judge.specs.Judgement.{judgedNumberOf, judgedNumberIn}
+use Rattle.recover.specs.Recover.{unlessBefore, recoverRefusal, recoverRefusalIn, recoverIn}
 use Rattle.gather_record.specs.declared.Gather.{Gather}
 use Rattle.gather_record.specs.Record.{Whole, placesOf, bytesOf, marksOf, gatherRefusal, begun, gatheringBy, beginOf}
 use Rattle.gather_record.specs.RecordLaws.{Open, open-unrefused, open-marks, marks-open, begun-whole, bytes-size, marks-number}
@@ -29,7 +29,7 @@ use Rattle.gather_finish.specs.Finish.{finishRefusal, recoveryOf, closed, finis
 use Rattle.gather_finish.specs.FinishLaws.{finish-record, finish-numbers, finish-parts}
 use Rattle.gather_history.specs.History.{Stretch, numberOf, leaves, Call, Take, Finish, answers, left, run, AllAnswer}
 use Rattle.gather_history.specs.Closing.{ClosedHolds, FinishesHolds, GrownHolds, FinishLeaves, RefusalsHold, JudgeHolds}
-use Rattle.gather_history.specs.OrderLaws.{leaves-same, takeable, inside-or, Stretched, stretched}
+use Rattle.gather_history.specs.StretchOrderLaws.{leaves-same, takeable, inside-or, Stretched, stretched}
 
 -- ---- a finished record
 
@@ -160,14 +160,14 @@ module _ (g : Gather) (W : Whole g) (O : Open g) where
   unfolding recoverRefusalIn
   accepted = simp (word-of-good (g .m) (g .w) (g .c) (length (bytesOf g)) (O .good) (bytes-size g (O .good) W), marks-number g (O .good) W, O .marked)
 
-  recovery-is : recoveryOf g ≡ recovered bytes (g .m) (g .w) (g .c) (bytesOf g) (marksOf g)
+  recovery-is : recoveryOf g ≡ recovered byteEdition (g .m) (g .w) (g .c) (bytesOf g) (marksOf g)
   unfolding recoverIn
-  recovery-is = ap (λ r. unlessBefore r (recovered bytes (g .m) (g .w) (g .c) (bytesOf g) (marksOf g)) (bytesOf g) (marksOf g)) accepted
+  recovery-is = ap (λ r. unlessBefore r (recovered byteEdition (g .m) (g .w) (g .c) (bytesOf g) (marksOf g)) (bytesOf g) (marksOf g)) accepted
 
   by-large : ((large ≡ true) × ((recoveryOf g) .number ≡ 8)) ⊎ ((large ≡ false) × (((recoveryOf g) .number ≡ 9) ⊎ ((recoveryOf g) .number ≡ 0)))
   unfolding large
-  by-large = elim (cases (2 ^ bytes .bits) (isCodeword bytes (g .m) (g .w) (g .c)) (ltb 2 (excess (g .m) (g .w) (g .c) (marksOf g)))
-      (contradictingGroup bytes (g .m) (g .w) (g .c) (bytesOf g) (marksOf g)) (bytesOf g) (marksOf g)) [
+  by-large = elim (cases (2 ^ byteEdition .bits) (isCodeword byteEdition (g .m) (g .w) (g .c)) (ltb 2 (excess (g .m) (g .w) (g .c) (marksOf g)))
+      (contradictingGroup byteEdition (g .m) (g .w) (g .c) (bytesOf g) (marksOf g)) (bytesOf g) (marksOf g)) [
         | eight e q ↦ inl (e, ap (λ o. o .number) (recovery-is ∙ q))
         | nine e _ q ↦ inr (e, inl (ap (λ o. o .number) (recovery-is ∙ q)))
         | done e x _ q ↦ inr (e, inr (ap (λ o. o .number) (recovery-is ∙ q)))

@@ -12,10 +12,10 @@ use Rattle.shape.specs.Refusals.{unlessRefused}
 use Rattle.shape.specs.RefusalsLaws.{unless-refused}
 use Rattle.shape.specs.Shapes.{Good}
 use Rattle.shape.specs.Laws.{places-most}
-use Rattle.byte_edition.specs.Edition.{bytes}
+use Rattle.byte_edition.specs.Edition.{byteEdition}
 use Rattle.code.specs.Marks.{lost, Agree}
-use Rattle.code.specs.Answer.{Outcome, SameEnd}
-use Rattle.recover.specs.Service.{recoverOf}
+use Rattle.code.specs.Outcome.{Outcome, SameEnd}
+use Rattle.recover.specs.Recover.{recoverOf}
 use Rattle.recover.specs.DemandTwoLaws.{lost-bytes}
 use Rattle.gather_record.specs.declared.Gather.{Gather}
 use Rattle.gather_record.specs.Record.{Whole, placesOf, bytesOf, marksOf, gatherRefusal, begun}
@@ -23,8 +23,8 @@ use Rattle.gather_record.specs.RecordLaws.{Open, open-unrefused, marks-open, be
 use Rattle.gather_finish.specs.Finish.{finishRefusal, recoveryOf, closed, finishBy, finishOf}
 use Rattle.gather_finish.specs.FinishLaws.{finish-fit, finish-parts}
 use Rattle.gather_history.specs.History.{Stretch, after, Unrefused, Brings}
-use Rattle.gather_history.specs.Order.{Gathered, Holds, FinishesAs, FinishHolds, Alike, IdleHolds}
-use Rattle.gather_history.specs.OrderLaws.{brought-or, brought-inside, gathered}
+use Rattle.gather_history.specs.StretchOrder.{Gathered, Holds, FinishesAs, FinishHolds, Alike, IdleHolds}
+use Rattle.gather_history.specs.StretchOrderLaws.{brought-or, brought-inside, gathered}
 
 -- two recoveries that end alike give the same word to a lent one
 same-word : (a b : Outcome) (lent : List ℕ) → SameEnd a b → unlessRefused (a .number) (a .word) lent ≡ unlessRefused (b .number) (b .word) lent
@@ -115,7 +115,7 @@ module _ (m w c : ℕ) (good : Good m w c) (ss : List Stretch) (u : Unrefused ss
     same-end =
         subst (λ o. SameEnd o (recoverOf m w c word marks))
         (sym (recovery-of (after ss (begun m w c)) m w c m-is w-is c-is ∙ ap (recoverOf m w c (take (m * w) (after ss (begun m w c) .bytes))) marks-are))
-        (lost-bytes bytes m w c (take (m * w) (after ss (begun m w c) .bytes)) word marks (holds-itself .word-size ∙ sym (H .word-size)) words-agree)
+        (lost-bytes byteEdition m w c (take (m * w) (after ss (begun m w c) .bytes)) word marks (holds-itself .word-size ∙ sym (H .word-size)) words-agree)
 
 -- the finish of an open record
 by-recovery : (g : Gather) (lent : List ℕ) (r : Outcome) → finishRefusal (length lent) g ≡ 0 → SameEnd (recoveryOf g) r → FinishesAs (finishOf lent g) lent r
@@ -146,7 +146,7 @@ module _ (g : Gather) (others : List ℕ) (W : Whole g) (size : length others �
   recoveries : Good (g .m) (g .w) (g .c) → SameEnd (recoveryOf g) (recoveryOf other)
   recoveries good =
       let k = places-most good in
-      lost-bytes bytes (g .m) (g .w) (g .c) (bytesOf g) (take (placesOf g) others) (marksOf g)
+      lost-bytes byteEdition (g .m) (g .w) (g .c) (bytesOf g) (take (placesOf g) others) (marksOf g)
       (bytes-size g good W ∙ sym (length-take-le (placesOf g) others (omega (arith, size)))) same
     where
       same : Agree (length (bytesOf g)) (marksOf g) (bytesOf g) (take (placesOf g) others)

@@ -1,7 +1,7 @@
 pub mod History
-pub mod Order
+pub mod StretchOrder
 pub mod Closing
 pub mod PutLaws
-pub mod OrderLaws
+pub mod StretchOrderLaws
 pub mod FinishLaws
 pub mod ClosingLaws

@@ -1,6 +1,6 @@
 -- Laws of Take.
 use mathlib.Core.Path.{_≡_, refl, sym, ap, ap₂, _∙_, subst}
-use mathlib.Core.Bool.{Bool, true, false, not}
+use mathlib.Core.Bool.{Bool, true, false, not, _||_}
 use mathlib.Core.List.{List, _++_}
 use Prim.Native.Nat.{ℕ, zero, suc, _+_, _-_, _<_, _≤_}
 use native.Mathlib.Nat.{le-refl, le-suc, le-trans}
@@ -10,7 +10,7 @@ use lib.Dec.{T, eqb}
 use lib.Ieee.Bits.{is-true}
 use lib.ListN.{length, take, drop, getD, replicate, length-drop}
 use lib.Seq.{getD-take, getD-drop, length-take-le, drop-drop}
-use Rattle.counting.specs.Test.{either, anyBelow}
+use Rattle.counting.specs.Test.{anyBelow}
 use Rattle.counting.specs.TestLaws.{any-intro}
 use Rattle.code.specs.Marks.{lost}
 use Rattle.shape.specs.declared.Answer.{Answer}
@@ -25,11 +25,11 @@ use Rattle.gather_take.specs.Take.{someCame, takeRefusal, putAt, taken, 
 
 any-ext : (n : ℕ) (f h : ℕ → Bool) → ((i : ℕ) → i < n → f i ≡ h i) → anyBelow n f ≡ anyBelow n h
 any-ext zero f h e = refl
-any-ext (suc n) f h e = ap₂ either (e n (le-refl (suc n))) (any-ext n f h (λ i l. e i (le-trans l (le-suc n))))
+any-ext (suc n) f h e = ap₂ _||_ (e n (le-refl (suc n))) (any-ext n f h (λ i l. e i (le-trans l (le-suc n))))
 
 any-none : (n : ℕ) (f : ℕ → Bool) → ((i : ℕ) → i < n → f i ≡ false) → anyBelow n f ≡ false
 any-none zero f e = refl
-any-none (suc n) f e = ap₂ either (e n (le-refl (suc n))) (any-none n f (λ i l. e i (le-trans l (le-suc n))))
+any-none (suc n) f e = ap₂ _||_ (e n (le-refl (suc n))) (any-none n f (λ i l. e i (le-trans l (le-suc n))))
 
 -- ---- the search for a place that came
 

@@ -12,8 +12,8 @@ use Rattle.binary_field.specs.PowerLaws.{power-suc, power-double, frobenius}
 use Rattle.binary_field.specs.InverseLaws as ILaws
 use Rattle.binary_field.specs.Inverse.{isField, linearMap, inverse}
 use Rattle.binary_field.specs.InverseLaws.{inverse-lt, product-inverse}
-use Rattle.binary_field.specs.Order.{returnsAt, Order}
-use Rattle.binary_field.specs.OrderLaws.{order-of, order-product}
+use Rattle.binary_field.specs.ElementOrder.{returnsAt, Order}
+use Rattle.binary_field.specs.ElementOrderLaws.{order-of, order-product}
 use Rattle.gf256.specs.Bytes.{halving}
 
 pub is-field : T (isField 8 285 halving)
@@ -72,4 +72,5 @@ walk-15 = tt
 -- "2 has order 255."
 pub order-two : Order 8 285 2 255
 order-two =
-    order-product 8 285 (lit< tt) 2 14 16 (rw at-15 (order-of 8 285 (lit< tt) 16 38 (lit< tt) walk-17)) (rw power-17 (order-of 8 285 (lit< tt) 14 152 (lit< tt) walk-15))
+    order-product 8 285 (lit< tt) 2 14 16 (rw at-15 (order-of 8 285 (lit< tt) 16 38 (lit< tt) walk-17))
+    (rw power-17 (order-of 8 285 (lit< tt) 14 152 (lit< tt) walk-15))

@@ -1,6 +1,6 @@
 -- Laws: The sixteen locators: the constant table, its power rule by one test, and that they are the subfield of 16 elements.
 use mathlib.Core.Path.{_≡_, refl, sym, ap, ap₂, _∙_, subst}
-use mathlib.Core.Bool.{Bool, not}
+use mathlib.Core.Bool.{Bool, not, _&&_}
 use Prim.Native.Nat.{ℕ, zero, suc, _*_, _<_}
 use native.Mathlib.Nat.{mul-zero, mul-suc, add-comm}
 use native.Mathlib.Omega.{arith}
@@ -9,8 +9,8 @@ use lib.Dec.{T, eqb, ltb, eqb→eq, eqb-refl, ltb→lt, T-not, lit<}
 use lib.ListN.{getD}
 use Rattle.binary_field.specs.Xor.{_⊕_, masked}
 use Rattle.binary_field.specs.XorLaws.{⊕-lt}
-use Rattle.counting.specs.Test.{both, allBelow, anyBelow, same}
-use Rattle.counting.specs.TestLaws.{both-l, both-r, all-at, any-at, any-intro, same-from-l, same-from-r}
+use Rattle.counting.specs.Test.{allBelow, anyBelow, same}
+use Rattle.counting.specs.TestLaws.{and-l, and-r, all-at, any-at, any-intro, same-from-l, same-from-r}
 use Rattle.binary_field.specs.Product.{double, bitSum, product}
 use Rattle.binary_field.specs.ProductLaws.{product-lt}
 use Rattle.binary_field.specs.Power.{power, squares}
@@ -23,7 +23,7 @@ nextRight : ℕ → Bool
 nextRight j = eqb (getD locators (suc j) 0) (product 8 285 152 (getD locators j 0))
 
 powerRule : Bool
-powerRule = both (eqb (getD locators 0 0) 1) (allBelow 14 nextRight)
+powerRule = eqb (getD locators 0 0) 1 && allBelow 14 nextRight
 
 power-rule : T powerRule
 unfolding powerRule nextRight locators product bitSum double masked _⊕_
@@ -32,10 +32,11 @@ power-rule = tt
 -- "Place j below 15 has 2 to the power 17j."
 pub locator-power : (j : ℕ) → j < 15 → getD locators j 0 ≡ power 8 285 2 (17 * j)
 unfolding powerRule nextRight
-locator-power zero h = eqb→eq (getD locators 0 0) 1 (both-l (eqb (getD locators 0 0) 1) (allBelow 14 nextRight) power-rule) ∙ sym (ap (power 8 285 2) (mul-zero 17) ∙ power-zero 8 285 2)
+locator-power zero h = eqb→eq (getD locators 0 0) 1 (and-l (eqb (getD locators 0 0) 1) (allBelow 14 nextRight) power-rule)
+    ∙ sym (ap (power 8 285 2) (mul-zero 17) ∙ power-zero 8 285 2)
 locator-power (suc j) h =
     eqb→eq (getD locators (suc j) 0) (product 8 285 152 (getD locators j 0))
-    (all-at 14 nextRight (both-r (eqb (getD locators 0 0) 1) (allBelow 14 nextRight) power-rule) j (omega arith))
+    (all-at 14 nextRight (and-r (eqb (getD locators 0 0) 1) (allBelow 14 nextRight) power-rule) j (omega arith))
     ∙ ap₂ (product 8 285) (sym power-17) (locator-power j (omega arith)) ∙ sym (power-add 8 285 (lit< tt) 2 17 (17 * j))
     ∙ ap (power 8 285 2) (add-comm 17 (17 * j) ∙ sym (mul-suc 17 j))
 
@@ -106,7 +107,8 @@ module _ (i j : ℕ) (hi : i < 16) (hj : j < 16) where
   -- closed under sum
   pub locator-sum : Locator (getD locators i 0 ⊕ getD locators j 0)
   unfolding a b
-  locator-sum = fixed-locator (a ⊕ b) (⊕-lt 8 a b (locator-lt i hi) (locator-lt j hj)) (frobenius 8 285 (lit< tt) a b 4 ∙ ap₂ _⊕_ (locator-fixed i hi) (locator-fixed j hj))
+  locator-sum = fixed-locator (a ⊕ b) (⊕-lt 8 a b (locator-lt i hi) (locator-lt j hj))
+      (frobenius 8 285 (lit< tt) a b 4 ∙ ap₂ _⊕_ (locator-fixed i hi) (locator-fixed j hj))
 
   -- and under product
   pub locator-product : Locator (product 8 285 (getD locators i 0) (getD locators j 0))

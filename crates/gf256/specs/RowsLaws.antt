@@ -1,14 +1,14 @@
 -- Laws: The rows of sixteen that the inverse is made of: the inverse of a is a^16 times the inverse of its norm a^17, which is a locator.
 use mathlib.Core.Path.{_≡_, sym, ap, ap₂, _∙_}
-use mathlib.Core.Bool.{Bool}
+use mathlib.Core.Bool.{Bool, _&&_}
 use Prim.Native.Nat.{ℕ, zero, suc, _*_, _/_, _%_, _<_}
 use native.Mathlib.Nat.{div-add-mod', mod-lt, zero-lt-suc, le-of-suc-le-suc}
 use native.Mathlib.Decide.{ℕ-discrete}
 use native.Mathlib.Omega.{arith}
 use lib.Dec.{T, eqb, ltb, eqb→eq, ltb→lt, lit<}
 use lib.ListN.{getD}
-use Rattle.counting.specs.Test.{both, allBelow}
-use Rattle.counting.specs.TestLaws.{both-l, both-r, all-at}
+use Rattle.counting.specs.Test.{allBelow}
+use Rattle.counting.specs.TestLaws.{and-l, and-r, all-at}
 use Rattle.binary_field.specs.Xor.{_⊕_, masked}
 use Rattle.binary_field.specs.XorLaws.{⊕-shifted, ⊕-comm}
 use Rattle.binary_field.specs.Product.{double, bitSum, product}
@@ -31,7 +31,7 @@ highRight : ℕ → Bool
 highRight i = eqb (getD sixteenthsHigh i 0) (squares 8 285 4 (i * 16))
 
 -- the rule over both rows
-sixteenths-rule : T (both (allBelow 16 lowRight) (allBelow 16 highRight))
+sixteenths-rule : T (allBelow 16 lowRight && allBelow 16 highRight)
 unfolding lowRight highRight sixteenthsLow sixteenthsHigh squares product bitSum double masked _⊕_
 sixteenths-rule = tt
 
@@ -39,13 +39,14 @@ module _ (i : ℕ) (h : i < 16) where
   low-is : getD sixteenthsLow i 0 ≡ power 8 285 i 16
   unfolding lowRight
   low-is =
-      eqb→eq (getD sixteenthsLow i 0) (squares 8 285 4 i) (all-at 16 lowRight (both-l (allBelow 16 lowRight) (allBelow 16 highRight) sixteenths-rule) i h)
+      eqb→eq (getD sixteenthsLow i 0) (squares 8 285 4 i) (all-at 16 lowRight (and-l (allBelow 16 lowRight) (allBelow 16 highRight) sixteenths-rule) i h)
       ∙ sym (power-squares 8 285 (lit< tt) i 4 (omega arith))
 
   high-is : getD sixteenthsHigh i 0 ≡ power 8 285 (i * 16) 16
   unfolding highRight
   high-is =
-      eqb→eq (getD sixteenthsHigh i 0) (squares 8 285 4 (i * 16)) (all-at 16 highRight (both-r (allBelow 16 lowRight) (allBelow 16 highRight) sixteenths-rule) i h)
+      eqb→eq (getD sixteenthsHigh i 0) (squares 8 285 4 (i * 16)) (all-at 16 highRight (and-r (allBelow 16 lowRight) (allBelow 16 highRight) sixteenths-rule) i
+      h)
       ∙ sym (power-squares 8 285 (lit< tt) (i * 16) 4 (omega arith))
 
 -- what the two halves of a byte give add up to its sixteenth power
@@ -61,10 +62,10 @@ foundRight j = eqb (getD locatorsByLow (getD locators j 0 % 16) 0) (getD locator
 
 inverseRight : ℕ → Bool
 inverseRight i =
-    both (ltb (getD locatorInverses (suc i) 0) 256) (eqb (product 8 285 (getD locatorsByLow (suc i) 0) (getD locatorInverses (suc i) 0)) 1)
+    ltb (getD locatorInverses (suc i) 0) 256 && eqb (product 8 285 (getD locatorsByLow (suc i) 0) (getD locatorInverses (suc i) 0)) 1
 
 -- the rule over both rows: each locator is found by its low four bits, and what stands there is its inverse
-inverses-rule : T (both (allBelow 16 foundRight) (allBelow 15 inverseRight))
+inverses-rule : T (allBelow 16 foundRight && allBelow 15 inverseRight)
 unfolding foundRight inverseRight locators locatorsByLow locatorInverses product bitSum double masked _⊕_
 inverses-rule = tt
 
@@ -73,7 +74,7 @@ unfolding foundRight
 locator-found a l =
     ap (λ x. getD locatorsByLow (x % 16) 0) (sym (l .is))
     ∙ eqb→eq (getD locatorsByLow (getD locators (l .place) 0 % 16) 0) (getD locators (l .place) 0)
-    (all-at 16 foundRight (both-l (allBelow 16 foundRight) (allBelow 15 inverseRight) inverses-rule) (l .place) (l .place-lt))
+    (all-at 16 foundRight (and-l (allBelow 16 foundRight) (allBelow 15 inverseRight) inverses-rule) (l .place) (l .place-lt))
     ∙ l .is
 
 module _ (a : ℕ) (found : getD locatorsByLow (a % 16) 0 ≡ a) (n : a ≡ 0 → ⊥) where
@@ -84,10 +85,11 @@ module _ (a : ℕ) (found : getD locatorsByLow (a % 16) 0 ≡ a) (n : a ≡ 0 �
       at : (i : ℕ) → i < 16 → getD locatorsByLow i 0 ≡ a → (getD locatorInverses i 0 < 256) × (product 8 285 a (getD locatorInverses i 0) ≡ 1)
       at zero h e = absurd (n (sym e))
       at (suc i) h e =
-          let t = all-at 15 inverseRight (both-r (allBelow 16 foundRight) (allBelow 15 inverseRight) inverses-rule) i (le-of-suc-le-suc h) in (
-            ltb→lt (getD locatorInverses (suc i) 0) 256 (both-l (ltb (getD locatorInverses (suc i) 0) 256) _ t),
+          let t = all-at 15 inverseRight (and-r (allBelow 16 foundRight) (allBelow 15 inverseRight) inverses-rule) i (le-of-suc-le-suc h) in (
+            ltb→lt (getD locatorInverses (suc i) 0) 256 (and-l (ltb (getD locatorInverses (suc i) 0) 256) _ t),
             ap (λ x. product 8 285 x (getD locatorInverses (suc i) 0)) (sym e)
-                ∙ eqb→eq (product 8 285 (getD locatorsByLow (suc i) 0) (getD locatorInverses (suc i) 0)) 1 (both-r (ltb (getD locatorInverses (suc i) 0) 256) _ t),
+                ∙ eqb→eq (product 8 285 (getD locatorsByLow (suc i) 0) (getD locatorInverses (suc i) 0)) 1
+                (and-r (ltb (getD locatorInverses (suc i) 0) 256) _ t),
           )
 
 -- the inverse of a locator, 0 included
@@ -128,7 +130,8 @@ module _ (a : ℕ) (h : a < 256) where
       zero-sixteenth = power-suc 8 285 0 15 ∙ zero-product 8 285 (power 8 285 0 15)
 
       nonzero : (a ≡ 0 → ⊥) → power 8 285 a 16 ≡ 0 → ⊥
-      nonzero n e = n (sym (power-size 8 285 (lit< tt) halving is-field a h) ∙ power-mul 8 285 (lit< tt) a 16 16 ∙ ap (λ x. power 8 285 x 16) e ∙ zero-sixteenth)
+      nonzero n e = n (sym (power-size 8 285 (lit< tt) halving is-field a h) ∙ power-mul 8 285 (lit< tt) a 16 16 ∙ ap (λ x. power 8 285 x 16) e
+          ∙ zero-sixteenth)
 
       go : Dec (a ≡ 0) → product 8 285 (power 8 285 a 16) (getD locatorInverses (product 8 285 a (power 8 285 a 16) % 16) 0) ≡ inverse 8 285 a
       go (yes e) =
@@ -137,4 +140,5 @@ module _ (a : ℕ) (h : a < 256) where
       go (no n) =
           inverse-only a (product 8 285 s t) h (product-lt 8 285 s t) n
           (sym (product-assoc 8 285 a s t)
-          ∙ (inverse-tested (product 8 285 a s) (locator-found (product 8 285 a s) norm-locator) (λ e. nonzero n (no-zero-divisors a s h (power-lt 8 285 (lit< tt) a 16) n e))) .1)
+          ∙ (inverse-tested (product 8 285 a s) (locator-found (product 8 285 a s) norm-locator)
+          (λ e. nonzero n (no-zero-divisors a s h (power-lt 8 285 (lit< tt) a 16) n e))) .1)

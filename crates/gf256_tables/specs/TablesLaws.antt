@@ -1,6 +1,6 @@
 -- Laws: "Powers and logarithms for all 255 nonzero bytes are kept as constants": the two tables, one test over them, and the product through them.
 use mathlib.Core.Path.{_≡_, refl, sym, ap, ap₂, _∙_, subst}
-use mathlib.Core.Bool.{Bool, true, false}
+use mathlib.Core.Bool.{Bool, true, false, _&&_}
 use mathlib.Core.List.{List, [], _∷_}
 use Prim.Native.Nat.{ℕ, zero, suc, _+_, _-_, _<_, _≤_}
 use native.Mathlib.Nat.{not-suc-le-zero, le-of-suc-le-suc, add-zero, zero-add, suc-add, add-suc}
@@ -10,8 +10,8 @@ use borrow.Author.Tests.{ltb-true, ltb-false, eq-eqb, ne-eqb, lt-ltb, le-ltb}
 use lib.Dec.{T, eqb, ltb, eqb→eq, ltb→lt, lit<}
 use lib.ListN.{length, getD}
 use Rattle.binary_field.specs.Xor.{_⊕_, masked}
-use Rattle.counting.specs.Test.{both, allBelow}
-use Rattle.counting.specs.TestLaws.{both-l, both-r, all-at}
+use Rattle.counting.specs.Test.{allBelow}
+use Rattle.counting.specs.TestLaws.{and-l, and-r, all-at}
 use Rattle.binary_field.specs.Product.{double, product}
 use Rattle.binary_field.specs.ProductLaws.{product-zero, zero-product}
 use Rattle.binary_field.specs.Power.{power}
@@ -22,15 +22,15 @@ use Rattle.gf256_tables.specs.Tables.{powers, logs, pick, wrapped, throu
 -- each entry is the double of the one before, from a on
 unfoldable chain : ℕ → List ℕ → Bool
 chain a [] = true
-chain a (x ∷ xs) = both (eqb x a) (chain (double 8 285 a) xs)
+chain a (x ∷ xs) = eqb x a && chain (double 8 285 a) xs
 
 -- the logarithm of the byte i + 1 is below 255, and the power at it is that byte
 logRight : ℕ → Bool
-logRight i = both (ltb (getD logs (suc i) 0) 255) (eqb (getD powers (getD logs (suc i) 0) 0) (suc i))
+logRight i = ltb (getD logs (suc i) 0) 255 && eqb (getD powers (getD logs (suc i) 0) 0) (suc i)
 
 -- the one rule over the tables
 rule : Bool
-rule = both (chain 1 powers) (allBelow 255 logRight)
+rule = chain 1 powers && allBelow 255 logRight
 
 rule-holds : T rule
 unfolding rule chain logRight powers logs double masked _⊕_
@@ -39,15 +39,15 @@ rule-holds = tt
 chain-at : (s : ℕ) (xs : List ℕ) → T (chain (power 8 285 2 s) xs) → (i : ℕ) → i < length xs → getD xs i 0 ≡ power 8 285 2 (s + i)
 unfolding chain
 chain-at s [] t i h = absurd (not-suc-le-zero h)
-chain-at s (x ∷ xs) t zero h = eqb→eq x (power 8 285 2 s) (both-l (eqb x (power 8 285 2 s)) _ t) ∙ ap (power 8 285 2) (sym (add-zero s))
+chain-at s (x ∷ xs) t zero h = eqb→eq x (power 8 285 2 s) (and-l (eqb x (power 8 285 2 s)) _ t) ∙ ap (power 8 285 2) (sym (add-zero s))
 chain-at s (x ∷ xs) t (suc i) h =
-    chain-at (suc s) xs (subst (λ a. T (chain a xs)) (sym (power-next s)) (both-r (eqb x (power 8 285 2 s)) _ t)) i (le-of-suc-le-suc h)
+    chain-at (suc s) xs (subst (λ a. T (chain a xs)) (sym (power-next s)) (and-r (eqb x (power 8 285 2 s)) _ t)) i (le-of-suc-le-suc h)
     ∙ ap (power 8 285 2) (suc-add s i ∙ sym (add-suc s i))
 
 -- the entry i is 2 to the power i
 pub powers-at : (i : ℕ) → i < 256 → getD powers i 0 ≡ power 8 285 2 i
 unfolding rule power powers
-powers-at i h = chain-at 0 powers (both-l (chain 1 powers) (allBelow 255 logRight) rule-holds) i h ∙ ap (power 8 285 2) (zero-add i)
+powers-at i h = chain-at 0 powers (and-l (chain 1 powers) (allBelow 255 logRight) rule-holds) i h ∙ ap (power 8 285 2) (zero-add i)
 
 -- "2 to the power 255 is 1"
 pub power-255 : power 8 285 2 255 ≡ 1
@@ -55,22 +55,22 @@ unfolding powers
 power-255 = sym (powers-at 255 (lit< tt))
 
 module _ (x : ℕ) (h : x < 256) (ne : x ≡ 0 → ⊥) where
-  log-tested : T (both (ltb (getD logs x 0) 255) (eqb (getD powers (getD logs x 0) 0) x))
+  log-tested : T (ltb (getD logs x 0) 255 && eqb (getD powers (getD logs x 0) 0) x)
   unfolding rule logRight
   log-tested = at x h ne
     where
-      at : (y : ℕ) → y < 256 → (y ≡ 0 → ⊥) → T (both (ltb (getD logs y 0) 255) (eqb (getD powers (getD logs y 0) 0) y))
+      at : (y : ℕ) → y < 256 → (y ≡ 0 → ⊥) → T (ltb (getD logs y 0) 255 && eqb (getD powers (getD logs y 0) 0) y)
       at zero l n = absurd (n refl)
-      at (suc i) l n = all-at 255 logRight (both-r (chain 1 powers) (allBelow 255 logRight) rule-holds) i (le-of-suc-le-suc l)
+      at (suc i) l n = all-at 255 logRight (and-r (chain 1 powers) (allBelow 255 logRight) rule-holds) i (le-of-suc-le-suc l)
 
   pub log-lt : getD logs x 0 < 255
-  log-lt = ltb→lt (getD logs x 0) 255 (both-l (ltb (getD logs x 0) 255) _ log-tested)
+  log-lt = ltb→lt (getD logs x 0) 255 (and-l (ltb (getD logs x 0) 255) _ log-tested)
 
   -- 2 to the power of the logarithm of x is x
   pub power-log : power 8 285 2 (getD logs x 0) ≡ x
   power-log =
       sym (powers-at (getD logs x 0) (let l = log-lt in omega arith))
-      ∙ eqb→eq (getD powers (getD logs x 0) 0) x (both-r (ltb (getD logs x 0) 255) _ log-tested)
+      ∙ eqb→eq (getD powers (getD logs x 0) 0) x (and-r (ltb (getD logs x 0) 255) _ log-tested)
 
 module _ (p l : List ℕ) (a b x y : ℕ) (na : a ≡ 0 → ⊥) (nb : b ≡ 0 → ⊥) (ex : x ≡ getD l a 0) (ey : y ≡ getD l b 0) where
   -- the sum of the logarithms is below 255, or not
@@ -105,4 +105,5 @@ tables-product a b ha hb = go (ℕ-discrete a 0) (ℕ-discrete b 0)
         let i : ℕ = getD logs a 0 in
         let j : ℕ = getD logs b 0 in
         rw (ne-eqb a 0 n, ne-eqb b 0 l)
-        (power-wrapped (i + j) (omega (arith, log-lt a ha n, log-lt b hb l)) ∙ power-add 8 285 (lit< tt) 2 i j ∙ ap₂ (product 8 285) (power-log a ha n) (power-log b hb l))
+        (power-wrapped (i + j) (omega (arith, log-lt a ha n, log-lt b hb l)) ∙ power-add 8 285 (lit< tt) 2 i j
+        ∙ ap₂ (product 8 285) (power-log a ha n) (power-log b hb l))

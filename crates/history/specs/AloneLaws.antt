@@ -9,7 +9,7 @@ use lib.Dec.{eqb}
 use lib.ListN.{length, getD, set}
 use lib.Seq.{getD-set-same, getD-set-other}
 use Rattle.shape.specs.Refusals.{refuse, _orElse_}
-use Rattle.judge.specs.Answer.{judgedNumberOf}
+use Rattle.judge.specs.Judgement.{judgedNumberOf}
 use Rattle.desk_job.specs.declared.Job.{Job}
 use Rattle.desk_record.specs.declared.Desk.{Desk}
 use Rattle.desk_job.specs.Jobs.{emptyJob, noJob, isTaken}

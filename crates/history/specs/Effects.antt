@@ -5,7 +5,7 @@ use mathlib.Core.List.{List}
 use Prim.Native.Nat.{ℕ, _+_, _<_}
 use lib.Dec.{eqb}
 use lib.ListN.{length, getD}
-use Rattle.judge.specs.Answer.{judgedNumberOf}
+use Rattle.judge.specs.Judgement.{judgedNumberOf}
 use Rattle.desk_job.specs.declared.Job.{Job}
 use Rattle.desk_record.specs.declared.Desk.{Desk}
 use Rattle.desk_job.specs.Jobs.{emptyJob, noJob, isTaken}

@@ -12,7 +12,7 @@ use lib.ListN.{length, getD, replicate, getD-replicate, length-replicate}
 use lib.Seq.{take-at}
 use Rattle.shape.specs.Refusals.{refuse, _orElse_}
 use Rattle.shape.specs.RefusalsLaws.{refuse-zero, orElse-zero}
-use Rattle.judge.specs.Answer.{judgedNumberOf}
+use Rattle.judge.specs.Judgement.{judgedNumberOf}
 use Rattle.desk_job.specs.declared.Job.{Job}
 use Rattle.desk_record.specs.declared.Desk.{Desk}
 use Rattle.desk_record.specs.Desks.{freshDesk, jobAt, issueOf, slotOf, isIssued, isSoundSlot, isSound, isOpen}
@@ -157,14 +157,16 @@ module _ (m w c : ℕ) (marks : List ℕ) (desk : Desk) (size : length (desk .jo
         good = new-good m w c marks (H m w c marks desk size S judged early room) judged;
         figures = new-figures m w c marks (H m w c marks desk size S judged early room);
         place = ap slotOf job-handle ∙ new-slot;
-        issue = issued-to (desk .t + 1) (issueOf (job m w c marks desk size S judged early room .handle)) (rw (job-handle, new-issue) (omega arith)) (rw (job-handle, new-issue) (omega arith));
+        issue = issued-to (desk .t + 1) (issueOf (job m w c marks desk size S judged early room .handle)) (rw (job-handle, new-issue) (omega arith))
+            (rw (job-handle, new-issue) (omega arith));
       }))
       (λ r k n a b e.
       let i = issued-of (desk .t) (issueOf (jobAt desk r .handle)) (taken-of (desk .t) r (jobAt desk r) (S .slots r k) b .issue) in
       let f : issueOf (jobAt desk r .handle) ≡ desk .t + 1 = e ∙ ap issueOf job-handle ∙ new-issue in
       omega arith)
 
-  pub opened-open : (h : ℕ) → isOpen (opened m w c marks desk size S judged early room) h ≡ (eqb h (H m w c marks desk size S judged early room) || isOpen desk h)
+  pub opened-open : (h : ℕ) → isOpen (opened m w c marks desk size S judged early room) h
+      ≡ (eqb h (H m w c marks desk size S judged early room) || isOpen desk h)
   opened-open h = elim (ℕ-discrete (slotOf h) (freeSlot desk)) [
     | yes e ↦ (
         let before : isOpen desk h ≡ false =
@@ -173,7 +175,9 @@ module _ (m w c : ℕ) (marks : List ℕ) (desk : Desk) (size : length (desk .jo
         open-here desk size S (desk .t + 1) (freeSlot desk) room (job m w c marks desk size S judged early room) opened-sound h e
         ∙ ap (λ b. b && eqb (job m w c marks desk size S judged early room .handle) h) job-taken
         ∙ ap (λ x. eqb x h) job-handle
-        ∙ bool-same (eqb (H m w c marks desk size S judged early room) h) (eqb h (H m w c marks desk size S judged early room)) (λ a. eq-eqb h (H m w c marks desk size S judged early room) (sym (eqb-true (H m w c marks desk size S judged early room) h a))) (λ a. eq-eqb (H m w c marks desk size S judged early room) h (sym (eqb-true h (H m w c marks desk size S judged early room) a)))
+        ∙ bool-same (eqb (H m w c marks desk size S judged early room) h) (eqb h (H m w c marks desk size S judged early room))
+        (λ a. eq-eqb h (H m w c marks desk size S judged early room) (sym (eqb-true (H m w c marks desk size S judged early room) h a)))
+        (λ a. eq-eqb (H m w c marks desk size S judged early room) h (sym (eqb-true h (H m w c marks desk size S judged early room) a)))
         ∙ sym (or-false (eqb h (H m w c marks desk size S judged early room)))
         ∙ ap (λ b. eqb h (H m w c marks desk size S judged early room) || b) (sym before))
     | no n ↦
@@ -181,8 +185,10 @@ module _ (m w c : ℕ) (marks : List ℕ) (desk : Desk) (size : length (desk .jo
         ∙ ap (λ b. b || isOpen desk h) (sym (ne-eqb h (H m w c marks desk size S judged early room) (λ e. n (ap slotOf e ∙ new-slot))))
   ]
 
-  pub opened-new : jobAt (opened m w c marks desk size S judged early room) (slotOf (H m w c marks desk size S judged early room)) ≡ job m w c marks desk size S judged early room
-  opened-new = ap (jobAt (opened m w c marks desk size S judged early room)) new-slot ∙ put-same desk size (desk .t + 1) (freeSlot desk) room (job m w c marks desk size S judged early room)
+  pub opened-new : jobAt (opened m w c marks desk size S judged early room) (slotOf (H m w c marks desk size S judged early room))
+      ≡ job m w c marks desk size S judged early room
+  opened-new = ap (jobAt (opened m w c marks desk size S judged early room)) new-slot
+      ∙ put-same desk size (desk .t + 1) (freeSlot desk) room (job m w c marks desk size S judged early room)
 
   -- an open handle's job stays as it was
   pub opened-job : (h : ℕ) → isOpen desk h ≡ true → jobAt (opened m w c marks desk size S judged early room) (slotOf h) ≡ jobAt desk (slotOf h)

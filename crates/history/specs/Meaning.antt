@@ -7,12 +7,12 @@ use mathlib.Core.List.{List}
 use Prim.Native.Nat.{ℕ, _+_, _*_, _<_, _≤_}
 use lib.ListN.{length, getD, set}
 use Rattle.shape.specs.Shapes.{Good, placeCount}
-use Rattle.byte_edition.specs.Edition.{bytes}
+use Rattle.byte_edition.specs.Edition.{byteEdition}
 use Rattle.code.specs.Marks.{lostIn, excess}
 use Rattle.code.specs.Contradiction.{contradictingGroup}
 use Rattle.code.specs.Recovery.{Agrees}
 use Rattle.recover.specs.DemandTwo.{Named}
-use Rattle.judge.specs.Answer.{judgedNumberOf}
+use Rattle.judge.specs.Judgement.{judgedNumberOf}
 use Rattle.desk_job.specs.declared.Job.{Job}
 use Rattle.desk_record.specs.declared.Desk.{Desk}
 use Rattle.desk_job.specs.Jobs.{emptyJob, isFree, isTaken, marksOf}
@@ -113,11 +113,11 @@ pub record Closes (handle : ℕ) (desk : Desk) (o : Closing) : Type 0 where
 
 -- a codeword of the job's shape that agrees with the word at the places that the job's marks leave
 abbrev pub AgreesBy : Job → List ℕ → List ℕ → Type 0
-AgreesBy job word y = Agrees bytes (job .m) (job .w) (job .c) (marksOf job) word y
+AgreesBy job word y = Agrees byteEdition (job .m) (job .w) (job .c) (marksOf job) word y
 
 -- by the job's marks, "the lowest group whose present bytes no filling can satisfy locally, or m"
 abbrev pub groupBy : Job → List ℕ → ℕ
-groupBy job word = contradictingGroup bytes (job .m) (job .w) (job .c) word (marksOf job)
+groupBy job word = contradictingGroup byteEdition (job .m) (job .w) (job .c) word (marksOf job)
 
 -- of a job "5, 13, 9", in this order: the length is not n; the served count is at its end; no codeword agrees with the present bytes
 pub record JobNumbers (job : Job) (word : List ℕ) (number group : ℕ) : Type 0 where
@@ -126,7 +126,7 @@ pub record JobNumbers (job : Job) (word : List ℕ) (number group : ℕ) : Type 
   pub contradictory : (number ≡ 9) ↔ ((length word ≡ placeCount (job .m) (job .w)) × ¬ (job .served ≡ 4294967295) × ((y : List ℕ) → ¬ AgreesBy job word y))
   -- "A 9 now carries a group number"
   pub group-is : number ≡ 9 → group ≡ groupBy job word
-  pub named : number ≡ 9 → Named bytes (job .m) (job .w) (job .c) word (marksOf job) group
+  pub named : number ≡ 9 → Named byteEdition (job .m) (job .w) (job .c) word (marksOf job) group
   pub done : (number ≡ 0) ↔ ((length word ≡ placeCount (job .m) (job .w)) × ¬ (job .served ≡ 4294967295) × ((y : List ℕ) × AgreesBy job word y))
 
 -- "31 comes before all others, and with a handle 12 comes next, then 5, 13, 9; a serve can't meet 8"

@@ -14,16 +14,16 @@ use Rattle.shape.specs.RefusalsLaws.{orElse-zero}
 use Rattle.shape.specs.Laws.{word-of-good}
 use Rattle.marks.specs.Refusal.{marksRefusal}
 use Rattle.marks.specs.RefusalLaws.{marks-of-good, marks-most}
-use Rattle.judge.specs.Answer.{judgedNumberOf, judgedNumberIn}
-use Rattle.byte_edition.specs.Edition.{bytes}
+use Rattle.judge.specs.Judgement.{judgedNumberOf, judgedNumberIn}
+use Rattle.byte_edition.specs.Edition.{byteEdition}
 use Rattle.byte_edition.specs.EditionLaws.{bytes-sound}
 use Rattle.code.specs.Word.{isCodeword}
 use Rattle.code.specs.Marks.{excess}
-use Rattle.code.specs.Answer.{Outcome, eight, nine, done}
-use Rattle.code.specs.AnswerLaws as AnswerLaws
+use Rattle.code.specs.Outcome.{Outcome, eight, nine, done}
+use Rattle.code.specs.OutcomeLaws as OutcomeLaws
 use Rattle.code.specs.Recovery.{recovered}
 use Rattle.code.specs.RecoveryLaws.{agrees-passing, passing-agrees}
-use Rattle.recover.specs.Service.{recoverRefusal, recoverRefusalIn, recoverIn, unlessBefore}
+use Rattle.recover.specs.Recover.{recoverRefusal, recoverRefusalIn, recoverIn, unlessBefore}
 use Rattle.recover.specs.DemandTwo.{Named, DemandTwo}
 use Rattle.recover.specs.DemandTwoLaws.{demand-two}
 use Rattle.desk_job.specs.declared.Job.{Job}
@@ -129,12 +129,12 @@ module _ (job : Job) (word : List ℕ) (good : isGood job ≡ true) (size : leng
       let M = good-iff job .0 good .0 in
       simp (word-of-good (job .m) (job .w) (job .c) (length word) (M .good) size, marks-of-good (job .m) (job .w) (job .c) (marksOf job) M)
 
-  pub good-recovery : recoveryOf job word ≡ recovered bytes (job .m) (job .w) (job .c) word (marksOf job)
+  pub good-recovery : recoveryOf job word ≡ recovered byteEdition (job .m) (job .w) (job .c) word (marksOf job)
   unfolding recoverIn
-  good-recovery = ap (λ r. unlessBefore r (recovered bytes (job .m) (job .w) (job .c) word (marksOf job)) word (marksOf job)) not-before
+  good-recovery = ap (λ r. unlessBefore r (recovered byteEdition (job .m) (job .w) (job .c) word (marksOf job)) word (marksOf job)) not-before
 
   -- demand 2 of the recovery by the job's marks
-  pub job-demand : ((p : ℕ) → getD word p 0 < 256) → DemandTwo bytes (job .m) (job .w) (job .c) word (marksOf job)
+  pub job-demand : ((p : ℕ) → getD word p 0 < 256) → DemandTwo byteEdition (job .m) (job .w) (job .c) word (marksOf job)
   job-demand b =
       let M = good-iff job .0 good .0 in
       demand-two bytes-sound (job .m) (job .w) (job .c) word (marksOf job) (M .good) size b (M .size) (M .each)
@@ -145,7 +145,7 @@ data JobCase (job : Job) (word : List ℕ) (number : ℕ) : Type 0 where
   at-end : length word ≡ job .m * job .w → job .served ≡ 4294967295 → number ≡ 13 → JobCase job word number
   none-agrees : length word ≡ job .m * job .w → ¬ (job .served ≡ 4294967295) → ((y : List ℕ) → ¬ AgreesBy job word y)
       → (recoveryOf job word) .group ≡ groupBy job word
-      → (((p : ℕ) → getD word p 0 < 256) → Named bytes (job .m) (job .w) (job .c) word (marksOf job) ((recoveryOf job word) .group))
+      → (((p : ℕ) → getD word p 0 < 256) → Named byteEdition (job .m) (job .w) (job .c) word (marksOf job) ((recoveryOf job word) .group))
       → number ≡ 9 → JobCase job word number
   one-agrees : length word ≡ job .m * job .w → ¬ (job .served ≡ 4294967295) → (((p : ℕ) → getD word p 0 < 256) → (y : List ℕ) × AgreesBy job word y)
       → number ≡ 0 → JobCase job word number
@@ -154,23 +154,24 @@ module _ (job : Job) (word : List ℕ) (good : isGood job ≡ true) where
   recovery-case : length word ≡ job .m * job .w → ¬ (job .served ≡ 4294967295) → JobCase job word (jobNumber job word)
   recovery-case h k =
       elim
-      (AnswerLaws.cases 256 (isCodeword bytes (job .m) (job .w) (job .c)) (ltb 2 (excess (job .m) (job .w) (job .c) (marksOf job))) (groupBy job word) word
+      (OutcomeLaws.cases 256 (isCodeword byteEdition (job .m) (job .w) (job .c)) (ltb 2 (excess (job .m) (job .w) (job .c) (marksOf job)))
+      (groupBy job word) word
       (marksOf job)) [
         | eight l e ↦ (
             let a = ltb-true 2 (excess (job .m) (job .w) (job .c) (marksOf job)) l in
             let b = good-iff job .0 good .1 in
             absurd (omega arith))
         | nine _ never e ↦
-            none-agrees h k (λ y A. never y (agrees-passing bytes (job .m) (job .w) (job .c) (marksOf job) word y h A))
+            none-agrees h k (λ y A. never y (agrees-passing byteEdition (job .m) (job .w) (job .c) (marksOf job) word y h A))
             (ap (λ (o : Outcome). o .group) (good-recovery job word good h ∙ e))
             (λ b. job-demand job word good h b .group (ap (λ (o : Outcome). o .number) (good-recovery job word good h ∙ e)))
             (number ∙ ap (λ (o : Outcome). o .number) e)
         | done _ x P e ↦
-            one-agrees h k (λ b. (x, passing-agrees bytes (job .m) (job .w) (job .c) (marksOf job) word x (record { size = h; each = b }) P))
+            one-agrees h k (λ b. (x, passing-agrees byteEdition (job .m) (job .w) (job .c) (marksOf job) word x (record { size = h; each = b }) P))
             (number ∙ ap (λ (o : Outcome). o .number) e)
       ]
     where
-      number : jobNumber job word ≡ (recovered bytes (job .m) (job .w) (job .c) word (marksOf job)) .number
+      number : jobNumber job word ≡ (recovered byteEdition (job .m) (job .w) (job .c) word (marksOf job)) .number
       number = job-recovery job word h k ∙ ap (λ (o : Outcome). o .number) (good-recovery job word good h)
 
   job-case : JobCase job word (jobNumber job word)
@@ -202,7 +203,7 @@ job-numbers job word number group g b (at-end h k e) = record {
 }
 job-numbers job word number group g b (none-agrees h k never q named e) = record {
   group-is = λ z. g z ∙ q;
-  named = λ z. subst (Named bytes (job .m) (job .w) (job .c) word (marksOf job)) (sym (g z)) (named b);
+  named = λ z. subst (Named byteEdition (job .m) (job .w) (job .c) word (marksOf job)) (sym (g z)) (named b);
   long = (λ z. absurd (omega arith), λ p. absurd (p h));
   ended = (λ z. absurd (omega arith), λ p. absurd (k (p .1)));
   contradictory = (λ _. (h, k, never), λ _. e);

@@ -18,7 +18,7 @@ use Rattle.desk_change.specs.Change.{changed, placeNumber, changeNumber, change
 use Rattle.desk_open.specs.OpenLaws.{open-parts}
 use Rattle.shape.specs.Refusals.{refuse, _orElse_}
 use Rattle.shape.specs.RefusalsLaws.{orElse-zero}
-use Rattle.judge.specs.Answer.{judgedNumberOf}
+use Rattle.judge.specs.Judgement.{judgedNumberOf}
 use Rattle.history.specs.History.{Call, Fresh, Open, Serve, Read, Close, Lose, Find, Step, step, after}
 use Rattle.history.specs.PutLaws.{put-size}
 use Rattle.history.specs.EffectsLaws.{slot-below, fresh-size, fresh-sound, opened-sound, handle-parts, closed-sound, served-sound}

@@ -10,8 +10,8 @@ use borrow.Author.Tests.{eq-eqb, ne-eqb, not-true}
 use lib.Dec.{eqb}
 use lib.ListN.{length, set, replicate, length-set}
 use lib.Seq.{take-at, set-append-left}
-use Rattle.judge.specs.Answer.{judgedNumberOf}
-use Rattle.recover.specs.Service.{recoverOf}
+use Rattle.judge.specs.Judgement.{judgedNumberOf}
+use Rattle.recover.specs.Recover.{recoverOf}
 use Rattle.desk_job.specs.declared.Job.{Job}
 use Rattle.desk_record.specs.declared.Desk.{Desk}
 use Rattle.desk_job.specs.Jobs.{withMarks}
@@ -22,7 +22,7 @@ use Rattle.desk_close.specs.Close.{closeOf}
 use Rattle.desk_serve.specs.Serve.{recoveryOf, jobNumber, Serving, serveNumber, serveBy, serveOf, servedOnce}
 use Rattle.desk_serve.specs.ServeLaws.{serve-job}
 use Rattle.desk_record.specs.Laws.{sound-of}
-use Rattle.code.specs.Answer.{Outcome}
+use Rattle.code.specs.Outcome.{Outcome}
 use Rattle.shape.specs.Refusals.{refuse, _orElse_}
 use Rattle.desk_change.specs.Change.{changed, placeNumber, changeNumber, changeBy, changeOf}
 use Rattle.desk_change.specs.ChangeLaws.{place-parts}

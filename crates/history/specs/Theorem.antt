@@ -13,7 +13,7 @@ use Rattle.code.specs.Marks.{excess}
 use Rattle.desk_job.specs.Figures.{lostCounts}
 use Rattle.desk_job.specs.declared.Job.{Job}
 use Rattle.desk_job.specs.Jobs.{marksOf}
-use Rattle.recover.specs.Service.{recoverOf}
+use Rattle.recover.specs.Recover.{recoverOf}
 use Rattle.desk_serve.specs.Serve.{recoveryOf}
 use Rattle.desk_record.specs.Laws.{Sound}
 use Rattle.history.specs.History.{Ledger, Pattern}

@@ -11,7 +11,7 @@ use lib.Dec.{eqb}
 use lib.ListN.{length, replicate}
 use lib.Seq.{take-at}
 use Rattle.code.specs.Marks.{excess}
-use Rattle.recover.specs.Service.{recoverOf}
+use Rattle.recover.specs.Recover.{recoverOf}
 use Rattle.shape.specs.Refusals.{refuse, _orElse_}
 use Rattle.desk_record.specs.declared.Desk.{Desk}
 use Rattle.desk_record.specs.Desks.{freshDesk, jobAt, issueOf, slotOf, isOpen}

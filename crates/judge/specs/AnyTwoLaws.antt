@@ -11,7 +11,7 @@ use Rattle.code.specs.Determined.{Ambiguous}
 use Rattle.code.specs.DeterminedLaws.{beyond}
 use Rattle.marks.specs.Refusal.{marksRefusalIn}
 use Rattle.marks.specs.RefusalLaws.{good-of-marks}
-use Rattle.judge.specs.Answer.{judgedNumberIn}
+use Rattle.judge.specs.Judgement.{judgedNumberIn}
 use Rattle.judge.specs.Laws.{zero-excess}
 
 module _ {E : Edition} (S : Sound E) (m w c : ℕ) (marks : List ℕ) (accepted : marksRefusalIn (E .limits) m w c marks ≡ 0) (h₁ h₂ : ℕ → ℕ → ℕ) where

@@ -17,7 +17,7 @@ use Rattle.code.specs.DeterminedLaws.{above-two, undetermined}
 use Rattle.marks.specs.Refusal.{MarkedIn, marksRefusalIn}
 use Rattle.marks.specs.RefusalLaws.{good-of-marks, marks-of-good}
 use Rattle.judge.specs.declared.Judged.{Judged}
-use Rattle.judge.specs.Answer.{judgedNumberIn, judgedAt, judgedIn, judgedNumber}
+use Rattle.judge.specs.Judgement.{judgedNumberIn, judgedAt, judgedIn, judgedNumber}
 use Rattle.judge.specs.Sure.{firstLost}
 use Rattle.judge.specs.SureLaws.{first-length, first-mark, first-count, sure-excess, first-many}
 use Rattle.judge.specs.SureCount.{IsSureIn, FailsIn}

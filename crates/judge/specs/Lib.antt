@@ -1,4 +1,4 @@
-pub mod Answer
+pub mod Judgement
 pub mod Sure
 pub mod SureLaws
 pub mod SureCount

@@ -6,7 +6,7 @@ use Rattle.counting.specs.Count.{countBelow}
 use Rattle.code.specs.Marks.{lost}
 use Rattle.shape.specs.Shapes.{Limits, byteLimits}
 use Rattle.marks.specs.Refusal.{marksRefusalIn}
-use Rattle.judge.specs.Answer.{judgedNumberIn}
+use Rattle.judge.specs.Judgement.{judgedNumberIn}
 
 -- "every pattern of that many losses or fewer is judged 0"
 abbrev pub IsSureIn : Limits → ℕ → ℕ → ℕ → ℕ → Type 0

@@ -1,6 +1,6 @@
 // The service Judge.
 ghost use mathlib.Core.Path.{_≡_};
-ghost use Rattle.judge.specs.Answer.{judgedOf, judgedNumber, judgedNumberOf};
+ghost use Rattle.judge.specs.Judgement.{judgedOf, judgedNumber, judgedNumberOf};
 
 // The present places determine the codeword, or the number of a refusal.
 pub enum Judged {

@@ -10,8 +10,8 @@ use Rattle.counting.specs.CountLaws.{total-none, total-suc, total-ext, count-le
 use Rattle.code.specs.Marks.{lost, lostIn, groupExcess, excess}
 use Rattle.code.specs.StretchLaws.{own-place, stretch-count}
 use Rattle.shape.specs.Shapes.{Limits}
-use Rattle.groups.specs.Lent.{LentIn}
-use Rattle.groups.specs.LentLaws.{part-stretch, part-length}
+use Rattle.code.specs.Lent.{LentIn}
+use Rattle.code.specs.LentLaws.{part-stretch, part-length}
 
 -- the places of one group's stretch, counted
 pub lost-whole : (part : List ℕ) → countBelow (length part) (lost part) ≡ lostIn (length part) part 0
@@ -32,7 +32,8 @@ unfolding excess
 excess-none w c marks = total-none _
 
 -- one turn of an excess: the part that is lent is the group's stretch
-pub excess-turn : {B : Limits} {m w c : ℕ} {marks : List ℕ} (L : LentIn B m w c marks) (g : ℕ) → g < m → {part : List ℕ} → part ≡ take (g * w + w - g * w) (drop (g * w) marks)
+pub excess-turn : {B : Limits} {m w c : ℕ} {marks : List ℕ} (L : LentIn B m w c marks) (g : ℕ) → g < m → {part : List ℕ} → part
+    ≡ take (g * w + w - g * w) (drop (g * w) marks)
     → excess (g + 1) w c marks ≡ excess g w c marks + (lostIn (length part) part 0 - c)
 unfolding excess
 excess-turn {B} {m} {w} {c} {marks} L g l is =

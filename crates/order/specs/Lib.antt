@@ -1,2 +1,2 @@
-pub mod Service
-pub mod ServiceLaws
+pub mod RepairOrder
+pub mod RepairOrderLaws

@@ -2,13 +2,13 @@
 use shape::Mending;
 ghost use mathlib.Core.Path.{_≡_};
 ghost use Rattle.shape.specs.Answers.{mendingAt};
-ghost use Rattle.recover.specs.Service.{recoverOf};
-ghost use Rattle.byte_edition.specs.Edition.{bytes};
-ghost use Rattle.order.specs.Service.{held, heldAfterList, recoverAfter};
+ghost use Rattle.recover.specs.Recover.{recoverOf};
+ghost use Rattle.byte_edition.specs.Edition.{byteEdition};
+ghost use Rattle.order.specs.RepairOrder.{held, heldAfterList, recoverAfter};
 
 // Repairs the groups in the list, one after another, whatever each answers.
 fn repair_list(m: usize, w: usize, c: usize, word: &mut [u8], marks: &mut [u8], list: &[usize])
-    ensures { λ _. ⌜ held (now (word .exit)) (now (marks .exit)) ≡ heldAfterList bytes m w c (now (list .entry)) (held (now (word .entry)) (now (marks .entry))) ⌝ }
+    ensures { λ _. ⌜ held (now (word .exit)) (now (marks .exit)) ≡ heldAfterList byteEdition m w c (now (list .entry)) (held (now (word .entry)) (now (marks .entry))) ⌝ }
 {
     let mut i: usize = 0;
     while i < list.len() {
@@ -27,9 +27,9 @@ pub fn repair_then_recover(
     marks: &mut [u8],
     list: &[usize],
 ) -> Mending
-    ensures answer { λ r. ⌜ r ≡ mendingAt ((recoverAfter bytes m w c (now (list .entry)) (now (word .entry)) (now (marks .entry))) .number) ((recoverAfter bytes m w c (now (list .entry)) (now (word .entry)) (now (marks .entry))) .group) ⌝ }
-    ensures word { λ _. ⌜ now (word .exit) ≡ (recoverAfter bytes m w c (now (list .entry)) (now (word .entry)) (now (marks .entry))) .word ⌝ }
-    ensures marks { λ _. ⌜ now (marks .exit) ≡ (recoverAfter bytes m w c (now (list .entry)) (now (word .entry)) (now (marks .entry))) .marks ⌝ }
+    ensures answer { λ r. ⌜ r ≡ mendingAt ((recoverAfter byteEdition m w c (now (list .entry)) (now (word .entry)) (now (marks .entry))) .number) ((recoverAfter byteEdition m w c (now (list .entry)) (now (word .entry)) (now (marks .entry))) .group) ⌝ }
+    ensures word { λ _. ⌜ now (word .exit) ≡ (recoverAfter byteEdition m w c (now (list .entry)) (now (word .entry)) (now (marks .entry))) .word ⌝ }
+    ensures marks { λ _. ⌜ now (marks .exit) ≡ (recoverAfter byteEdition m w c (now (list .entry)) (now (word .entry)) (now (marks .entry))) .marks ⌝ }
     ensures as_at_once { λ r. ⌜ r ≡ mendingAt ((recoverOf m w c (now (word .entry)) (now (marks .entry))) .number) ((recoverOf m w c (now (word .entry)) (now (marks .entry))) .group) ⌝ }
     ensures same_word { λ _. ⌜ ((recoverOf m w c (now (word .entry)) (now (marks .entry))) .number ≡ 0 → now (word .exit) ≡ (recoverOf m w c (now (word .entry)) (now (marks .entry))) .word) ⌝ }
     ensures same_marks { λ _. ⌜ ((recoverOf m w c (now (word .entry)) (now (marks .entry))) .number ≡ 0 → now (marks .exit) ≡ (recoverOf m w c (now (word .entry)) (now (marks .entry))) .marks) ⌝ }

@@ -26,7 +26,8 @@ module _ (line : List ℕ) (i : ℕ) (l : i < length line) where
   count-more = rw (values-more i line l)
 
   pub write-more : (f : ℕ → ℕ) (xs : List ℕ) (n : ℕ)
-      → sets (set xs n (f (meaning (toTab (drop (i + 1) line))))) (n + 1) (map f (valuesFrom (endOf 9 (i + 1) line) line)) ≡ sets xs n (map f (valuesFrom i line))
+      → sets (set xs n (f (meaning (toTab (drop (i + 1) line))))) (n + 1) (map f (valuesFrom (endOf 9 (i + 1) line) line))
+      ≡ sets xs n (map f (valuesFrom i line))
   write-more f xs n = rw (values-more i line l, add-one n)
 
 module _ (line : List ℕ) (i : ℕ) (l : length line ≤ i) where

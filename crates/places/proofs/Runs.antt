@@ -31,7 +31,8 @@ module _ (check : ℕ → Bool) where
   data-run (suc d) s p [] h l = absurd (omega arith)
   data-run (suc d) s p (b ∷ bytes) h l =
       rw (suc-add d s, here false p d h)
-      (ap (λ t. b ∷ t) (data-run d s (suc p) bytes (after false p d h) (le-of-suc-le-suc l) ∙ ap (λ q. take d bytes ++ spreadFrom check q s (drop d bytes)) (suc-add p d ∙ sym (add-suc p d))))
+      (ap (λ t. b ∷ t) (data-run d s (suc p) bytes (after false p d h) (le-of-suc-le-suc l)
+      ∙ ap (λ q. take d bytes ++ spreadFrom check q s (drop d bytes)) (suc-add p d ∙ sym (add-suc p d))))
 
   pub check-run : (e s p : ℕ) (bytes : List ℕ) → ((j : ℕ) → j < e → check (p + j) ≡ true)
       → spreadFrom check p (e + s) bytes ≡ replicate e 0 ++ spreadFrom check (p + e) s bytes
@@ -39,7 +40,8 @@ module _ (check : ℕ → Bool) where
   check-run zero s p bytes h = rw (zero-add s, add-zero p)
   check-run (suc e) s p bytes h =
       rw (suc-add e s, here true p e h)
-      (ap (λ t. 0 ∷ t) (check-run e s (suc p) bytes (after true p e h) ∙ ap (λ q. replicate e 0 ++ spreadFrom check q s bytes) (suc-add p e ∙ sym (add-suc p e))))
+      (ap (λ t. 0 ∷ t) (check-run e s (suc p) bytes (after true p e h)
+      ∙ ap (λ q. replicate e 0 ++ spreadFrom check q s bytes) (suc-add p e ∙ sym (add-suc p e))))
 
   pub marks-run : (v : Bool) (e s p : ℕ) → ((j : ℕ) → j < e → check (p + j) ≡ v)
       → marksFrom check p (e + s) ≡ replicate e (mark v) ++ marksFrom check (p + e) s
@@ -158,7 +160,8 @@ module _ (m w g : ℕ) (l : g < m) where
         → take ((g + 1) * w) (take (g * w) x ++ (part ++ rest)) ++ spreadFrom (isCheck m w c) ((g + 1) * w) ((m - (g + 1)) * w) (drop (i + d) bytes)
         ≡ take (g * w) x ++ spreadFrom (isCheck m w c) (g * w) ((m - g) * w) (drop i bytes)
     spread-turn bytes i long e =
-        ap₂ _++_ (written x part rest size (ap length e ∙ own)) (ap₂ (λ q b. spreadFrom (isCheck m w c) q ((m - (g + 1)) * w) b) group-end (sym (drop-drop d i bytes)))
+        ap₂ _++_ (written x part rest size (ap length e ∙ own)) (ap₂ (λ q b. spreadFrom (isCheck m w c) q ((m - (g + 1)) * w) b) group-end
+        (sym (drop-drop d i bytes)))
         ∙ append-assoc (take (g * w) x) part _
         ∙ ap (λ t. take (g * w) x ++ t)
         (ap (λ y. y ++ spreadFrom (isCheck m w c) (g * w + w) ((m - (g + 1)) * w) (drop d (drop i bytes))) e

@@ -28,7 +28,8 @@ module _ (check : ℕ → Bool) where
           let i = rw e at h in
           rw (q, e) (omega arith)
 
-  pub others-ext : (u v : ℕ → ℕ) (p r : ℕ) → ((q : ℕ) → p ≤ q → q < p + r → check q ≡ false → u q ≡ v q) → map u (othersFrom check p r) ≡ map v (othersFrom check p r)
+  pub others-ext : (u v : ℕ → ℕ) (p r : ℕ) → ((q : ℕ) → p ≤ q → q < p + r → check q ≡ false → u q ≡ v q) → map u (othersFrom check p r)
+      ≡ map v (othersFrom check p r)
   unfolding othersFrom totalBelow
   others-ext u v p zero h = refl
   others-ext u v p (suc r) h =
@@ -39,12 +40,14 @@ module _ (check : ℕ → Bool) where
       go true e i = rw e i
       go false e i = rw e (ap₂ _∷_ (h p (omega arith) (omega arith) e) i)
 
-  pub ext-others : (u v : ℕ → ℕ) (p r : ℕ) → map u (othersFrom check p r) ≡ map v (othersFrom check p r) → (q : ℕ) → p ≤ q → q < p + r → check q ≡ false → u q ≡ v q
+  pub ext-others : (u v : ℕ → ℕ) (p r : ℕ) → map u (othersFrom check p r) ≡ map v (othersFrom check p r) → (q : ℕ) → p ≤ q → q < p + r → check q ≡ false → u q
+      ≡ v q
   unfolding othersFrom totalBelow
   ext-others u v p zero h q a b e = absurd (omega arith)
   ext-others u v p (suc r) h q a b e = go (check p) refl (eq-or-lt-of-le a) (λ i l. ext-others u v (suc p) r i q l (omega arith) e)
     where
-      go : (b : Bool) → check p ≡ b → (p ≡ q) ⊎ (p < q) → (map u (othersFrom check (suc p) r) ≡ map v (othersFrom check (suc p) r) → suc p ≤ q → u q ≡ v q) → u q ≡ v q
+      go : (b : Bool) → check p ≡ b → (p ≡ q) ⊎ (p < q) → (map u (othersFrom check (suc p) r) ≡ map v (othersFrom check (suc p) r) → suc p ≤ q → u q ≡ v q)
+          → u q ≡ v q
       go true s (inl z) i = absurd (false≢true (sym e ∙ ap check (sym z) ∙ s))
       go true s (inr l) i = i (rw s at h) l
       go false s (inl z) i =
@@ -68,7 +71,8 @@ module _ (check : ℕ → Bool) where
   unfolding spreadFrom
   spread-check p zero bytes i l e = absurd (not-suc-le-zero l)
   spread-check p (suc r) bytes zero l e = let s : check p ≡ true = ap check (sym (add-zero p)) ∙ e in rw s
-  spread-check p (suc r) bytes (suc i) l e = go (check p) refl (λ bs. spread-check (suc p) r bs i (le-of-suc-le-suc l) (ap check (suc-add p i ∙ sym (add-suc p i)) ∙ e))
+  spread-check p (suc r) bytes (suc i) l e = go (check p) refl (λ bs. spread-check (suc p) r bs i (le-of-suc-le-suc l)
+      (ap check (suc-add p i ∙ sym (add-suc p i)) ∙ e))
     where
       go : (b : Bool) → check p ≡ b → ((bs : List ℕ) → getD (spreadFrom check (suc p) r bs) i 0 ≡ 0) → getD (spreadFrom check p (suc r) bytes) (suc i) 0 ≡ 0
       go true s h = rw s (h bytes)
@@ -123,7 +127,8 @@ module _ (check : ℕ → Bool) where
       go false e [] k i = let z = rw e at k in absurd (omega arith)
       go false e (b ∷ bytes) k i =
           let z = rw e at k in
-          rw e (ap₂ _∷_ (getD-at before b (spreadFrom check (suc p) r bytes) 0 p h) (simp append-assoc at (i (before ++ (b ∷ [])) bytes (simp length-append (omega arith)) (omega arith))))
+          rw e (ap₂ _∷_ (getD-at before b (spreadFrom check (suc p) r bytes) 0 p h)
+          (simp append-assoc at (i (before ++ (b ∷ [])) bytes (simp length-append (omega arith)) (omega arith))))
 
 pub bytes-below : (b : ℕ) → 0 < b → (word : List ℕ) → ((i : ℕ) → getD word i 0 < b) → (places : List ℕ) (i : ℕ) → getD (bytesAt word places) i 0 < b
 unfolding bytesAt

@@ -11,7 +11,8 @@ use lib.ListN.{length, getD, length-map}
 use borrow.Author.Tests.{le-leb, lt-leb, eq-eqb, ne-eqb}
 use Rattle.shape.specs.Shapes.{Limits, GoodIn, placeCount, dataCount}
 use Rattle.shape.specs.Laws.{data-and-checks, word-of-good, buffers-of-good}
-use Rattle.places.specs.Places.{isCheck, othersFrom, dataPlaces, bytesAt, extractOf, placedOf, mark, checkMarks, extractedDataIn, placedWordIn, markedChecksIn}
+use Rattle.places.specs.Places.{isCheck, othersFrom, dataPlaces, bytesAt, extractOf, placedOf, mark, checkMarks, extractedDataIn, placedWordIn}
+use Rattle.places.specs.Places.{markedChecksIn}
 use Rattle.counting.specs.Count.{totalBelow, countBelow, one}
 use Rattle.counting.specs.CountLaws.{total-append, count-ext}
 use Rattle.places.specs.CountLaws.{count-from}
@@ -69,7 +70,15 @@ module _ {L : Limits} {m w c : ℕ} (good : GoodIn L m w c) where
   unfolding dataPlaces totalBelow
   data-length =
       let n = placeCount m w in
-      omega (arith, FromLaws.others-length (isCheck m w c) 0 n, ap (λ x. countBelow x (isCheck m w c)) (zero-add n), checks-all, data-and-checks good, mul-comm m c)
+      omega (
+        arith,
+        FromLaws.others-length (isCheck m w c) 0 n,
+        ap (λ x. countBelow x (isCheck m w c)) (zero-add n),
+        checks-all,
+        data-and-checks good,
+        mul-comm
+            m c,
+      )
 
   pub extract-length : (word : List ℕ) → length (extractOf m w c word) ≡ dataCount m w c
   unfolding extractOf bytesAt
@@ -81,11 +90,13 @@ module _ {L : Limits} {m w c : ℕ} (good : GoodIn L m w c) where
 
 -- what a call that is not refused leaves
 module _ {L : Limits} {m w c : ℕ} (good : GoodIn L m w c) where
-  pub extracted-data : (word bytes : List ℕ) → length word ≡ placeCount m w → length bytes ≡ dataCount m w c → extractedDataIn L m w c word bytes ≡ extractOf m w c word
+  pub extracted-data : (word bytes : List ℕ) → length word ≡ placeCount m w → length bytes ≡ dataCount m w c → extractedDataIn L m w c word bytes
+      ≡ extractOf m w c word
   unfolding extractedDataIn
   extracted-data word bytes e f = rw (buffers-of-good m w c (length word) (length bytes) good e f)
 
-  pub placed-word : (bytes word : List ℕ) → length word ≡ placeCount m w → length bytes ≡ dataCount m w c → placedWordIn L m w c bytes word ≡ placedOf m w c bytes
+  pub placed-word : (bytes word : List ℕ) → length word ≡ placeCount m w → length bytes ≡ dataCount m w c → placedWordIn L m w c bytes word
+      ≡ placedOf m w c bytes
   unfolding placedWordIn
   placed-word bytes word e f = rw (buffers-of-good m w c (length word) (length bytes) good e f)
 
@@ -124,7 +135,8 @@ module _ (m w c : ℕ) where
   marks-small p = FromLaws.marks-small (isCheck m w c) 0 (placeCount m w) p
 
   -- words that agree at the data places have the same data
-  pub extract-agree : (x y : List ℕ) → ((p : ℕ) → p < placeCount m w → isCheck m w c p ≡ false → getD x p 0 ≡ getD y p 0) → extractOf m w c x ≡ extractOf m w c y
+  pub extract-agree : (x y : List ℕ) → ((p : ℕ) → p < placeCount m w → isCheck m w c p ≡ false → getD x p 0 ≡ getD y p 0) → extractOf m w c x
+      ≡ extractOf m w c y
   unfolding extractOf dataPlaces bytesAt
   extract-agree x y h =
       FromLaws.others-ext (isCheck m w c) (λ p. getD x p 0) (λ p. getD y p 0) 0 (placeCount m w) (λ p a b e. h p (omega arith) e)

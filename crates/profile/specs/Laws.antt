@@ -16,7 +16,7 @@ use Rattle.marks.specs.RefusalLaws.{good-of-marks, marks-most}
 use Rattle.code.specs.Marks.{excess, lostIn}
 use Rattle.shape.specs.Shapes.{byteLimits, wordRefusalIn, shapeRefusalIn}
 use Rattle.counting.specs.Count.{totalBelow}
-use Rattle.judge.specs.Answer.{judgedNumberOf, judgedNumberIn}
+use Rattle.judge.specs.Judgement.{judgedNumberOf, judgedNumberIn}
 use Rattle.judge.specs.Laws.{zero-excess}
 use Rattle.profile.specs.declared.PlaceSet.{PlaceSet}
 use Rattle.profile.specs.declared.Profiled.{Profiled}
@@ -25,7 +25,7 @@ use Rattle.number_sets.specs.Sets.{setsOf, setsBelow, firstIn}
 use Rattle.number_sets.specs.SetsLaws.{sets-found, sets-none, sets-before, below-found, below-none, before-total}
 use Rattle.profile.specs.Profile.{outside, covers, shownSet, Fits, Shown}
 use Rattle.profile.specs.ProfileLaws.{same-set, excess-outside}
-use Rattle.profile.specs.Answer.{placesOf, placeNumbers, noSet, profiledNumberOf, profiledAt, profiledOf, profiledNumber, profiledPlaces}
+use Rattle.profile.specs.Profiled.{placesOf, placeNumbers, noSet, profiledNumberOf, profiledAt, profiledOf, profiledNumber, profiledPlaces}
 use Rattle.profile.specs.Search.{foundAt}
 
 pub profiled-refused : (r : ℕ) (o : Option (List ℕ)) → (r ≡ 0 → ⊥) → profiledAt r o ≡ Profiled.Refused r

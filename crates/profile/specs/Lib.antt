@@ -1,6 +1,6 @@
 pub mod Profile
 pub mod ProfileLaws
-pub mod Answer
+pub mod Profiled
 pub mod Search
 pub mod SearchLaws
 pub mod Laws

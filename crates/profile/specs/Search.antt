@@ -10,7 +10,7 @@ use Rattle.counting.specs.Count.{totalBelow, countBelow}
 use Rattle.code.specs.Marks.{lost}
 use Rattle.profile.specs.declared.Found.{Found}
 use Rattle.number_sets.specs.Sets.{isIn, setsOf, firstIn}
-use Rattle.profile.specs.Answer.{placesOf}
+use Rattle.profile.specs.Profiled.{placesOf}
 
 -- how many groups have lost their place j
 unfoldable pub lostAt : ℕ → ℕ → List ℕ → ℕ → ℕ

@@ -20,7 +20,7 @@ use Rattle.number_sets.specs.AscendingLaws.{not-in}
 use Rattle.number_sets.specs.SetsLaws.{step-some, step-none, empty-true, no-numbers, sets-ext, below-more, below-none, below-stays, below-ext}
 use Rattle.profile.specs.Profile.{outside, covers, shownSet}
 use Rattle.profile.specs.ProfileLaws.{outside-groups}
-use Rattle.profile.specs.Answer.{placesOf}
+use Rattle.profile.specs.Profiled.{placesOf}
 use Rattle.profile.specs.Search.{lostAt, outsideFrom, within, foundIn, NoneSmaller, foundAt}
 
 -- rows and columns

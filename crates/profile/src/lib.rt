@@ -5,7 +5,7 @@ ghost use Prim.Native.Nat.{ℕ, _+_, _*_, _≤_, _<_};
 ghost use lib.ListN.{length, getD};
 ghost use Rattle.number_sets.specs.Sets.{setsBelow, firstIn};
 ghost use Rattle.profile.specs.Search.{lostAt, within, foundIn, NoneSmaller, foundAt};
-ghost use Rattle.profile.specs.Answer.{placesOf, profiledOf, profiledNumber, profiledNumberOf};
+ghost use Rattle.profile.specs.Profiled.{placesOf, profiledOf, profiledNumber, profiledNumberOf};
 
 // A set of at most four place numbers, ascending: how many, and each, 0 past the last.
 pub struct PlaceSet {

@@ -5,13 +5,13 @@ use mathlib.Core.List.{List}
 use Prim.Native.Nat.{ℕ, _*_, _≤_}
 use lib.ListN.{length}
 use Rattle.code.specs.Edition.{Edition}
-use Rattle.byte_edition.specs.Edition.{bytes}
+use Rattle.byte_edition.specs.Edition.{byteEdition}
 use Rattle.code.specs.Marks.{excess}
 use Rattle.code.specs.Contradiction.{contradictingGroup}
 use Rattle.code.specs.Recovery.{Agrees}
 use Rattle.shape.specs.Shapes.{Limits, byteLimits, GoodIn}
 use Rattle.syndrome.specs.declared.Tested.{Tested}
-use Rattle.recover.specs.Service.{recoverRefusalIn}
+use Rattle.recover.specs.Recover.{recoverRefusalIn}
 
 -- where it succeeds the codeword that agrees is written; else nothing is, the contradicting group is named, and for an excess of at most two
 -- no codeword agrees
@@ -29,7 +29,7 @@ pub record AcceptedIn (L : Limits) (m w c : ℕ) (word marks : List ℕ) : Type 
 
 -- in the edition of bytes: an attempt
 abbrev pub Attempt : ℕ → ℕ → ℕ → List ℕ → List ℕ → List ℕ → Tested → Type 0
-Attempt = AttemptIn bytes
+Attempt = AttemptIn byteEdition
 
 -- and a call that is not refused
 abbrev pub Accepted : ℕ → ℕ → ℕ → List ℕ → List ℕ → Type 0

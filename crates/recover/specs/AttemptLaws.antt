@@ -12,8 +12,8 @@ use lib.ListN.{length, getD}
 use Rattle.code.specs.Edition.{Edition, Sound}
 use Rattle.code.specs.Word.{isCodeword, Symbols}
 use Rattle.code.specs.Marks.{excess}
-use Rattle.code.specs.Answer.{refused, contradictory, written}
-use Rattle.code.specs.AnswerLaws.{eight-large}
+use Rattle.code.specs.Outcome.{refused, contradictory, written}
+use Rattle.code.specs.OutcomeLaws.{eight-large}
 use Rattle.code.specs.Contradiction.{contradictingGroup}
 use Rattle.code.specs.ContradictionLaws.{same-groups}
 use Rattle.code.specs.Recovery.{Agrees, recovered}
@@ -25,11 +25,12 @@ use Rattle.marks.specs.Refusal.{marksRefusalIn}
 use Rattle.marks.specs.RefusalLaws.{good-of-marks, marks-most}
 use Rattle.syndrome.specs.Tests.{brokenGroupIn}
 use Rattle.candidate.specs.Mended.{IsCandidateIn}
-use Rattle.recover.specs.Service.{unlessBefore, recoverRefusal, recoverRefusalIn, recoverIn}
-use Rattle.recover.specs.ServiceLaws.{unless-before}
+use Rattle.recover.specs.Recover.{unlessBefore, recoverRefusal, recoverRefusalIn, recoverIn}
+use Rattle.recover.specs.RecoverLaws.{unless-before}
 use Rattle.recover.specs.Attempt.{AttemptIn, AcceptedIn}
 
-module _ {E : Edition} (m w c : ℕ) (marks word x : List ℕ) (size : length word ≡ m * w) (small : (p : ℕ) → getD x p 0 < 2 ^ E .bits) (C : IsCandidateIn E m w c marks word x) where
+module _ {E : Edition} (m w c : ℕ) (marks word x : List ℕ) (size : length word ≡ m * w) (small : (p : ℕ) → getD x p 0 < 2 ^ E .bits)
+    (C : IsCandidateIn E m w c marks word x) where
   group-named : brokenGroupIn E m w c x ≡ contradictingGroup E m w c word marks
   unfolding brokenGroupIn
   group-named = same-groups E m w c word marks x size (C .size) small (C .present) (C .satisfied)
@@ -65,12 +66,14 @@ recover-most m w c word marks =
     orElse-most 6 (wordRefusal m w c (length word)) _ (let h = word-most m w c (length word) in omega arith) (marks-most m w c marks)
 
 -- what the service answers, by how the call goes
-pub service-refused : (E : Edition) (m w c : ℕ) (word marks : List ℕ) (r : ℕ) → r ≡ recoverRefusalIn (E .limits) m w c word marks → (r ≡ 0 → ⊥) → recoverIn E m w c word marks ≡ refused r word marks
+pub service-refused : (E : Edition) (m w c : ℕ) (word marks : List ℕ) (r : ℕ) → r ≡ recoverRefusalIn (E .limits) m w c word marks → (r ≡ 0 → ⊥)
+    → recoverIn E m w c word marks ≡ refused r word marks
 unfolding recoverIn
 service-refused E m w c word marks r e n =
     ap (λ q. unlessBefore q (recovered E m w c word marks) word marks) (sym e) ∙ unless-before r (recovered E m w c word marks) word marks n
 
-module _ {E : Edition} (S : Sound E) (m w c : ℕ) (word marks : List ℕ) (A : AcceptedIn (E .limits) m w c word marks) (small : (p : ℕ) → getD word p 0 < 2 ^ E .bits) where
+module _ {E : Edition} (S : Sound E) (m w c : ℕ) (word marks : List ℕ) (A : AcceptedIn (E .limits) m w c word marks)
+    (small : (p : ℕ) → getD word p 0 < 2 ^ E .bits) where
   symbols : Symbols E (m * w) word
   symbols = record { size = A .word-size; each = small }
 
@@ -90,7 +93,8 @@ module _ {E : Edition} (S : Sound E) (m w c : ℕ) (word marks : List ℕ) (A : 
   pub service-eight : 2 < excess m w c marks → recoverIn E m w c word marks ≡ refused 8 word marks
   service-eight h = service ∙ recovered-eight E S m w c few wide narrow word marks symbols h
 
-  pub service-nine : excess m w c marks ≤ 2 → ((y : List ℕ) → Agrees E m w c marks word y → ⊥) → recoverIn E m w c word marks ≡ contradictory (contradictingGroup E m w c word marks) word marks
+  pub service-nine : excess m w c marks ≤ 2 → ((y : List ℕ) → Agrees E m w c marks word y → ⊥) → recoverIn E m w c word marks
+      ≡ contradictory (contradictingGroup E m w c word marks) word marks
   service-nine h never = service ∙ recovered-nine E S m w c few wide narrow word marks symbols h never
 
   pub service-done : (x : List ℕ) → excess m w c marks ≤ 2 → Agrees E m w c marks word x → recoverIn E m w c word marks ≡ written x marks
@@ -100,7 +104,8 @@ module _ {E : Edition} (S : Sound E) (m w c : ℕ) (word marks : List ℕ) (A : 
   pub eight-above : (recoverIn E m w c word marks) .number ≡ 8 → 2 < excess m w c marks
   eight-above e = elim (decLe (excess m w c marks) 2) [
     | yes h ↦
-        (let t = eight-large (2 ^ E .bits) (isCodeword E m w c) (ltb 2 (excess m w c marks)) (contradictingGroup E m w c word marks) word marks (sym (ap (λ o. o .number) service) ∙ e) in
+        (let t = eight-large (2 ^ E .bits) (isCodeword E m w c) (ltb 2 (excess m w c marks)) (contradictingGroup E m w c word marks) word marks
+        (sym (ap (λ o. o .number) service) ∙ e) in
         absurd (subst T (sym t ∙ le-ltb 2 (excess m w c marks) h) tt))
     | no h ↦ omega arith
   ]

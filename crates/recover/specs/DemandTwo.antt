@@ -8,12 +8,12 @@ use Prim.Native.Nat.{ℕ, _*_, _<_, _≤_}
 use lib.ListN.{replicate}
 use Rattle.code.specs.Edition.{Edition}
 use Rattle.code.specs.Marks.{lostIn}
-use Rattle.code.specs.Answer.{Outcome}
+use Rattle.code.specs.Outcome.{Outcome}
 use Rattle.code.specs.OneGroup.{LocallyAgrees}
 use Rattle.code.specs.Stretch.{stretch}
 use Rattle.code.specs.Determined.{Undetermined}
 use Rattle.code.specs.Recovery.{Agrees}
-use Rattle.recover.specs.Service.{recoverIn}
+use Rattle.recover.specs.Recover.{recoverIn}
 
 module _ (E : Edition) (m w c : ℕ) (word marks : List ℕ) where
   -- no filling of the lost places of group i meets its own equations

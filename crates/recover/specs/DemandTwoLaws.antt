@@ -21,12 +21,12 @@ use Rattle.code.specs.StretchLaws.{stretch-length, stretch-below, stretch-count
 use Rattle.code.specs.OneGroupLaws.{agrees-satisfies, satisfies-agrees}
 use Rattle.code.specs.Contradiction.{isBroken, contradictingGroup}
 use Rattle.code.specs.ContradictionLaws.{sound-filling, broken-never, contradicting-present}
-use Rattle.code.specs.Answer.{Outcome, SameEnd}
-use Rattle.code.specs.AnswerLaws.{same-refusal, same-present, refused-unchanged, nine-group, other-group}
+use Rattle.code.specs.Outcome.{Outcome, SameEnd}
+use Rattle.code.specs.OutcomeLaws.{same-refusal, same-present, refused-unchanged, nine-group, other-group}
 use Rattle.code.specs.Recovery.{Agrees, recovered, Single}
 use Rattle.code.specs.RecoveryLaws.{eight-undetermined, undetermined-eight, nine-contradictory, contradictory-nine}
 use Rattle.code.specs.RecoveryLaws.{done-determined, determined-done, done-single}
-use Rattle.recover.specs.Service.{unlessBefore, recoverRefusalIn, recoverIn}
+use Rattle.recover.specs.Recover.{unlessBefore, recoverRefusalIn, recoverIn}
 use Rattle.recover.specs.FillableLaws.{fillable}
 use Rattle.recover.specs.DemandTwo.{end, Named, DemandTwo}
 
@@ -91,7 +91,8 @@ module _ {E : Edition} (S : Sound E) (m w c : ℕ) (word marks : List ℕ) (M : 
           absurd (broken-never E w c word marks (contradictingGroup E m w c word marks) (first-holds m (isBroken E w c word marks) l) _
           (fillable E S w c wide narrow (stretch w (contradictingGroup E m w c word marks) word)
           (stretch w (contradictingGroup E m w c word marks) marks) (part-symbols (contradictingGroup E m w c word marks) l)
-          (stretch-length w (contradictingGroup E m w c word marks) marks (subst (λ n. suc (contradictingGroup E m w c word marks) * w ≤ n) (sym (M .size)) (mul-le-mul-right w l)))
+          (stretch-length w (contradictingGroup E m w c word marks) marks
+          (subst (λ n. suc (contradictingGroup E m w c word marks) * w ≤ n) (sym (M .size)) (mul-le-mul-right w l)))
           (subst (λ n. c ≤ n) (sym (stretch-count w (contradictingGroup E m w c word marks) marks)) (omega arith))))
     ];
   }

@@ -24,18 +24,18 @@ use Rattle.code.specs.CombinedLaws.{combined-at, combined-group, combined-symbo
 use Rattle.code.specs.OneGroup.{LocalWay}
 use Rattle.code.specs.OneGroupLaws.{local-way}
 use Rattle.code.specs.Repair.{Satisfies}
-use Rattle.erasures.specs.Kept.{keptOf}
-use Rattle.erasures.specs.KeptLaws.{kept-length, kept-present, kept-count}
+use Rattle.erasures.specs.Bound.{boundOf}
+use Rattle.erasures.specs.BoundLaws.{bound-length, bound-present, bound-count}
 
 module _ (E : Edition) (S : Sound E) (w c : ℕ) (wide : 0 < w) (narrow : w ≤ E .small) (part marks : List ℕ) (s : Symbols E w part)
     (size : length marks ≡ w) (many : c ≤ lostIn w marks 0) where
   -- the lost places that are kept, c of them
   kept : List ℕ
-  kept = keptOf c marks
+  kept = boundOf c marks
 
   kept-c : lostIn w kept 0 ≡ c
   unfolding kept
-  kept-c = subst (λ n. lostIn n (keptOf c marks) 0 ≡ min c (lostIn n marks 0)) size (kept-count c marks) ∙ (let m = many in omega arith)
+  kept-c = subst (λ n. lostIn n (boundOf c marks) 0 ≡ min c (lostIn n marks 0)) size (bound-count c marks) ∙ (let m = many in omega arith)
 
   -- a stretch for each place: its direction, or zeros for a kept place
   record Way (i : ℕ) : Type 0 where
@@ -100,7 +100,8 @@ module _ (E : Edition) (S : Sound E) (w c : ℕ) (wide : 0 < w) (narrow : w ≤ 
   filling-at q l e =
       combined-at E 1 w w (blank (1 * w)) (λ i. getD part i 0) ways q (subst (λ n. q < n) (sym once) l)
       ∙ ap₂ _⊕_ (blank-at (1 * w) q)
-      (sum-single w q _ l (λ i _ n. ap (times E (getD part i 0)) (at-off i (decLt i w) q l e (λ d. n (sym d))) ∙ product-zero (E .bits) (E .poly) (getD part i 0))
+      (sum-single w q _ l (λ i _ n. ap (times E (getD part i 0)) (at-off i (decLt i w) q l e (λ d. n (sym d)))
+      ∙ product-zero (E .bits) (E .poly) (getD part i 0))
       ∙ ap (times E (getD part q 0)) (at-own q l (decLt q w) e) ∙ product-one (E .bits) (E .poly) (S .facts .pos) (getD part q 0) (s .each q))
       ∙ ⊕-zero-l (getD part q 0)
 
@@ -116,7 +117,7 @@ module _ (E : Edition) (S : Sound E) (w c : ℕ) (wide : 0 < w) (narrow : w ≤ 
   fillable = record {
     fills = record {
       size = filling-symbols .size ∙ sym (s .size);
-      present = λ p l e. filling-at p (subst (λ n. p < n) (s .size) l) (kept-present c marks p e);
+      present = λ p l e. filling-at p (subst (λ n. p < n) (s .size) l) (bound-present c marks p e);
       each = λ p _ _. filling-symbols .each p;
     };
     passes = zero-local E w c filling 0 filling-zero;

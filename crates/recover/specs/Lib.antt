@@ -1,5 +1,5 @@
-pub mod Service
-pub mod ServiceLaws
+pub mod Recover
+pub mod RecoverLaws
 pub mod Attempt
 pub mod AttemptLaws
 pub mod DemandTwo

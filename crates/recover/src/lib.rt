@@ -7,7 +7,7 @@ ghost use lib.ListN.{length};
 ghost use Rattle.shape.specs.Shapes.{Good};
 ghost use Rattle.shape.specs.Answers.{mendingAt, mendingNumber};
 ghost use Rattle.code.specs.Marks.{excess};
-ghost use Rattle.recover.specs.Service.{recoverRefusal, recoverOf};
+ghost use Rattle.recover.specs.Recover.{recoverRefusal, recoverOf};
 ghost use Rattle.recover.specs.Attempt.{Attempt};
 
 // The refusal of a call by its shape, its lengths and its marks, 1 to 6; 0 if there is none.

@@ -7,10 +7,10 @@ use Prim.Native.Nat.{ℕ, suc, _*_, _<_, _≤_}
 use lib.ListN.{length, getD, replicate}
 use Rattle.code.specs.Edition.{Edition}
 use Rattle.code.specs.Marks.{lostIn}
-use Rattle.code.specs.Answer.{Outcome}
+use Rattle.code.specs.Outcome.{Outcome}
 use Rattle.code.specs.Stretch.{stretch}
 use Rattle.code.specs.OneGroup.{LocallyAgrees, LocallyUndetermined}
-use Rattle.repair.specs.Service.{repairIn}
+use Rattle.repair.specs.Repair.{repairIn}
 
 -- a place before or after the stretch of group g
 abbrev pub Outside : ℕ → ℕ → ℕ → Type 0

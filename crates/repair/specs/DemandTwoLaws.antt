@@ -17,9 +17,9 @@ use Rattle.marks.specs.Refusal.{marksRefusalIn}
 use Rattle.code.specs.Edition.{Edition, Sound}
 use Rattle.code.specs.Word.{isLocal, Symbols}
 use Rattle.code.specs.Marks.{lost, lostIn}
-use Rattle.code.specs.Answer.{Outcome, SameEnd}
-use Rattle.code.specs.AnswerLaws.{same-present, refused-unchanged, answered-length, answered-marks, nine-group, other-group}
-use Rattle.code.specs.Answer as Answer
+use Rattle.code.specs.Outcome.{Outcome, SameEnd}
+use Rattle.code.specs.OutcomeLaws.{same-present, refused-unchanged, answered-length, answered-marks, nine-group, other-group}
+use Rattle.code.specs.Outcome as Outcome
 use Rattle.code.specs.Stretch.{stretch, withStretch}
 use Rattle.code.specs.StretchLaws.{stretch-at, stretch-length, stretch-below, stretch-count, stretch-with}
 use Rattle.code.specs.StretchLaws.{with-same, with-length, with-before, with-after}
@@ -27,11 +27,11 @@ use Rattle.code.specs.Repair.{repaired, repairedGroup}
 use Rattle.code.specs.RepairLaws.{done-single}
 use Rattle.code.specs.OneGroup.{LocallyAgrees, LocallyUndetermined}
 use Rattle.code.specs.OneGroupLaws.{agrees-satisfies, satisfies-agrees, undetermined-exactly, local-eight, local-nine, local-done}
-use Rattle.recover.specs.Service.{unlessBefore, recoverRefusalIn}
+use Rattle.recover.specs.Recover.{unlessBefore, recoverRefusalIn}
 use Rattle.recover.specs.AttemptLaws.{accepted}
 use Rattle.recover.specs.DemandTwoLaws.{good-start}
-use Rattle.repair.specs.Service.{repairIn, repairRefusalIn}
-use Rattle.repair.specs.ServiceLaws.{service-refused}
+use Rattle.repair.specs.Repair.{repairIn, repairRefusalIn}
+use Rattle.repair.specs.RepairLaws.{service-refused}
 use Rattle.repair.specs.DemandTwo.{Outside, end, OwnAgrees, DemandTwo, SameRepair}
 
 -- ---- of a call that is not refused 1 to 7: the repair of the group's stretch, put in its place
@@ -118,7 +118,7 @@ module _ (E : Edition) (m w c g : ℕ) (word marks : List ℕ) (not-refused : re
         ((λ e. E .0 (sym number-is ∙ e)), (λ U. number-is ∙ E .1 U))
 
     single : (end E m w c g word marks) .number ≡ 0
-        → Answer.Single (2 ^ E .bits) (λ x. isLocal E w c x 0) (ltb c (lostIn w (stretch w g marks) 0)) g (stretch w g word) (stretch w g marks)
+        → Outcome.Single (2 ^ E .bits) (λ x. isLocal E w c x 0) (ltb c (lostIn w (stretch w g marks) 0)) g (stretch w g word) (stretch w g marks)
     unfolding o
     single e = done-single E S w c wide narrow (stretch w g word) (stretch w g marks) part-symbols g (sym number-is ∙ e)
 
@@ -183,7 +183,8 @@ module _ (E : Edition) (m w c g : ℕ) (word₁ word₂ marks : List ℕ) (size 
       record {
         number-same = e ∙ sym f;
         group-same =
-            ap (λ o. o .group) (service-refused E m w c g word₁ marks r refl n) ∙ sym (ap (λ o. o .group) (service-refused E m w c g word₂ marks r refusal-same n));
+            ap (λ o. o .group) (service-refused E m w c g word₁ marks r refl n)
+            ∙ sym (ap (λ o. o .group) (service-refused E m w c g word₂ marks r refusal-same n));
         part-same = λ z. absurd (n (sym e ∙ z));
         marks-same = λ z. absurd (n (sym e ∙ z));
       }

@@ -1,4 +1,4 @@
-pub mod Service
-pub mod ServiceLaws
+pub mod Repair
+pub mod RepairLaws
 pub mod DemandTwo
 pub mod DemandTwoLaws

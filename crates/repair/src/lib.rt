@@ -4,10 +4,10 @@ ghost use mathlib.Core.Path.{_≡_};
 ghost use Prim.Native.Nat.{_≤_, _<_};
 ghost use lib.ListN.{length};
 ghost use Rattle.shape.specs.Answers.{mendingAt};
-ghost use Rattle.byte_edition.specs.Edition.{bytes};
+ghost use Rattle.byte_edition.specs.Edition.{byteEdition};
 ghost use Rattle.code.specs.Marks.{lostIn};
 ghost use Rattle.code.specs.Repair.{repaired};
-ghost use Rattle.repair.specs.Service.{PartAttempt, repairRefusal, repairOf};
+ghost use Rattle.repair.specs.Repair.{PartAttempt, repairRefusal, repairOf};
 
 // Fills the lost places of a stretch in found, and writes it into the stretch if it satisfies all of the group's equations.
 fn attempt(c: usize, part: &mut [u8], marks: &[u8], found: &mut [u8]) -> bool
@@ -35,9 +35,9 @@ fn repair_part(c: usize, g: usize, part: &mut [u8], marks: &mut [u8]) -> Mending
     requires { ⌜ c ≤ 4 ⌝ }
     requires { ⌜ length (now marks) ≡ length (now part) ⌝ }
     requires { ⌜ g < 256 ⌝ }
-    ensures { λ r. ⌜ r ≡ mendingAt ((repaired bytes (length (now (part .entry))) c g (now (part .entry)) (now (marks .entry))) .number) ((repaired bytes (length (now (part .entry))) c g (now (part .entry)) (now (marks .entry))) .group) ⌝ }
-    ensures { λ _. ⌜ now (part .exit) ≡ (repaired bytes (length (now (part .entry))) c g (now (part .entry)) (now (marks .entry))) .word ⌝ }
-    ensures { λ _. ⌜ now (marks .exit) ≡ (repaired bytes (length (now (part .entry))) c g (now (part .entry)) (now (marks .entry))) .marks ⌝ }
+    ensures { λ r. ⌜ r ≡ mendingAt ((repaired byteEdition (length (now (part .entry))) c g (now (part .entry)) (now (marks .entry))) .number) ((repaired byteEdition (length (now (part .entry))) c g (now (part .entry)) (now (marks .entry))) .group) ⌝ }
+    ensures { λ _. ⌜ now (part .exit) ≡ (repaired byteEdition (length (now (part .entry))) c g (now (part .entry)) (now (marks .entry))) .word ⌝ }
+    ensures { λ _. ⌜ now (marks .exit) ≡ (repaired byteEdition (length (now (part .entry))) c g (now (part .entry)) (now (marks .entry))) .marks ⌝ }
 {
     if c < marks::lost_in(marks) {
         return Mending::Refused(8);

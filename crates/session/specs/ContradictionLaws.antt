@@ -5,14 +5,14 @@ use Prim.Native.Nat.{ℕ, zero, suc, _≤_, _^_}
 use native.Mathlib.Omega.{arith}
 use borrow.Author.Tests.{ne-eqb}
 use lib.Dec.{ltb}
-use Rattle.byte_edition.specs.Edition.{bytes}
+use Rattle.byte_edition.specs.Edition.{byteEdition}
 use Rattle.code.specs.Word.{isCodeword}
 use Rattle.code.specs.Marks.{excess}
 use Rattle.code.specs.Contradiction.{contradictingGroup}
-use Rattle.code.specs.Answer.{Outcome, eight, nine, done}
-use Rattle.code.specs.AnswerLaws.{cases, nine-group}
+use Rattle.code.specs.Outcome.{Outcome, eight, nine, done}
+use Rattle.code.specs.OutcomeLaws.{cases, nine-group}
 use Rattle.code.specs.Recovery.{recovered}
-use Rattle.recover.specs.Service.{unlessBefore, recoverRefusal, recoverOf, recoverIn}
+use Rattle.recover.specs.Recover.{unlessBefore, recoverRefusal, recoverOf, recoverIn}
 use Rattle.recover.specs.Attempt.{Accepted}
 use Rattle.recover.specs.AttemptLaws.{accepted, recover-most}
 use Rattle.text.specs.Records.{lineKind, lineBytes, lineMarks}
@@ -24,18 +24,19 @@ module _ (m w c : ℕ) (word marks : List ℕ) where
   unfolding recoverIn
   nine-accepted = go (recoverRefusal m w c word marks) refl
     where
-      go : (r : ℕ) → r ≡ recoverRefusal m w c word marks → (unlessBefore r (recovered bytes m w c word marks) word marks) .number ≡ 9
+      go : (r : ℕ) → r ≡ recoverRefusal m w c word marks → (unlessBefore r (recovered byteEdition m w c word marks) word marks) .number ≡ 9
           → Accepted m w c word marks
       go zero e _ = accepted m w c word marks 0 e refl
       go (suc r) e n = let h = recover-most m w c word marks in absurd (omega arith)
 
-  pub nine-names : (recoverOf m w c word marks) .number ≡ 9 → (recoverOf m w c word marks) .group ≡ contradictingGroup bytes m w c word marks
+  pub nine-names : (recoverOf m w c word marks) .number ≡ 9 → (recoverOf m w c word marks) .group ≡ contradictingGroup byteEdition m w c word marks
   unfolding recoverIn
   nine-names e =
-      let is : recoverOf m w c word marks ≡ recovered bytes m w c word marks =
-      ap (λ r. unlessBefore r (recovered bytes m w c word marks) word marks) (nine-accepted e .refusal) in
+      let is : recoverOf m w c word marks ≡ recovered byteEdition m w c word marks =
+      ap (λ r. unlessBefore r (recovered byteEdition m w c word marks) word marks) (nine-accepted e .refusal) in
       ap (λ o. o .group) is
-      ∙ nine-group (2 ^ bytes .bits) (isCodeword bytes m w c) (ltb 2 (excess m w c marks)) (contradictingGroup bytes m w c word marks) word marks
+      ∙ nine-group (2 ^ byteEdition .bits) (isCodeword byteEdition m w c) (ltb 2 (excess m w c marks)) (contradictingGroup byteEdition m w c word marks) word
+      marks
       (sym (ap (λ o. o .number) is) ∙ e)
 
   -- no number of Recover is above 9
@@ -43,17 +44,18 @@ module _ (m w c : ℕ) (word marks : List ℕ) where
   unfolding recoverIn
   recovered-most = go (recoverRefusal m w c word marks) refl
     where
-      go : (r : ℕ) → r ≡ recoverRefusal m w c word marks → (unlessBefore r (recovered bytes m w c word marks) word marks) .number ≤ 9
-      go zero _ = elim (cases (2 ^ bytes .bits) (isCodeword bytes m w c) (ltb 2 (excess m w c marks)) (contradictingGroup bytes m w c word marks) word marks) [
-        | eight _ e ↦ (let n = ap (λ (o : Outcome). o .number) e in omega arith)
-        | nine _ _ e ↦ (let n = ap (λ (o : Outcome). o .number) e in omega arith)
-        | done _ _ _ e ↦ (let n = ap (λ (o : Outcome). o .number) e in omega arith)
-      ]
+      go : (r : ℕ) → r ≡ recoverRefusal m w c word marks → (unlessBefore r (recovered byteEdition m w c word marks) word marks) .number ≤ 9
+      go zero _ = elim (cases (2 ^ byteEdition .bits) (isCodeword byteEdition m w c) (ltb 2 (excess m w c marks))
+          (contradictingGroup byteEdition m w c word marks) word marks) [
+            | eight _ e ↦ (let n = ap (λ (o : Outcome). o .number) e in omega arith)
+            | nine _ _ e ↦ (let n = ap (λ (o : Outcome). o .number) e in omega arith)
+            | done _ _ _ e ↦ (let n = ap (λ (o : Outcome). o .number) e in omega arith)
+          ]
       go (suc r) e = let h = recover-most m w c word marks in omega arith
 
 -- "The program writes refused, 9 and that number"
 pub nine-line : (line : List ℕ) (m w c : ℕ) → lineKind line ≡ 3 → (recoverOf m w c (lineBytes line) (lineMarks line)) .number ≡ 9
-    → turnOf line m w c ≡ contradictoryTurn (contradictingGroup bytes m w c (lineBytes line) (lineMarks line)) m w c
+    → turnOf line m w c ≡ contradictoryTurn (contradictingGroup byteEdition m w c (lineBytes line) (lineMarks line)) m w c
 unfolding turnOf recordTurn wordTurn
 nine-line line m w c k e =
     let g = nine-accepted m w c (lineBytes line) (lineMarks line) e .good in

@@ -6,7 +6,7 @@ use Prim.Native.Nat.{ℕ, zero, suc, _≤_}
 use native.Mathlib.Omega.{arith}
 use lib.Dec.{eqb}
 use lib.ListN.{length}
-use Rattle.code.specs.Answer.{Outcome}
+use Rattle.code.specs.Outcome.{Outcome}
 use Rattle.shape.specs.declared.Answer.{Answer}
 use Rattle.shape.specs.declared.Described.{Described}
 use Rattle.shape.specs.declared.Mending.{Mending}
@@ -15,8 +15,8 @@ use Rattle.shape.specs.AnswersLaws.{mending-number}
 use Rattle.shape.specs.RefusalsLaws.{orElse-zero}
 use Rattle.shape.specs.Shapes.{placeCount, dataCount, sureCount, shapeRefusal, describedOf, describedAt}
 use Rattle.shape.specs.Laws.{Unshaped, good-of-refusal, good-of-word, places-most, data-and-checks}
-use Rattle.recover.specs.Service.{recoverOf, recoverIn, recoverRefusal, recoverRefusalIn, unlessBefore}
-use Rattle.encode.specs.Service.{encodedWord, encodeRefusal, encodeOf, encodeIn, encodedBuffer, encodedBufferIn}
+use Rattle.recover.specs.Recover.{recoverOf, recoverIn, recoverRefusal, recoverRefusalIn, unlessBefore}
+use Rattle.encode.specs.Encode.{encodedWord, encodeRefusal, encodeOf, encodeIn, encodedBuffer, encodedBufferIn}
 use Rattle.encode.specs.Laws.{good-of-encode, encode-unshaped}
 use Rattle.text.specs.Lines.{okLine, wordLine}
 use Rattle.session.specs.declared.Reply.{Reply}
@@ -91,7 +91,8 @@ module _ (bytes : List ℕ) (m w c : ℕ) (reply : Reply) where
         let q : answerAt (encodeRefusal m w c (placeCount m w) (length bytes)) ≡ Answer.Refused r = rw l at e in
         rw (turn-refused _ r _ m w c q) h
 
-    pub data-done : (after : List ℕ) → encodeOf m w c bytes word ≡ Answer.Done → after ≡ encodedBuffer m w c bytes word → Replies reply (turn (wordLine after) m w c)
+    pub data-done : (after : List ℕ) → encodeOf m w c bytes word ≡ Answer.Done → after ≡ encodedBuffer m w c bytes word
+        → Replies reply (turn (wordLine after) m w c)
         → Replies reply (dataTurn bytes m w c)
     unfolding dataTurn encodeIn encodedBufferIn
     data-done after e q h =

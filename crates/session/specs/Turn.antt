@@ -4,10 +4,10 @@ use mathlib.Core.List.{List}
 use Prim.Native.Nat.{ℕ, zero, suc}
 use lib.Dec.{eqb}
 use lib.ListN.{length, getD}
-use Rattle.code.specs.Answer.{Outcome}
+use Rattle.code.specs.Outcome.{Outcome}
 use Rattle.shape.specs.Shapes.{placeCount, dataCount, shapeRefusal}
-use Rattle.recover.specs.Service.{recoverOf}
-use Rattle.encode.specs.Service.{encodeRefusal, encodedWord}
+use Rattle.recover.specs.Recover.{recoverOf}
+use Rattle.encode.specs.Encode.{encodeRefusal, encodedWord}
 use Rattle.text.specs.Records.{lineKind, lineBytes, lineMarks}
 use Rattle.text.specs.Lines.{okLine, refusedLine, contradictoryLine, wordLine}
 

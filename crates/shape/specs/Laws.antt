@@ -13,8 +13,10 @@ use Rattle.shape.specs.declared.Shape.{Shape}
 use Rattle.shape.specs.declared.Made.{Made}
 use Rattle.shape.specs.Refusals.{refuse, _orElse_}
 use Rattle.shape.specs.RefusalsLaws.{refuse-zero, refuse-most, orElse-zero, orElse-most, orElse-then}
-use Rattle.shape.specs.Shapes.{Limits, GoodIn, Good, SoldIn, placeCount, dataCount, sureCount, shapeRefusalIn, retiredRefusal, saleRefusalIn, wordRefusalIn}
-use Rattle.shape.specs.Shapes.{bufferRefusalIn, Sold, shapeRefusal, saleRefusal, wordRefusal, bufferRefusal, madeOf, madeAt, madeNumber, describedOf, describedNumber}
+use Rattle.shape.specs.Shapes.{Limits, GoodIn, Good, SoldIn, placeCount, dataCount, sureCount, shapeRefusalIn, retiredRefusal, saleRefusalIn}
+use Rattle.shape.specs.Shapes.{wordRefusalIn}
+use Rattle.shape.specs.Shapes.{bufferRefusalIn, Sold, shapeRefusal, saleRefusal, wordRefusal, bufferRefusal, madeOf, madeAt, madeNumber, describedOf}
+use Rattle.shape.specs.Shapes.{describedNumber}
 use Rattle.shape.specs.Shapes.{describedFigures}
 
 or-none : (a b : Bool) → (a || b) ≡ false → (a ≡ false) × (b ≡ false)

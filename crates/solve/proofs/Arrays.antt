@@ -42,5 +42,6 @@ module _ (w : Width) where
   rows-each n (xs ∷ M) (u ∷ us) p (suc e) h = rows-each n M us (p .1) e (omega arith)
 
   -- as many rows, and each as long, as the type says
-  pub array-rows : (n r : ℕ) (M : List (List ℕ)) (vs : List Val) → Is (Array (Array (UInt w) n) r) M vs → (length M ≡ r) × ((e : ℕ) → e < r → length (row M e) ≡ n)
+  pub array-rows : (n r : ℕ) (M : List (List ℕ)) (vs : List Val) → Is (Array (Array (UInt w) n) r) M vs → (length M ≡ r)
+      × ((e : ℕ) → e < r → length (row M e) ≡ n)
   array-rows n r M vs p = let l = p .1 .0 .1 in (omega arith, λ e h. rows-each n M (p .0) (p .1 .1) e (omega arith))

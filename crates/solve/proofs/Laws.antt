@@ -20,7 +20,8 @@ use Rattle.binary_field.specs.Product.{product}
 use native.Mathlib.Decide.{ℕ-discrete, decLt}
 use Rattle.binary_field.specs.Inverse.{inverse}
 use Rattle.code.specs.Stretch.{stretch, withStretch}
-use Rattle.solve.specs.Elimination.{row, entry, scaled, added, exchanged, normalized, clearedRow, cleared, pivotFrom, pivot, eliminateColumn, eliminatedTo, eliminated}
+use Rattle.solve.specs.Elimination.{row, entry, scaled, added, exchanged, normalized, clearedRow, cleared, pivotFrom, pivot, eliminateColumn}
+use Rattle.solve.specs.Elimination.{eliminatedTo, eliminated}
 use Rattle.solve.specs.RowsLaws.{length-scaled, length-added, cleared-pivot}
 use Rattle.solve.specs.Flat.{rowsOf}
 use Rattle.solve.specs.FlatLaws.{row-of, entry-of, row-long, rows-with}
@@ -88,7 +89,8 @@ module _ (k m : ℕ) where
     row-add i n = rw (ne-eqb i j n)
 
     -- ---- over the columns
-    pub column-found : (t p : ℕ) (N : List (List ℕ)) → p ≡ pivot M j t → p < t → N ≡ exchanged M j p → cleared k m (normalized k m N j) j t ≡ eliminateColumn k m M j t
+    pub column-found : (t p : ℕ) (N : List (List ℕ)) → p ≡ pivot M j t → p < t → N ≡ exchanged M j p → cleared k m (normalized k m N j) j t
+        ≡ eliminateColumn k m M j t
     unfolding eliminateColumn
     column-found t p N e h q = rw (q, ← e, lt-ltb p t h)
 
@@ -104,7 +106,8 @@ module _ (k m : ℕ) where
   unfolding eliminatedTo
   eliminate-none M t = refl
 
-  pub eliminate-next : (M : List (List ℕ)) (t : ℕ) (N : List (List ℕ)) (n : ℕ) → N ≡ eliminatedTo k m M t n → eliminateColumn k m N n t ≡ eliminatedTo k m M t (n + 1)
+  pub eliminate-next : (M : List (List ℕ)) (t : ℕ) (N : List (List ℕ)) (n : ℕ) → N ≡ eliminatedTo k m M t n → eliminateColumn k m N n t
+      ≡ eliminatedTo k m M t (n + 1)
   unfolding eliminatedTo
   eliminate-next M t N n e = rw (add-one, e)
 
@@ -186,7 +189,8 @@ module _ (k m : ℕ) (x : List ℕ) (long : length x ≡ 64) (i : ℕ) (h : i < 
       row-small : (c : ℕ) → getD (row (rowsOf x) i) c 0 < 2 ^ k
       row-small c = elim (decLt c 16) [
         | yes l ↦ (rw (entry-of x i c h l) (small (i * 16 + c)))
-        | no n ↦ (let q : length (row (rowsOf x) i) ≤ c = (let s = row-long x long i h in omega arith) in rw (List·getD-eq-default (row (rowsOf x) i) 0 q) (pow-pos k))
+        | no n ↦ (let q : length (row (rowsOf x) i) ≤ c = (let s = row-long x long i h in omega arith) in
+            rw (List·getD-eq-default (row (rowsOf x) i) 0 q) (pow-pos k))
       ]
 
 -- ---- rows written one after another

@@ -169,7 +169,8 @@ module _ (M : List (List ℕ)) (j : ℕ) where
   pivot-from-cases zero i P found none = rw add-zero at (none (λ e h l. absurd (omega arith)))
   pivot-from-cases (suc n) i P found none = go (pivot-from-cases n (i + 1) P) (ℕ-discrete (entry M i j) 0)
     where
-      go : (((p : ℕ) → i + 1 ≤ p → p < i + 1 + n → (entry M p j ≡ 0 → ⊥) → P p) → (((e : ℕ) → i + 1 ≤ e → e < i + 1 + n → entry M e j ≡ 0) → P (i + 1 + n)) → P (pivotFrom M j n (i + 1)))
+      go : (((p : ℕ) → i + 1 ≤ p → p < i + 1 + n → (entry M p j ≡ 0 → ⊥) → P p) → (((e : ℕ) → i + 1 ≤ e → e < i + 1 + n → entry M e j ≡ 0) → P (i + 1 + n))
+          → P (pivotFrom M j n (i + 1)))
           → Dec (entry M i j ≡ 0) → P (cond (eqb (entry M i j) 0) (pivotFrom M j n (i + 1)) i)
       go ih (yes z) =
           let w : i + suc n ≡ i + 1 + n = omega arith in

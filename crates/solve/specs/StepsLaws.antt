@@ -17,7 +17,8 @@ use Rattle.binary_field.specs.Inverse.{isField, inverse}
 use Rattle.binary_field.specs.InverseLaws.{product-inverse}
 use Rattle.solve.specs.Elimination.{row, entry, exchanged, normalized, cleared, eliminateColumn}
 use Rattle.solve.specs.Rows.{Small, Linear}
-use Rattle.solve.specs.RowsLaws.{scaled-at, added-at, exchanged-first, exchanged-second, exchanged-other, length-exchanged, length-normalized, normalized-same, normalized-other, length-cleared, cleared-pivot, cleared-other, column-cases}
+use Rattle.solve.specs.RowsLaws.{scaled-at, added-at, exchanged-first, exchanged-second, exchanged-other, length-exchanged, length-normalized}
+use Rattle.solve.specs.RowsLaws.{normalized-same, normalized-other, length-cleared, cleared-pivot, cleared-other, column-cases}
 use Rattle.solve.specs.Steps.{Every, System, identity, Reduced}
 
 pub identity-same : (e c : ℕ) → e ≡ c → identity e c ≡ 1
@@ -89,13 +90,15 @@ module _ (k m : ℕ) (pos : 0 < k) (ts : List ℕ) (ok : T (isField k m ts)) (M 
 
           back : Every (λ xs. L xs ≡ 0) (normalized k m M j) t → Every (λ xs. L xs ≡ 0) M t
           back q e h = elim (ℕ-discrete e j) [
-            | yes w ↦ (rw w (undo k m pos ts ok (entry M j j) (L (row M j)) (S .small j hj j) ne (l .keeps (row M j) (S .small j hj)) (rw (normalized-same k m M j there, l .scale) at (q j hj))))
+            | yes w ↦ (rw w (undo k m pos ts ok (entry M j j) (L (row M j)) (S .small j hj j) ne (l .keeps (row M j) (S .small j hj))
+                (rw (normalized-same k m M j there, l .scale) at (q j hj))))
             | no w ↦ (rw (normalized-other k m M j e w) at (q e h))
           ]
 
     normalized-reduced : Reduced M j t → Reduced (normalized k m M j) j t
     normalized-reduced r e h c hc = elim (ℕ-discrete e j) [
-      | yes w ↦ (rw (w, normalized-same k m M j there, scaled-at, r j hj c hc) (ap (product k m _) (identity-other j c (omega arith)) ∙ product-zero k m _ ∙ sym (identity-other j c (omega arith))))
+      | yes w ↦ (rw (w, normalized-same k m M j there, scaled-at, r j hj c hc) (ap (product k m _) (identity-other j c (omega arith)) ∙ product-zero k m _
+          ∙ sym (identity-other j c (omega arith))))
       | no w ↦ (rw (normalized-other k m M j e w) (r e h c hc))
     ]
 
@@ -138,7 +141,8 @@ module _ (k m : ℕ) (pos : 0 < k) (ts : List ℕ) (ok : T (isField k m ts)) (M 
 
       other : (e ≡ j → ⊥) → entry M e c ⊕ product k m (entry M e j) (identity j c) ≡ identity e c
       other w = elim (ℕ-discrete j c) [
-        | yes q ↦ (rw (identity-same j c q, product-one k m pos (entry M e j) (S .small e h j)) (ap (λ x. entry M e x ⊕ entry M e j) (sym q) ∙ ⊕-self (entry M e j) ∙ sym (identity-other e c (λ v. w (v ∙ sym q)))))
+        | yes q ↦ (rw (identity-same j c q, product-one k m pos (entry M e j) (S .small e h j))
+            (ap (λ x. entry M e x ⊕ entry M e j) (sym q) ∙ ⊕-self (entry M e j) ∙ sym (identity-other e c (λ v. w (v ∙ sym q)))))
         | no q ↦ (rw (identity-other j c q, product-zero) (⊕-zero-r (entry M e c) ∙ r e h c (omega arith)))
       ]
 
@@ -148,7 +152,11 @@ module _ (k m : ℕ) (pos : 0 < k) (ts : List ℕ) (ok : T (isField k m ts)) (M 
   module _ (p : ℕ) (hp : p < t) (ne : entry M p j ≡ 0 → ⊥) where
     exchanged-system : System k (exchanged M j p) t
     exchanged-system =
-        record { long = let w = S .long in let v = length-exchanged M j p in omega arith; small = exchanged-iff M t j p (S .long) hj hp (Small k) .0 (S .small) }
+        record {
+          long = let w = S .long in let v = length-exchanged M j p in omega arith;
+          small =
+              exchanged-iff M t j p (S .long) hj hp (Small k) .0 (S .small);
+        }
 
     nonzero : entry (exchanged M j p) j j ≡ 0 → ⊥
     nonzero z = let w = S .long in ne (sym (ap (λ xs. getD xs j 0) (exchanged-first M j p (omega arith) (omega arith))) ∙ z)

@@ -7,17 +7,17 @@ use native.Mathlib.Omega.{arith}
 use borrow.Author.Tests.{ne-eqb}
 use lib.ListN.{length, getD, take, List·getD-map, List·getD-append}
 use lib.Seq.{getD-take}
-use Rattle.byte_edition.specs.Edition.{bytes}
+use Rattle.byte_edition.specs.Edition.{byteEdition}
 use Rattle.byte_edition.specs.EditionLaws.{bytes-sound, bytes-few}
 use Rattle.code.specs.Word.{Codeword}
-use Rattle.code.specs.Answer.{Outcome}
+use Rattle.code.specs.Outcome.{Outcome}
 use Rattle.code.specs.Recovery.{recovered}
 use Rattle.code.specs.RecoveryLaws.{done-single}
 use Rattle.shape.specs.Shapes.{Good, placeCount, dataCount}
 use Rattle.shape.specs.Laws.{places-most}
-use Rattle.recover.specs.Service.{unlessBefore, recoverRefusal, recoverOf, recoverIn}
+use Rattle.recover.specs.Recover.{unlessBefore, recoverRefusal, recoverOf, recoverIn}
 use Rattle.recover.specs.AttemptLaws.{accepted}
-use Rattle.encode.specs.Service.{encodedWord, encodeRefusal}
+use Rattle.encode.specs.Encode.{encodedWord, encodeRefusal}
 use Rattle.encode.specs.Laws.{good-of-encode, encoded}
 use Rattle.text.specs.Records.{wordName, contents, lineKind, lineBytes, lineMarks}
 use Rattle.text.specs.RecordLaws.{name-first, line-values, word-named}
@@ -29,7 +29,7 @@ use Rattle.stream.specs.NoneLostLaws.{codeword-stays}
 use Rattle.stream.specs.OutputLinesLaws.{turn-cases}
 
 -- ---- nothing lost
-module _ {m w c : ℕ} (g : Good m w c) (word : List ℕ) (C : Codeword bytes m w c word) where
+module _ {m w c : ℕ} (g : Good m w c) (word : List ℕ) (C : Codeword byteEdition m w c word) where
   -- the word line of a codeword
   pub codeword-again : turnOf (wordName ++ cells word) m w c ≡ turn (wordLine word) m w c
   unfolding turnOf recordTurn wordTurn
@@ -45,26 +45,26 @@ line-bytes line i = rw (List·getD-map (λ v. v % 256) (contents line) i 0) (mod
 
 module _ (line : List ℕ) (m w c : ℕ) where
   encoded-word : encodeRefusal m w c (placeCount m w) (length (lineBytes line)) ≡ 0
-      → Good m w c × Codeword bytes m w c (encodedWord m w c (lineBytes line))
+      → Good m w c × Codeword byteEdition m w c (encodedWord m w c (lineBytes line))
   encoded-word z =
       let g = good-of-encode m w c (placeCount m w) (length (lineBytes line)) z in
       (g .0, encoded bytes-sound (g .0) (lineBytes line) (g .2) (line-bytes line) .codeword)
 
   recovered-word : (recoverOf m w c (lineBytes line) (lineMarks line)) .number ≡ 0
-      → Good m w c × Codeword bytes m w c ((recoverOf m w c (lineBytes line) (lineMarks line)) .word)
+      → Good m w c × Codeword byteEdition m w c ((recoverOf m w c (lineBytes line) (lineMarks line)) .word)
   unfolding recoverIn
   recovered-word = go (recoverRefusal m w c (lineBytes line) (lineMarks line)) refl
     where
       out : Outcome
-      out = recovered bytes m w c (lineBytes line) (lineMarks line)
+      out = recovered byteEdition m w c (lineBytes line) (lineMarks line)
 
       go : (r : ℕ) → r ≡ recoverRefusal m w c (lineBytes line) (lineMarks line) → (unlessBefore r out (lineBytes line) (lineMarks line)) .number ≡ 0
-          → Good m w c × Codeword bytes m w c ((unlessBefore r out (lineBytes line) (lineMarks line)) .word)
+          → Good m w c × Codeword byteEdition m w c ((unlessBefore r out (lineBytes line) (lineMarks line)) .word)
       go zero e n =
           let A = accepted m w c (lineBytes line) (lineMarks line) 0 e refl in
           let g = A .good in (
             g,
-            done-single bytes bytes-sound m w c (bytes-few (g .few)) (omega arith) (g .narrow) (lineBytes line) (lineMarks line)
+            done-single byteEdition bytes-sound m w c (bytes-few (g .few)) (omega arith) (g .narrow) (lineBytes line) (lineMarks line)
                 (record { size = A .word-size; each = line-bytes line }) n .agrees .codeword,
           )
       go (suc r) e n = absurd (omega arith)
@@ -84,7 +84,7 @@ starts body output k e =
 abbrev Back : ℕ → ℕ → ℕ → Turn → Type 0
 Back m w c t = (body : List ℕ) → t .output ≡ body ++ (10 ∷ []) → lineKind body ≡ 3 → turnOf body m w c ≡ t
 
-word-back-again : {m w c : ℕ} (word : List ℕ) → Good m w c × Codeword bytes m w c word → Back m w c (turn (wordLine word) m w c)
+word-back-again : {m w c : ℕ} (word : List ℕ) → Good m w c × Codeword byteEdition m w c word → Back m w c (turn (wordLine word) m w c)
 unfolding wordLine
 word-back-again {m} {w} {c} word p body e k =
     let b : body ≡ wordName ++ cells word = append-cancel-right body (wordName ++ cells word) (10 ∷ []) (sym e ∙ line-parts 2 wordName word) in

@@ -5,9 +5,9 @@ use Prim.Native.Nat.{ℕ, zero, suc, _≤_, _<_}
 use native.Mathlib.Omega.{arith}
 use lib.ListN.{length, getD}
 use Rattle.counting.specs.FirstLaws.{first-most}
-use Rattle.byte_edition.specs.Edition.{bytes}
+use Rattle.byte_edition.specs.Edition.{byteEdition}
 use Rattle.code.specs.Contradiction.{isBroken, contradictingGroup}
-use Rattle.recover.specs.Service.{recoverOf}
+use Rattle.recover.specs.Recover.{recoverOf}
 use Rattle.text.specs.DecimalLaws.{without}
 use Rattle.text.specs.Records.{lineBytes, lineMarks}
 use Rattle.text.specs.Lines.{lineWith, lineOf, refusedName, okLine, refusedLine, contradictoryLine, wordLine}
@@ -31,7 +31,7 @@ unfolding contradictingGroup
 group-most m w c word marks e =
     let g = nine-accepted m w c word marks e .good in
     let n = nine-names m w c word marks e in
-    let l : contradictingGroup bytes m w c word marks ≤ m = first-most m (isBroken bytes w c word marks) in
+    let l : contradictingGroup byteEdition m w c word marks ≤ m = first-most m (isBroken byteEdition w c word marks) in
     subst (λ x. x ≤ 15) (sym n) (omega arith)
 
 pub no-plain-nine : (line : List ℕ) (m w c : ℕ) → (turnOf line m w c) .output ≡ refusedLine 9 → ⊥

@@ -9,23 +9,23 @@ use lib.ListN.{length, length-replicate}
 use lib.Seq.{ext-getD}
 use Rattle.counting.specs.Count.{one, countBelow}
 use Rattle.counting.specs.CountLaws.{total-zero}
-use Rattle.byte_edition.specs.Edition.{bytes}
+use Rattle.byte_edition.specs.Edition.{byteEdition}
 use Rattle.code.specs.Word.{isCodeword, Symbols, Codeword}
 use Rattle.code.specs.Marks.{lost, lostIn, excess}
 use Rattle.code.specs.BlankLaws.{blank-at}
-use Rattle.code.specs.Answer.{written, contradictory}
+use Rattle.code.specs.Outcome.{written, contradictory}
 use Rattle.code.specs.Contradiction.{contradictingGroup}
 use Rattle.code.specs.Recovery.{Agrees}
 use Rattle.shape.specs.Shapes.{Good}
 use Rattle.marks.specs.Refusal.{Marked}
-use Rattle.recover.specs.Service.{recoverOf}
+use Rattle.recover.specs.Recover.{recoverOf}
 use Rattle.recover.specs.Attempt.{Accepted}
 use Rattle.recover.specs.AttemptLaws.{accepted, service-done, service-nine}
 use Rattle.recover.specs.DemandTwoLaws.{good-start}
 use Rattle.byte_edition.specs.EditionLaws.{bytes-sound}
 use Rattle.stream.specs.NoneLost.{noneLost}
 
-module _ {m w c : ℕ} (g : Good m w c) (word : List ℕ) (s : Symbols bytes (m * w) word) where
+module _ {m w c : ℕ} (g : Good m w c) (word : List ℕ) (s : Symbols byteEdition (m * w) word) where
   none-excess : excess m w c (noneLost word) ≡ 0
   unfolding excess lostIn
   none-excess =
@@ -44,21 +44,21 @@ module _ {m w c : ℕ} (g : Good m w c) (word : List ℕ) (s : Symbols bytes (m 
   none-accepted : Accepted m w c word (noneLost word)
   none-accepted = accepted m w c word (noneLost word) 0 (sym (good-start m w c word (noneLost word) none-marked (s .size))) refl
 
-  pub codeword-stays : Codeword bytes m w c word → recoverOf m w c word (noneLost word) ≡ written word (noneLost word)
+  pub codeword-stays : Codeword byteEdition m w c word → recoverOf m w c word (noneLost word) ≡ written word (noneLost word)
   codeword-stays C =
       let e = none-excess in
       service-done bytes-sound m w c word (noneLost word) none-accepted (s .each) word (omega arith) (record { codeword = C; agree = λ p l e. refl })
 
   -- a word that agrees at every place is the word
-  agreeing-same : (y : List ℕ) → Agrees bytes m w c (noneLost word) word y → y ≡ word
+  agreeing-same : (y : List ℕ) → Agrees byteEdition m w c (noneLost word) word y → y ≡ word
   agreeing-same y Y =
       let size = Y .codeword .symbols .size in
       ext-getD 0 y word (size ∙ sym (s .size))
       (λ p l. Y .agree p (subst (λ n. p < n) size l) (ap (λ v. eqb v 1) (blank-at (length word) p)))
 
-  pub other-nine : isCodeword bytes m w c word ≡ false
-      → recoverOf m w c word (noneLost word) ≡ contradictory (contradictingGroup bytes m w c word (noneLost word)) word (noneLost word)
+  pub other-nine : isCodeword byteEdition m w c word ≡ false
+      → recoverOf m w c word (noneLost word) ≡ contradictory (contradictingGroup byteEdition m w c word (noneLost word)) word (noneLost word)
   other-nine e =
       let x = none-excess in
       service-nine bytes-sound m w c word (noneLost word) none-accepted (s .each) (omega arith)
-      (λ y Y. subst T (ap (isCodeword bytes m w c) (agreeing-same y Y) ∙ e) (Y .codeword .zero))
+      (λ y Y. subst T (ap (isCodeword byteEdition m w c) (agreeing-same y Y) ∙ e) (Y .codeword .zero))

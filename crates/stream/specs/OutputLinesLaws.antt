@@ -8,13 +8,13 @@ use native.Mathlib.Omega.{arith}
 use borrow.Author.Tests.{eqb-true, eqb-false}
 use lib.Dec.{T, eqb}
 use lib.ListN.{length, getD}
-use Rattle.code.specs.Answer.{Outcome}
+use Rattle.code.specs.Outcome.{Outcome}
 use Rattle.shape.specs.Refusals.{refuse, _orElse_}
 use Rattle.shape.specs.RefusalsLaws.{orElse-most}
 use Rattle.shape.specs.Shapes.{placeCount, dataCount, shapeRefusal, saleRefusal, wordRefusal, bufferRefusal, bufferRefusalIn}
 use Rattle.shape.specs.Laws.{shape-most, sale-numbers, word-most}
-use Rattle.encode.specs.Service.{encodedWord, encodeRefusal, encodeRefusalIn}
-use Rattle.recover.specs.Service.{recoverOf}
+use Rattle.encode.specs.Encode.{encodedWord, encodeRefusal, encodeRefusalIn}
+use Rattle.recover.specs.Recover.{recoverOf}
 use Rattle.text.specs.DecimalLaws.{without}
 use Rattle.text.specs.Records.{wordName, lineKind, lineBytes, lineMarks}
 use Rattle.text.specs.Lines.{cells, lineOf, okLine, refusedLine, contradictoryLine, wordLine}

@@ -8,17 +8,17 @@ use native.Mathlib.Omega.{arith}
 use borrow.Author.Tests.{eqb-true}
 use lib.Dec.{eqb}
 use lib.ListN.{length, getD, length-append, length-map}
-use Rattle.byte_edition.specs.Edition.{bytes}
-use Rattle.code.specs.Answer.{Outcome}
-use Rattle.code.specs.AnswerLaws.{answered-length}
+use Rattle.byte_edition.specs.Edition.{byteEdition}
+use Rattle.code.specs.Outcome.{Outcome}
+use Rattle.code.specs.OutcomeLaws.{answered-length}
 use Rattle.code.specs.Recovery.{recovered}
 use Rattle.shape.specs.Shapes.{Good, placeCount, dataCount, shapeRefusal}
 use Rattle.shape.specs.Laws.{data-some, data-and-checks}
 use Rattle.places.specs.Places.{placedOf, checkMarks}
 use Rattle.places.specs.Laws.{placed-length}
-use Rattle.encode.specs.Service.{encodedWord, encodedIn, encodeRefusal}
+use Rattle.encode.specs.Encode.{encodedWord, encodedIn, encodeRefusal}
 use Rattle.encode.specs.Laws.{good-of-encode}
-use Rattle.recover.specs.Service.{unlessBefore, recoverRefusal, recoverOf, recoverIn}
+use Rattle.recover.specs.Recover.{unlessBefore, recoverRefusal, recoverOf, recoverIn}
 use Rattle.text.specs.Records.{wordName, contents, lineKind, lineBytes, lineMarks}
 use Rattle.text.specs.RecordLaws.{line-values, data-named}
 use Rattle.text.specs.Lines.{lineWith, lineOf, refusedName, okLine, refusedLine, contradictoryLine, wordLine}
@@ -57,7 +57,7 @@ recovered-size : (m w c : ℕ) (word marks : List ℕ) → length ((recoverOf m 
 unfolding recoverIn
 recovered-size m w c word marks = go (recoverRefusal m w c word marks)
   where
-    go : (r : ℕ) → length ((unlessBefore r (recovered bytes m w c word marks) word marks) .word) ≡ length word
+    go : (r : ℕ) → length ((unlessBefore r (recovered byteEdition m w c word marks) word marks) .word) ≡ length word
     go zero = answered-length _ _ _ _ word marks
     go (suc r) = refl
 

@@ -3,24 +3,24 @@ use mathlib.Core.List.{List}
 use Prim.Native.Nat.{ℕ}
 use lib.ListN.{length}
 use Rattle.code.specs.Edition.{raised}
-use Rattle.byte_edition.specs.Edition.{bytes}
-use Rattle.code.specs.Word.{groupSum, coefficient, twisted, firstAcross, secondAcross}
+use Rattle.byte_edition.specs.Edition.{byteEdition}
+use Rattle.code.specs.Word.{groupSum, coefficient, secondCoefficient, firstAcross, secondAcross}
 use Rattle.syndrome.specs.declared.Sums.{Sums}
 
 abbrev pub acrossOf : ℕ → ℕ → ℕ → List ℕ → Sums
-acrossOf m w c word = record { first = firstAcross bytes m w c word; second = secondAcross bytes m w c word }
+acrossOf m w c word = record { first = firstAcross byteEdition m w c word; second = secondAcross byteEdition m w c word }
 
 -- the sums of one group, from its stretch, without and with the factor 2^g of the second
 abbrev pub plainSums : ℕ → List ℕ → Sums
 plainSums c part = record {
-  first = groupSum bytes (length part) part 0 (coefficient bytes c);
-  second = groupSum bytes (length part) part 0 (λ j. raised bytes (coefficient bytes c j) 16);
+  first = groupSum byteEdition (length part) part 0 (coefficient byteEdition c);
+  second = groupSum byteEdition (length part) part 0 (λ j. raised byteEdition (coefficient byteEdition c j) 16);
 }
 
 abbrev pub groupSums : ℕ → ℕ → List ℕ → Sums
 groupSums c g part = record {
-  first = groupSum bytes (length part) part 0 (coefficient bytes c);
-  second = groupSum bytes (length part) part 0 (twisted bytes c g);
+  first = groupSum byteEdition (length part) part 0 (coefficient byteEdition c);
+  second = groupSum byteEdition (length part) part 0 (secondCoefficient byteEdition c g);
 }
 
 -- what is given for a word that is not of a good shape's length

@@ -15,15 +15,15 @@ use Rattle.binary_field.specs.ProductLaws.{product-left-comm}
 use Rattle.binary_field.specs.Sum.{innerProduct}
 use Rattle.binary_field.specs.SumLaws.{sum-none, sum-suc, sum-ext, sum-scale}
 use Rattle.code.specs.Edition.{Edition, times, raised}
-use Rattle.byte_edition.specs.Edition.{bytes}
-use Rattle.code.specs.Word.{groupSum, localSum, wordSum, coefficient, twisted, isLocal}
+use Rattle.byte_edition.specs.Edition.{byteEdition}
+use Rattle.code.specs.Word.{groupSum, localSum, wordSum, coefficient, secondCoefficient, isLocal}
 use Rattle.code.specs.StretchLaws.{own-place, stretch-sum}
-use Rattle.groups.specs.Lent.{LentIn}
-use Rattle.groups.specs.LentLaws.{part-stretch, part-length}
-use Rattle.coefficients.specs.Rows.{powerRows, firstRows, secondRows, noRow}
-use Rattle.coefficients.specs.RowsLaws.{power-at, first-at, second-at}
-use Rattle.coefficients.specs.Padded.{Padded}
-use Rattle.coefficients.specs.PaddedLaws.{padded-group}
+use Rattle.code.specs.Lent.{LentIn}
+use Rattle.code.specs.LentLaws.{part-stretch, part-length}
+use Rattle.check_rows.specs.Rows.{powerRows, firstRows, secondRows, noRow}
+use Rattle.check_rows.specs.RowsLaws.{power-at, first-at, second-at}
+use Rattle.check_rows.specs.Padded.{Padded}
+use Rattle.check_rows.specs.PaddedLaws.{padded-group}
 use Rattle.syndrome.specs.Across.{plainSums}
 
 -- a test that would show what is not so
@@ -34,44 +34,47 @@ is-false false h = refl
 -- ---- one group, from its stretch
 -- an inner product with a row of coefficients is a sum over the group
 inner-group : (part row : List ℕ) (h : ℕ → ℕ) → length part ≤ 16 → ((j : ℕ) → j < 16 → getD row j 0 ≡ h j)
-    → innerProduct 8 285 (length part) part row ≡ groupSum bytes (length part) part 0 h
+    → innerProduct 8 285 (length part) part row ≡ groupSum byteEdition (length part) part 0 h
 unfolding innerProduct groupSum
 inner-group part row h narrow same =
     sum-ext (length part) _ _
-    (λ j l. ap₂ (times bytes) (ap (λ n. getD part n 0) (sym (own-place (length part) j))) (same j (omega arith)))
+    (λ j l. ap₂ (times byteEdition) (ap (λ n. getD part n 0) (sym (own-place (length part) j))) (same j (omega arith)))
 
 -- the factor 2^g of a group stands before its sum
-pub twisted-group : (E : Edition) (w c g : ℕ) (part : List ℕ)
-    → times E (raised E 2 g) (groupSum E w part 0 (λ j. raised E (coefficient E c j) (E .small))) ≡ groupSum E w part 0 (twisted E c g)
-unfolding groupSum twisted
-twisted-group E w c g part =
+pub second-coefficient-group : (E : Edition) (w c g : ℕ) (part : List ℕ)
+    → times E (raised E 2 g) (groupSum E w part 0 (λ j. raised E (coefficient E c j) (E .small))) ≡ groupSum E w part 0 (secondCoefficient E c g)
+unfolding groupSum secondCoefficient
+second-coefficient-group E w c g part =
     sym
     (sum-ext w _ _ (λ j _. product-left-comm (E .bits) (E .poly) (getD part (0 * w + j) 0) (raised E 2 g) (raised E (coefficient E c j) (E .small)))
     ∙ sum-scale (E .bits) (E .poly) w (raised E 2 g) _)
 
 -- a stretch that is padded
 module _ {part x : List ℕ} (P : Padded part x) (narrow : length part ≤ 16) (c : ℕ) where
-  pub padded-local : isLocal bytes (length x) c x 0 ≡ isLocal bytes (length part) c part 0
+  pub padded-local : isLocal byteEdition (length x) c x 0 ≡ isLocal byteEdition (length part) c part 0
   unfolding isLocal
-  padded-local i = allBelow c (λ e. eqb (padded-group P narrow (λ j. raised bytes (bytes .locator j) e) i) 0)
+  padded-local i = allBelow c (λ e. eqb (padded-group P narrow (λ j. raised byteEdition (byteEdition .locator j) e) i) 0)
 
   pub padded-plain : plainSums c x ≡ plainSums c part
-  padded-plain = ap₂ (λ a b. record { first = a; second = b }) (padded-group P narrow (coefficient bytes c)) (padded-group P narrow (λ j. raised bytes (coefficient bytes c j) 16))
+  padded-plain = ap₂ (λ a b. record { first = a; second = b }) (padded-group P narrow (coefficient byteEdition c))
+      (padded-group P narrow (λ j. raised byteEdition (coefficient byteEdition c j) 16))
 
 module _ (part : List ℕ) (narrow : length part ≤ 16) where
-  pub power-group : (e : ℕ) → e < 4 → innerProduct 8 285 (length part) part (getD powerRows e noRow) ≡ localSum bytes (length part) part 0 e
+  pub power-group : (e : ℕ) → e < 4 → innerProduct 8 285 (length part) part (getD powerRows e noRow) ≡ localSum byteEdition (length part) part 0 e
   power-group e h = inner-group part _ _ narrow (λ j l. power-at e j h l)
 
   module _ (c : ℕ) (some : 1 ≤ c) (few : c ≤ 4) where
     same-count : suc (c - 1) ≡ c
     same-count = omega arith
 
-    pub first-group : innerProduct 8 285 (length part) part (getD firstRows (c - 1) noRow) ≡ groupSum bytes (length part) part 0 (coefficient bytes c)
-    first-group = inner-group part _ _ narrow (λ j l. first-at (c - 1) j (omega arith) l ∙ ap (λ n. coefficient bytes n j) same-count)
+    pub first-group : innerProduct 8 285 (length part) part (getD firstRows (c - 1) noRow)
+        ≡ groupSum byteEdition (length part) part 0 (coefficient byteEdition c)
+    first-group = inner-group part _ _ narrow (λ j l. first-at (c - 1) j (omega arith) l ∙ ap (λ n. coefficient byteEdition n j) same-count)
 
     pub second-group : innerProduct 8 285 (length part) part (getD secondRows (c - 1) noRow)
-        ≡ groupSum bytes (length part) part 0 (λ j. raised bytes (coefficient bytes c j) 16)
-    second-group = inner-group part _ _ narrow (λ j l. second-at (c - 1) j (omega arith) l ∙ ap (λ n. raised bytes (coefficient bytes n j) 16) same-count)
+        ≡ groupSum byteEdition (length part) part 0 (λ j. raised byteEdition (coefficient byteEdition c j) 16)
+    second-group = inner-group part _ _ narrow (λ j l. second-at (c - 1) j (omega arith) l
+        ∙ ap (λ n. raised byteEdition (coefficient byteEdition n j) 16) same-count)
 
 -- ---- all groups
 pub word-none : (E : Edition) (w : ℕ) (word : List ℕ) (h : ℕ → ℕ → ℕ) → wordSum E 0 w word h ≡ 0
@@ -82,7 +85,8 @@ word-more : (E : Edition) (g w : ℕ) (word : List ℕ) (h : ℕ → ℕ → ℕ
 unfolding wordSum
 word-more E g w word h = ap (λ n. wordSum E n w word h) (add-one g) ∙ sum-suc g _
 
-module _ (E : Edition) {m w c : ℕ} {word : List ℕ} (L : LentIn (E .limits) m w c word) (g : ℕ) (l : g < m) {part : List ℕ} (is : part ≡ take (g * w + w - g * w) (drop (g * w) word)) where
+module _ (E : Edition) {m w c : ℕ} {word : List ℕ} (L : LentIn (E .limits) m w c word) (g : ℕ) (l : g < m) {part : List ℕ}
+    (is : part ≡ take (g * w + w - g * w) (drop (g * w) word)) where
   -- one turn of a sum across
   pub sum-turn : (h : ℕ → ℕ → ℕ) (s r : ℕ) → s ≡ wordSum E g w word h → r ≡ groupSum E (length part) part 0 (h g)
       → bitXor s r ≡ wordSum E (g + 1) w word h

@@ -4,7 +4,7 @@ use mathlib.Core.List.{List}
 use Prim.Native.Nat.{ℕ}
 use Rattle.counting.specs.First.{firstBelow}
 use Rattle.code.specs.Edition.{Edition}
-use Rattle.byte_edition.specs.Edition.{bytes}
+use Rattle.byte_edition.specs.Edition.{byteEdition}
 use Rattle.code.specs.Word.{isLocal, isCodeword}
 use Rattle.syndrome.specs.declared.Tested.{Tested}
 
@@ -22,8 +22,8 @@ notTested = record { codeword = false; group = 0 }
 
 -- in the edition of bytes
 abbrev pub brokenGroup : ℕ → ℕ → ℕ → List ℕ → ℕ
-brokenGroup = brokenGroupIn bytes
+brokenGroup = brokenGroupIn byteEdition
 
 -- and what is found
 abbrev pub testedOf : ℕ → ℕ → ℕ → List ℕ → Tested
-testedOf = testedIn bytes
+testedOf = testedIn byteEdition

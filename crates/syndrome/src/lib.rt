@@ -4,7 +4,7 @@ ghost use mathlib.Core.Bool.{true, false};
 ghost use Prim.Native.Nat.{_*_, _≤_, _<_};
 ghost use lib.ListN.{length};
 ghost use Rattle.shape.specs.Shapes.{Good};
-ghost use Rattle.byte_edition.specs.Edition.{bytes};
+ghost use Rattle.byte_edition.specs.Edition.{byteEdition};
 ghost use Rattle.code.specs.Word.{isLocal};
 ghost use Rattle.syndrome.specs.Across.{plainSums, groupSums, acrossOf, noSums};
 ghost use Rattle.syndrome.specs.Tests.{brokenGroup, testedOf, notTested};
@@ -25,11 +25,11 @@ pub struct Tested {
 // Whether the first c local sums of at most sixteen places are zero.
 fn zero_sums(part: &[u8], c: usize) -> bool
     requires { ⌜ (length (now part) ≤ 16) × (c ≤ 4) ⌝ }
-    ensures { λ r. ⌜ r ≡ isLocal bytes (length (now (part .entry))) c (now (part .entry)) 0 ⌝ }
+    ensures { λ r. ⌜ r ≡ isLocal byteEdition (length (now (part .entry))) c (now (part .entry)) 0 ⌝ }
 {
     let mut e: usize = 0;
     while e < c {
-        if coefficients::power_sum(part, e) != 0 {
+        if check_rows::power_sum(part, e) != 0 {
             return false;
         }
         e += 1;
@@ -40,7 +40,7 @@ fn zero_sums(part: &[u8], c: usize) -> bool
 // Whether the first c local sums of one group's stretch are zero; false for more than 16 places or c above 4. A shorter stretch is padded, since
 // sums over sixteen places are fast.
 pub fn local_zero(part: &[u8], c: usize) -> bool
-    ensures { λ r. ⌜ (length (now (part .entry)) ≤ 16 → c ≤ 4 → r ≡ isLocal bytes (length (now (part .entry))) c (now (part .entry)) 0) ⌝ }
+    ensures { λ r. ⌜ (length (now (part .entry)) ≤ 16 → c ≤ 4 → r ≡ isLocal byteEdition (length (now (part .entry))) c (now (part .entry)) 0) ⌝ }
     ensures { λ r. ⌜ ((length (now (part .entry)) ≤ 16 → c ≤ 4 → ⊥) → r ≡ false) ⌝ }
 {
     if 4 < c {
@@ -52,7 +52,7 @@ pub fn local_zero(part: &[u8], c: usize) -> bool
     if part.len() == 16 {
         return zero_sums(part, c);
     }
-    let x = coefficients::padded(part);
+    let x = check_rows::padded(part);
     zero_sums(&x, c)
 }
 
@@ -75,8 +75,8 @@ fn plain_sums(part: &[u8], c: usize) -> Sums
     requires { ⌜ (length (now part) ≤ 16) × (1 ≤ c) × (c ≤ 4) ⌝ }
     ensures { λ r. ⌜ r ≡ plainSums c (now (part .entry)) ⌝ }
 {
-    let first = coefficients::first_sum(part, c - 1);
-    let second = coefficients::second_sum(part, c - 1);
+    let first = check_rows::first_sum(part, c - 1);
+    let second = check_rows::second_sum(part, c - 1);
     Sums { first, second }
 }
 
@@ -88,7 +88,7 @@ fn padded_sums(part: &[u8], c: usize) -> Sums
     if part.len() == 16 {
         return plain_sums(part, c);
     }
-    let x = coefficients::padded(part);
+    let x = check_rows::padded(part);
     plain_sums(&x, c)
 }
 

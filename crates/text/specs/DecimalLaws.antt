@@ -9,8 +9,7 @@ use borrow.Author.Tests.{lt-ltb, le-ltb, leb-true, ltb-true, eqb-false, eq-eqb, 
 use lib.Dec.{T, eqb, leb, ltb, eqb→eq, not-T}
 use lib.ListN.{length, getD, length-append, List·getD-append}
 use Rattle.text.specs.Decimal.{digitsOf, isDigit, unreadable, digitsAfter, numberOf}
-use Rattle.counting.specs.Test.{both}
-use Rattle.counting.specs.TestLaws.{both-l, both-r, both-intro}
+use Rattle.counting.specs.TestLaws.{and-l, and-r, and-intro}
 
 -- ---- the digits of a number
 
@@ -161,18 +160,18 @@ number-of-digits t bound n m l =
 -- whether a byte stands nowhere in a text
 unfoldable pub without : ℕ → List ℕ → Bool
 without y [] = true
-without y (x ∷ xs) = both (not (eqb x y)) (without y xs)
+without y (x ∷ xs) = not (eqb x y) && without y xs
 
 pub without-append : (y : ℕ) (xs ys : List ℕ) → T (without y xs) → T (without y ys) → T (without y (xs ++ ys))
 unfolding without
 without-append y [] ys s t = t
 without-append y (x ∷ xs) ys s t =
-    both-intro (not (eqb x y)) (without y (xs ++ ys)) (both-l (not (eqb x y)) (without y xs) s)
-    (without-append y xs ys (both-r (not (eqb x y)) (without y xs) s) t)
+    and-intro (not (eqb x y)) (without y (xs ++ ys)) (and-l (not (eqb x y)) (without y xs) s)
+    (without-append y xs ys (and-r (not (eqb x y)) (without y xs) s) t)
 
 without-one : (y d : ℕ) → y < 48 → T (without y ((48 + d) ∷ []))
 unfolding without
-without-one y d l = both-intro (not (eqb (48 + d) y)) true (not-T (eqb (48 + d) y) (λ q. let e = eqb→eq (48 + d) y q in omega arith)) tt
+without-one y d l = and-intro (not (eqb (48 + d) y)) true (not-T (eqb (48 + d) y) (λ q. let e = eqb→eq (48 + d) y q in omega arith)) tt
 
 -- a byte below 48, as a tab and a line feed, stands in no number's text
 pub digits-without : (y t n : ℕ) → y < 48 → T (without y (digitsOf t n))

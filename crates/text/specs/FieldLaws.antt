@@ -12,7 +12,6 @@ use lib.Seq.{drop-cons, drop-drop, drop-append-seam}
 use Rattle.text.specs.Fields.{withFirst, parts, same, lostPlace, meaning}
 use Rattle.text.specs.Decimal.{digitsAfter, numberOf}
 use Rattle.text.specs.DecimalLaws.{without}
-use Rattle.counting.specs.Test.{both}
 
 -- the bytes before the first separator
 unfoldable pub upTo : ℕ → List ℕ → List ℕ
@@ -179,7 +178,7 @@ unfolding upTo without
 front-part sep [] rest t e = e
 front-part sep (x ∷ f) rest t e = go (eqb x sep) t (λ u. front-part sep f rest u e)
   where
-    go : (b : Bool) → T (both (not b) (without sep f)) → (T (without sep f) → upTo sep (f ++ rest) ≡ f)
+    go : (b : Bool) → T (not b && without sep f) → (T (without sep f) → upTo sep (f ++ rest) ≡ f)
         → cond b [] (x ∷ upTo sep (f ++ rest)) ≡ x ∷ f
     go true t i = absurd t
     go false t i = ap (λ l. x ∷ l) (i t)

@@ -14,7 +14,7 @@ use Rattle.text.specs.Fields.{fields, same, lostPlace, meaning}
 use Rattle.text.specs.FieldLaws.{upTo, later, parts-front, same-eq, meaning-of-number}
 use Rattle.text.specs.Records.{wordName, nameKind, lineName, contents, allUnder, lineKind, lineBytes, lineMarks}
 use Rattle.text.specs.Lines.{cellsOf, cells, lineWith, lineOf}
-use Rattle.counting.specs.TestLaws.{both-l, both-r, both-intro}
+use Rattle.counting.specs.TestLaws.{and-l, and-r, and-intro}
 use Rattle.text.specs.ReadBack.{Bytes}
 
 pub meaning-decimal : (b : ℕ) → b < 256 → meaning (decimal b) ≡ b

@@ -3,14 +3,14 @@ use word_check::Checked;
 ghost use mathlib.Core.Path.{_≡_};
 ghost use lib.ListN.{length};
 ghost use Rattle.shape.specs.Shapes.{wordRefusalIn};
-ghost use Rattle.word_check.specs.Answer.{checkedIn, checkedNumber, checkedFigures, figuresIn};
-ghost use Rattle.wide_edition.specs.Edition.{wideLimits, wide};
+ghost use Rattle.word_check.specs.Checked.{checkedIn, checkedNumber, checkedFigures, checkFiguresIn};
+ghost use Rattle.wide_edition.specs.Edition.{wideLimits, wideEdition};
 
 // Whether a word is a codeword of the shape.
 pub fn check(m: usize, w: usize, c: usize, word: &[u16]) -> Checked
-    ensures answer { λ r. ⌜ r ≡ checkedIn wide m w c (now (word .entry)) ⌝ }
+    ensures answer { λ r. ⌜ r ≡ checkedIn wideEdition m w c (now (word .entry)) ⌝ }
     ensures number { λ r. ⌜ checkedNumber r ≡ wordRefusalIn wideLimits m w c (length (now (word .entry))) ⌝ }
-    ensures figures { λ r. ⌜ checkedFigures r ≡ figuresIn wide m w c (now (word .entry)) ⌝ }
+    ensures figures { λ r. ⌜ checkedFigures r ≡ checkFiguresIn wideEdition m w c (now (word .entry)) ⌝ }
 {
     let r = wide_shape::word_refusal(m, w, c, word.len());
     if r != 0 {

@@ -8,5 +8,5 @@ abbrev pub wideLimits : Limits
 wideLimits = record { groups = 255; checks = 4; width = 256; places = 4096 }
 
 -- "Symbols are numbers of 16 bits, the field has 65,536 elements with x^16+x^12+x^3+x+1, the small field 256"
-abbrev pub wide : Edition
-wide = record { bits = 16; poly = 69643; small = 256; locator = locator; limits = wideLimits }
+abbrev pub wideEdition : Edition
+wideEdition = record { bits = 16; poly = 69643; small = 256; locator = locator; limits = wideLimits }

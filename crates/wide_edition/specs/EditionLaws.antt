@@ -6,10 +6,10 @@ use Rattle.wide_field.specs.Symbols.{halving}
 use Rattle.wide_field.specs.SymbolsLaws.{is-field, order-two}
 use Rattle.wide_field.specs.LocatorsLaws.{locator-lt, locators-apart, locator-fixed}
 use Rattle.code.specs.Edition.{Sound}
-use Rattle.wide_edition.specs.Edition.{wide}
+use Rattle.wide_edition.specs.Edition.{wideEdition}
 
 -- all that the theorems ask of it
-unfoldable pub wide-sound : Sound wide
+unfoldable pub wide-sound : Sound wideEdition
 wide-sound = record {
   r = 255;
   small-is = refl;

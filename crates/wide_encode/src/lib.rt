@@ -2,12 +2,12 @@
 use shape::Answer;
 ghost use mathlib.Core.Path.{_≡_};
 ghost use lib.ListN.{length};
-ghost use Rattle.wide_edition.specs.Edition.{wideLimits, wide};
+ghost use Rattle.wide_edition.specs.Edition.{wideLimits, wideEdition};
 ghost use Rattle.shape.specs.Shapes.{GoodIn, placeCount};
 ghost use Rattle.shape.specs.Answers.{answerNumber};
 ghost use Rattle.places.specs.Places.{checkMarks};
-ghost use Rattle.recover.specs.Service.{recoverIn};
-ghost use Rattle.encode.specs.Service.{encodeRefusalIn, encodeIn, encodedBufferIn};
+ghost use Rattle.recover.specs.Recover.{recoverIn};
+ghost use Rattle.encode.specs.Encode.{encodeRefusalIn, encodeIn, encodedBufferIn};
 
 // The refusal of a call by its shape and its lengths: 1 to 4, 26, 29, then 5; 0 if there is none.
 fn refusal(m: usize, w: usize, c: usize, word: usize, symbols: usize) -> u8
@@ -22,7 +22,7 @@ fn refusal(m: usize, w: usize, c: usize, word: usize, symbols: usize) -> u8
 fn fill_checks(m: usize, w: usize, c: usize, word: &mut [u16], marks: &mut [u8])
     requires { ⌜ GoodIn wideLimits m w c ⌝ }
     requires { ⌜ length (now marks) ≡ placeCount m w ⌝ }
-    ensures { λ _. ⌜ now (word .exit) ≡ (recoverIn wide m w c (now (word .entry)) (checkMarks m w c)) .word ⌝ }
+    ensures { λ _. ⌜ now (word .exit) ≡ (recoverIn wideEdition m w c (now (word .entry)) (checkMarks m w c)) .word ⌝ }
 {
     wide_places::mark_checks(m, w, c, marks);
     wide_recover::recover(m, w, c, word, marks);
@@ -32,7 +32,7 @@ fn fill_checks(m: usize, w: usize, c: usize, word: &mut [u16], marks: &mut [u8])
 pub fn encode(m: usize, w: usize, c: usize, symbols: &[u16], word: &mut [u16]) -> Answer
     ensures answer { λ r. ⌜ r ≡ encodeIn wideLimits m w c (now (symbols .entry)) (now (word .entry)) ⌝ }
     ensures number { λ r. ⌜ answerNumber r ≡ encodeRefusalIn wideLimits m w c (length (now (word .entry))) (length (now (symbols .entry))) ⌝ }
-    ensures buffer { λ _. ⌜ now (word .exit) ≡ encodedBufferIn wide m w c (now (symbols .entry)) (now (word .entry)) ⌝ }
+    ensures buffer { λ _. ⌜ now (word .exit) ≡ encodedBufferIn wideEdition m w c (now (symbols .entry)) (now (word .entry)) ⌝ }
 {
     let r = refusal(m, w, c, word.len(), symbols.len());
     if r != 0 {

@@ -10,7 +10,7 @@ use Rattle.binary_field.specs.Product.{product}
 use Rattle.binary_field.specs.ProductLaws.{zero-product, product-one}
 use Rattle.binary_field.specs.Power.{power}
 use Rattle.binary_field.specs.PowerLaws.{power-lt, power-add, power-mul, power-suc, power-swap}
-use Rattle.binary_field.specs.OrderLaws.{powers-differ}
+use Rattle.binary_field.specs.ElementOrderLaws.{powers-differ}
 use Rattle.wide_field.specs.SymbolsLaws.{at-257, order-locator}
 use Rattle.wide_field.specs.Locators.{locator}
 

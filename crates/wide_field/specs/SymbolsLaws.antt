@@ -7,8 +7,8 @@ use Rattle.binary_field.specs.Xor.{_⊕_, masked}
 use Rattle.binary_field.specs.Product.{double, bitSum, product}
 use Rattle.binary_field.specs.Power.{power, squares}
 use Rattle.binary_field.specs.Inverse.{isField, linearMap}
-use Rattle.binary_field.specs.Order.{returnsAt, Order}
-use Rattle.binary_field.specs.OrderLaws.{order-of, order-product}
+use Rattle.binary_field.specs.ElementOrder.{returnsAt, Order}
+use Rattle.binary_field.specs.ElementOrderLaws.{order-of, order-product}
 use Rattle.wide_field.specs.Symbols.{halving}
 
 pub is-field : T (isField 16 69643 halving)

@@ -8,7 +8,7 @@ ghost use Rattle.fill.specs.Placed.{placed};
 ghost use Rattle.fill.specs.EquationsLaws.{EquationsIn};
 ghost use Rattle.binary_field.specs.Power.{power};
 ghost use Rattle.wide_field.specs.LocatorRow.{locatorRow};
-ghost use Rattle.wide_edition.specs.Edition.{wide};
+ghost use Rattle.wide_edition.specs.Edition.{wideEdition};
 
 // The positions of the first four lost places, in order, and how many places are lost.
 struct Erasures {
@@ -89,7 +89,7 @@ fn equation(at: [usize; 4], sums: [u16; 6], e: usize) -> [u16; 16]
 // The first t equations.
 fn equations(part: &[u16], at: [usize; 4], t: usize) -> [[u16; 16]; 4]
     requires { ⌜ (t ≤ 4) × (length (now part) ≤ 256) × Inside (length (now part)) at t ⌝ }
-    ensures { λ r. ⌜ EquationsIn wide (now (part .entry)) at t r ⌝ }
+    ensures { λ r. ⌜ EquationsIn wideEdition (now (part .entry)) at t r ⌝ }
 {
     let sums = wide_sums::power_sums(part, t);
     let mut rows = [[0u16; 16]; 4];
@@ -104,7 +104,7 @@ fn equations(part: &[u16], at: [usize; 4], t: usize) -> [[u16; 16]; 4]
 
 // Fills the lost places, if at most four of at most 256 are lost; what stood there does not count. Else nothing changes.
 pub fn fill(part: &mut [u16], marks: &[u8])
-    ensures { λ _. ⌜ FilledIn wide (now (marks .entry)) (now (part .entry)) (now (part .exit)) ⌝ }
+    ensures { λ _. ⌜ FilledIn wideEdition (now (marks .entry)) (now (part .entry)) (now (part .exit)) ⌝ }
 {
     if 256 < part.len() {
         return;

@@ -7,8 +7,8 @@ ghost use Rattle.shape.specs.Shapes.{GoodIn};
 ghost use Rattle.wide_edition.specs.Edition.{wideLimits};
 ghost use Rattle.code.specs.Marks.{excess};
 ghost use Rattle.marks.specs.Refusal.{marksRefusalIn};
-ghost use Rattle.erasures.specs.Whole.{keptGroups, KeptAll};
-ghost use Rattle.judge.specs.Answer.{judgedIn, judgedNumber, judgedNumberIn};
+ghost use Rattle.erasures.specs.Whole.{boundGroups, BoundAll};
+ghost use Rattle.judge.specs.Judgement.{judgedIn, judgedNumber, judgedNumberIn};
 
 // The refusal, 1 to 4, 26, 5 and 6, of a service that is lent marks; 0 if there is none.
 pub fn marks_refusal(m: usize, w: usize, c: usize, marks: &[u8]) -> u8
@@ -45,10 +45,10 @@ pub fn excess_of(m: usize, w: usize, c: usize, marks: &[u8]) -> usize
 }
 
 // Clears the marks of the free places of every group. A shape that is not good, or marks of another length, are left as they are.
-pub fn keep(m: usize, w: usize, c: usize, marks: &mut [u8])
-    ensures kept { λ _. ⌜ (GoodIn wideLimits m w c → length (now (marks .entry)) ≡ m * w → KeptAll m w c (now (marks .entry)) (now (marks .exit))) ⌝ }
+pub fn clear_free(m: usize, w: usize, c: usize, marks: &mut [u8])
+    ensures bound { λ _. ⌜ (GoodIn wideLimits m w c → length (now (marks .entry)) ≡ m * w → BoundAll m w c (now (marks .entry)) (now (marks .exit))) ⌝ }
     ensures size { λ _. ⌜ length (now (marks .exit)) ≡ length (now (marks .entry)) ⌝ }
-    ensures equal { λ _. ⌜ (GoodIn wideLimits m w c → length (now (marks .entry)) ≡ m * w → now (marks .exit) ≡ keptGroups m w c (now (marks .entry))) ⌝ }
+    ensures equal { λ _. ⌜ (GoodIn wideLimits m w c → length (now (marks .entry)) ≡ m * w → now (marks .exit) ≡ boundGroups m w c (now (marks .entry))) ⌝ }
     ensures other { λ _. ⌜ ((GoodIn wideLimits m w c → length (now (marks .entry)) ≡ m * w → ⊥) → now (marks .exit) ≡ now (marks .entry)) ⌝ }
 {
     if wide_shape::word_refusal(m, w, c, marks.len()) != 0 {
@@ -59,7 +59,7 @@ pub fn keep(m: usize, w: usize, c: usize, marks: &mut [u8])
     while g <= last {
         let a = g * w;
         let e = a + w;
-        erasures::keep_part(&mut marks[a..e], c);
+        erasures::clear_free_part(&mut marks[a..e], c);
         g += 1;
     }
 }

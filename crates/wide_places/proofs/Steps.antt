@@ -21,7 +21,8 @@ module _ (check : ℕ → Bool) (p n : ℕ) (l : p < n) where
   spread-check x bytes h e = rw (next, e, add-one p, take-suc-set x p 0 h, append-assoc)
 
   pub spread-data : (x bytes : List ℕ) (i : ℕ) → p < length x → check p ≡ false
-      → take (p + 1) (set x p (getD bytes i 0)) ++ spreadFrom check (p + 1) (n - (p + 1)) (drop (i + 1) bytes) ≡ take p x ++ spreadFrom check p (n - p) (drop i bytes)
+      → take (p + 1) (set x p (getD bytes i 0)) ++ spreadFrom check (p + 1) (n - (p + 1)) (drop (i + 1) bytes)
+      ≡ take p x ++ spreadFrom check p (n - p) (drop i bytes)
   unfolding spreadFrom
   spread-data x bytes i h e =
       rw (next, e, add-one p, take-suc-set x p (getD bytes i 0) h, append-assoc, getD-drop i bytes 0 0, add-zero i, drop-drop 1 i bytes)

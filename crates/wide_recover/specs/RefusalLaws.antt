@@ -9,7 +9,7 @@ use lib.ListN.{length}
 use Rattle.shape.specs.Refusals.{refuse, _orElse_}
 use Rattle.shape.specs.Shapes.{Limits, placeCount, dataCount, shapeRefusalIn, wordRefusalIn}
 use Rattle.marks.specs.Refusal.{areMarks, marksRefusalIn}
-use Rattle.recover.specs.Service.{recoverRefusalIn}
+use Rattle.recover.specs.Recover.{recoverRefusalIn}
 
 -- a number that no part is
 abbrev Not : ℕ → ℕ → Type 0
@@ -41,4 +41,5 @@ module _ (L : Limits) (m w c : ℕ) where
   unfolding recoverRefusalIn marksRefusalIn
   not-nine word marks =
       else-not 9 (wordRefusalIn L m w c (length word)) _ (word-not (length word))
-      (else-not 9 (wordRefusalIn L m w c (length marks)) _ (word-not (length marks)) (refuse-not 9 6 (not (areMarks marks)) (λ e. omega arith) (λ e. omega arith)))
+      (else-not 9 (wordRefusalIn L m w c (length marks)) _ (word-not (length marks))
+      (refuse-not 9 6 (not (areMarks marks)) (λ e. omega arith) (λ e. omega arith)))

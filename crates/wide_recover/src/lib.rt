@@ -4,11 +4,11 @@ use syndrome::Tested;
 ghost use mathlib.Core.Path.{_≡_};
 ghost use Prim.Native.Nat.{_*_, _≤_};
 ghost use lib.ListN.{length};
-ghost use Rattle.wide_edition.specs.Edition.{wideLimits, wide};
+ghost use Rattle.wide_edition.specs.Edition.{wideLimits, wideEdition};
 ghost use Rattle.shape.specs.Shapes.{GoodIn};
 ghost use Rattle.shape.specs.Answers.{mendingAt, mendingNumber};
 ghost use Rattle.code.specs.Marks.{excess};
-ghost use Rattle.recover.specs.Service.{recoverRefusalIn, recoverIn};
+ghost use Rattle.recover.specs.Recover.{recoverRefusalIn, recoverIn};
 ghost use Rattle.recover.specs.Attempt.{AttemptIn};
 
 // The refusal of a call by its shape, its lengths and its marks, 1 to 4, 26, 5 and 6; 0 if there is none.
@@ -35,7 +35,7 @@ fn attempt(
     requires { ⌜ length (now word) ≡ m * w ⌝ }
     requires { ⌜ length (now marks) ≡ m * w ⌝ }
     requires { ⌜ length (now found) ≡ m * w ⌝ }
-    ensures { λ r. ⌜ AttemptIn wide m w c (now (marks .entry)) (now (word .entry)) (now (word .exit)) r ⌝ }
+    ensures { λ r. ⌜ AttemptIn wideEdition m w c (now (marks .entry)) (now (word .entry)) (now (word .exit)) r ⌝ }
 {
     wide_candidate::candidate(m, w, c, word, marks, found);
     let tested = wide_sums::test(m, w, c, found);
@@ -51,9 +51,9 @@ fn attempt(
 fn recover_determined(m: usize, w: usize, c: usize, word: &mut [u16], marks: &mut [u8]) -> Mending
     requires { ⌜ recoverRefusalIn wideLimits m w c (now word) (now marks) ≡ 0 ⌝ }
     requires { ⌜ excess m w c (now marks) ≤ 2 ⌝ }
-    ensures answer { λ r. ⌜ r ≡ mendingAt ((recoverIn wide m w c (now (word .entry)) (now (marks .entry))) .number) ((recoverIn wide m w c (now (word .entry)) (now (marks .entry))) .group) ⌝ }
-    ensures word { λ _. ⌜ now (word .exit) ≡ (recoverIn wide m w c (now (word .entry)) (now (marks .entry))) .word ⌝ }
-    ensures marks { λ _. ⌜ now (marks .exit) ≡ (recoverIn wide m w c (now (word .entry)) (now (marks .entry))) .marks ⌝ }
+    ensures answer { λ r. ⌜ r ≡ mendingAt ((recoverIn wideEdition m w c (now (word .entry)) (now (marks .entry))) .number) ((recoverIn wideEdition m w c (now (word .entry)) (now (marks .entry))) .group) ⌝ }
+    ensures word { λ _. ⌜ now (word .exit) ≡ (recoverIn wideEdition m w c (now (word .entry)) (now (marks .entry))) .word ⌝ }
+    ensures marks { λ _. ⌜ now (marks .exit) ≡ (recoverIn wideEdition m w c (now (word .entry)) (now (marks .entry))) .marks ⌝ }
     ensures never_eight { λ r. ⌜ (mendingNumber r ≡ 8 → ⊥) ⌝ }
 {
     let n = word.len();
@@ -69,9 +69,9 @@ fn recover_determined(m: usize, w: usize, c: usize, word: &mut [u16], marks: &mu
 
 // Recovers the whole word from its present symbols, or refuses and changes nothing.
 pub fn recover(m: usize, w: usize, c: usize, word: &mut [u16], marks: &mut [u8]) -> Mending
-    ensures answer { λ r. ⌜ r ≡ mendingAt ((recoverIn wide m w c (now (word .entry)) (now (marks .entry))) .number) ((recoverIn wide m w c (now (word .entry)) (now (marks .entry))) .group) ⌝ }
-    ensures word { λ _. ⌜ now (word .exit) ≡ (recoverIn wide m w c (now (word .entry)) (now (marks .entry))) .word ⌝ }
-    ensures marks { λ _. ⌜ now (marks .exit) ≡ (recoverIn wide m w c (now (word .entry)) (now (marks .entry))) .marks ⌝ }
+    ensures answer { λ r. ⌜ r ≡ mendingAt ((recoverIn wideEdition m w c (now (word .entry)) (now (marks .entry))) .number) ((recoverIn wideEdition m w c (now (word .entry)) (now (marks .entry))) .group) ⌝ }
+    ensures word { λ _. ⌜ now (word .exit) ≡ (recoverIn wideEdition m w c (now (word .entry)) (now (marks .entry))) .word ⌝ }
+    ensures marks { λ _. ⌜ now (marks .exit) ≡ (recoverIn wideEdition m w c (now (word .entry)) (now (marks .entry))) .marks ⌝ }
 {
     let r = refusal(m, w, c, word, marks);
     if r != 0 {

@@ -1,13 +1,13 @@
 -- Laws: The power sums of a group's stretch.
 use mathlib.Core.Path.{_≡_, refl, sym, ap, ap₂, _∙_, subst}
-use mathlib.Core.Bool.{Bool}
+use mathlib.Core.Bool.{Bool, _&&_}
 use mathlib.Core.List.{List}
 use Prim.Native.Nat.{ℕ, zero, suc, _+_, _*_, _^_, _<_, _≤_}
 use native.Mathlib.Numerals.{add-one}
 use native.Mathlib.Omega.{arith}
 use lib.Dec.{eqb, lit<}
 use lib.ListN.{length, getD}
-use Rattle.counting.specs.Test.{both, allBelow}
+use Rattle.counting.specs.Test.{allBelow}
 use Rattle.binary_field.specs.Xor.{_⊕_, masked}
 use Rattle.binary_field.specs.Product.{double, bitSum, product}
 use Rattle.binary_field.specs.ProductLaws.{product-assoc, product-comm, product-left-comm, product-one, product-add}
@@ -16,33 +16,35 @@ use Rattle.binary_field.specs.PowerLaws.{power-zero, power-suc, power-swap, pow
 use Rattle.binary_field.specs.Sum.{sumBelow}
 use Rattle.binary_field.specs.SumLaws.{sum-ext, sum-add, sum-scale}
 use Rattle.code.specs.Edition.{Edition, Sound, times, raised}
-use Rattle.code.specs.Word.{groupSum, localSum, coefficient, twisted, isLocal}
+use Rattle.code.specs.Word.{groupSum, localSum, coefficient, secondCoefficient, isLocal}
 use Rattle.code.specs.StretchLaws.{own-place}
-use Rattle.syndrome.specs.PartsLaws.{twisted-group}
-use Rattle.wide_edition.specs.Edition.{wide}
+use Rattle.syndrome.specs.PartsLaws.{second-coefficient-group}
+use Rattle.wide_edition.specs.Edition.{wideEdition}
 use Rattle.wide_edition.specs.EditionLaws.{wide-sound}
 use Rattle.wide_sums.specs.PowerSums.{PowerSums, EachTimes, IsRow, Raised}
 
 pub raised-none : (part : List ℕ) → ((j : ℕ) → getD part j 0 < 65536) → Raised 0 part part
 raised-none part small = record {
   size = refl;
-  each = λ j _. sym (ap (times wide (getD part j 0)) (power-zero 16 69643 _) ∙ product-one 16 69643 (lit< tt) (getD part j 0) (small j));
+  each = λ j _. sym (ap (times wideEdition (getD part j 0)) (power-zero 16 69643 _) ∙ product-one 16 69643 (lit< tt) (getD part j 0) (small j));
 }
 
 pub raised-next : {e : ℕ} {part x row y : List ℕ} → Raised e part x → IsRow (length part) row → EachTimes x row y → Raised (suc e) part y
 raised-next {e} {part} {x} {row} R I T = record {
   size = T .size ∙ R .size;
   each = λ j l.
-      T .each j (subst (λ n. j < n) (sym (R .size)) l) ∙ ap₂ (times wide) (R .each j l) (I j l) ∙ product-assoc 16 69643 (getD part j 0) _ _
-      ∙ ap (times wide (getD part j 0)) (product-comm 16 69643 (raised wide (wide .locator j) e) (wide .locator j) ∙ sym (power-suc 16 69643 (wide .locator j) e));
+      T .each j (subst (λ n. j < n) (sym (R .size)) l) ∙ ap₂ (times wideEdition) (R .each j l) (I j l) ∙ product-assoc 16 69643 (getD part j 0) _ _
+      ∙ ap (times wideEdition (getD part j 0)) (product-comm 16 69643 (raised wideEdition (wideEdition .locator j) e) (wideEdition .locator j)
+      ∙ sym (power-suc 16 69643 (wideEdition .locator j) e));
 }
 
 -- the symbols of such a stretch add up to a power sum
-pub raised-sum : {e : ℕ} {part x : List ℕ} → Raised e part x → sumBelow (length x) (λ i. getD x i 0) ≡ localSum wide (length part) part 0 e
+pub raised-sum : {e : ℕ} {part x : List ℕ} → Raised e part x → sumBelow (length x) (λ i. getD x i 0) ≡ localSum wideEdition (length part) part 0 e
 unfolding groupSum
 raised-sum {e} {part} {x} R =
     ap (λ n. sumBelow n (λ i. getD x i 0)) (R .size)
-    ∙ sum-ext (length part) _ _ (λ j l. R .each j l ∙ ap (λ p. times wide (getD part p 0) (raised wide (wide .locator j) e)) (sym (own-place (length part) j)))
+    ∙ sum-ext (length part) _ _ (λ j l. R .each j l ∙ ap (λ p. times wideEdition (getD part p 0) (raised wideEdition (wideEdition .locator j) e))
+    (sym (own-place (length part) j)))
 
 -- ---- a group's share of the sums across, in any sound edition
 module _ {E : Edition} (S : Sound E) (w : ℕ) (narrow : w ≤ E .small) (c : ℕ) (part : List ℕ) where
@@ -64,10 +66,10 @@ module _ {E : Edition} (S : Sound E) (w : ℕ) (narrow : w ≤ E .small) (c : �
   power-fixed j e l =
       power-swap (E .bits) (E .poly) (S .facts .pos) (E .locator j) e (E .small) ∙ ap (λ a. raised E a e) (S .locator-fixed j (omega arith))
 
-  twisted-coefficient : (j : ℕ) → j < w → raised E (coefficient E c j) (E .small)
+  second-coefficient-at : (j : ℕ) → j < w → raised E (coefficient E c j) (E .small)
       ≡ raised E (E .locator j) c ⊕ times E (raised E 2 (E .small)) (raised E (E .locator j) (suc c))
   unfolding coefficient
-  twisted-coefficient j l =
+  second-coefficient-at j l =
       let size : E .small ≡ 2 ^ S .facts .halfDigits = S .small-is ∙ S .facts .size in
       ap (raised E (raised E (E .locator j) c ⊕ times E 2 (raised E (E .locator j) (suc c)))) size
       ∙ frobenius (E .bits) (E .poly) (S .facts .pos) _ _ (S .facts .halfDigits)
@@ -78,18 +80,18 @@ module _ {E : Edition} (S : Sound E) (w : ℕ) (narrow : w ≤ E .small) (c : �
   same-coefficients : groupSum E w part 0 (λ j. raised E (coefficient E c j) (E .small))
       ≡ groupSum E w part 0 (λ j. raised E (E .locator j) c ⊕ times E (raised E 2 (E .small)) (raised E (E .locator j) (suc c)))
   unfolding groupSum
-  same-coefficients = sum-ext w _ _ (λ j l. ap (times E (getD part (0 * w + j) 0)) (twisted-coefficient j l))
+  same-coefficients = sum-ext w _ _ (λ j l. ap (times E (getD part (0 * w + j) 0)) (second-coefficient-at j l))
 
   -- "the sum over all places, in group i counted from 0, of byte·2^i·b^q": 2^i·(P_c + 2^q·P_(c+1))
-  pub second-share : (g : ℕ) → groupSum E w part 0 (twisted E c g)
+  pub second-share : (g : ℕ) → groupSum E w part 0 (secondCoefficient E c g)
       ≡ times E (raised E 2 g) (localSum E w part 0 c ⊕ times E (raised E 2 (E .small)) (localSum E w part 0 (suc c)))
   second-share g =
-      sym (twisted-group E w c g part) ∙ ap (times E (raised E 2 g)) (same-coefficients ∙ two-parts (raised E 2 (E .small)) _ _)
+      sym (second-coefficient-group E w c g part) ∙ ap (times E (raised E 2 g)) (same-coefficients ∙ two-parts (raised E 2 (E .small)) _ _)
 
 -- two tests that agree below n
 all-same : (n : ℕ) (f g : ℕ → Bool) → ((i : ℕ) → i < n → f i ≡ g i) → allBelow n f ≡ allBelow n g
 all-same zero f g h = refl
-all-same (suc n) f g h = ap₂ both (h n (omega arith)) (all-same n f g (λ i l. h i (omega arith)))
+all-same (suc n) f g h = ap₂ _&&_ (h n (omega arith)) (all-same n f g (λ i l. h i (omega arith)))
 
 -- ---- from the power sums of a stretch of the sixteen-bit edition
 two-small : power 16 69643 2 256 ≡ 2863
@@ -98,23 +100,24 @@ two-small = refl
 
 module _ (part sums : List ℕ) (c n : ℕ) (P : PowerSums part n sums) where
   -- the test of its own equations
-  pub sums-local : c ≤ n → allBelow c (λ e. eqb (getD sums e 0) 0) ≡ isLocal wide (length part) c part 0
+  pub sums-local : c ≤ n → allBelow c (λ e. eqb (getD sums e 0) 0) ≡ isLocal wideEdition (length part) c part 0
   unfolding isLocal
   sums-local l = all-same c _ _ (λ e h. ap (λ s. eqb s 0) (P e (omega arith)))
 
   -- its share of the two sums across
   module _ (narrow : length part ≤ 256) (room : c + 2 ≤ n) where
-    upper : getD sums (c + 1) 0 ≡ localSum wide (length part) part 0 (suc c)
-    upper = P (c + 1) (omega arith) ∙ ap (localSum wide (length part) part 0) (add-one c)
+    upper : getD sums (c + 1) 0 ≡ localSum wideEdition (length part) part 0 (suc c)
+    upper = P (c + 1) (omega arith) ∙ ap (localSum wideEdition (length part) part 0) (add-one c)
 
-    pub sums-first : getD sums c 0 ⊕ product 16 69643 2 (getD sums (c + 1) 0) ≡ groupSum wide (length part) part 0 (coefficient wide c)
+    pub sums-first : getD sums c 0 ⊕ product 16 69643 2 (getD sums (c + 1) 0) ≡ groupSum wideEdition (length part) part 0 (coefficient wideEdition c)
     sums-first = ap₂ (λ p q. p ⊕ product 16 69643 2 q) (P c (omega arith)) upper ∙ sym (first-share wide-sound (length part) narrow c part)
 
-    pub sums-second : (g weight : ℕ) → weight ≡ raised wide 2 g
-        → product 16 69643 weight (getD sums c 0 ⊕ product 16 69643 2863 (getD sums (c + 1) 0)) ≡ groupSum wide (length part) part 0 (twisted wide c g)
+    pub sums-second : (g weight : ℕ) → weight ≡ raised wideEdition 2 g
+        → product 16 69643 weight (getD sums c 0 ⊕ product 16 69643 2863 (getD sums (c + 1) 0))
+        ≡ groupSum wideEdition (length part) part 0 (secondCoefficient wideEdition c g)
     sums-second g weight e =
         ap₂ (product 16 69643) e (ap₂ (λ p q. p ⊕ product 16 69643 2863 q) (P c (omega arith)) upper
-        ∙ ap (λ t. localSum wide (length part) part 0 c ⊕ product 16 69643 t (localSum wide (length part) part 0 (suc c))) (sym two-small))
+        ∙ ap (λ t. localSum wideEdition (length part) part 0 c ⊕ product 16 69643 t (localSum wideEdition (length part) part 0 (suc c))) (sym two-small))
         ∙ sym (second-share wide-sound (length part) narrow c part g)
 
 -- the power of two of the next group
@@ -122,7 +125,8 @@ two : double 16 69643 1 ≡ 2
 unfolding double masked _⊕_
 two = refl
 
-pub weight-next : (g weight : ℕ) → weight ≡ raised wide 2 g → double 16 69643 weight ≡ raised wide 2 (g + 1)
+pub weight-next : (g weight : ℕ) → weight ≡ raised wideEdition 2 g → double 16 69643 weight ≡ raised wideEdition 2 (g + 1)
 weight-next g weight e =
     ap (double 16 69643) e
-    ∙ sym (ap (power 16 69643 2) (add-one g) ∙ subst (λ b. power 16 69643 b (suc g) ≡ double 16 69643 (power 16 69643 b g)) two (power-double 16 69643 (lit< tt) g))
+    ∙ sym (ap (power 16 69643 2) (add-one g) ∙ subst (λ b. power 16 69643 b (suc g) ≡ double 16 69643 (power 16 69643 b g)) two
+    (power-double 16 69643 (lit< tt) g))

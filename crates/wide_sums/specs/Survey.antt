@@ -5,12 +5,17 @@ use Prim.Native.Nat.{ℕ, _+_}
 use lib.Dec.{eqb}
 use Rattle.code.specs.Word.{firstAcross, secondAcross}
 use Rattle.syndrome.specs.Tests.{brokenGroupIn}
-use Rattle.wide_edition.specs.Edition.{wide}
+use Rattle.wide_edition.specs.Edition.{wideEdition}
 use Rattle.wide_sums.specs.declared.Survey.{Survey}
 use Rattle.wide_sums.specs.declared.Sums.{Sums}
 
 abbrev pub surveyOf : ℕ → ℕ → ℕ → List ℕ → Survey
-surveyOf m w c word = record { group = brokenGroupIn wide m w c word; first = firstAcross wide m w c word; second = secondAcross wide m w c word }
+surveyOf m w c word = record {
+  group = brokenGroupIn wideEdition m w c word;
+  first = firstAcross wideEdition m w c word;
+  second =
+      secondAcross wideEdition m w c word;
+}
 
 -- what is given for a word that is not of a good shape's length
 abbrev pub noSurvey : Survey
@@ -22,4 +27,4 @@ passed group g sound = cond (eqb group g && sound) (g + 1) group
 
 -- the two sums across
 abbrev pub acrossOf : ℕ → ℕ → ℕ → List ℕ → Sums
-acrossOf m w c word = record { first = firstAcross wide m w c word; second = secondAcross wide m w c word }
+acrossOf m w c word = record { first = firstAcross wideEdition m w c word; second = secondAcross wideEdition m w c word }

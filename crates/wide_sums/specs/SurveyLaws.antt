@@ -11,7 +11,7 @@ use Rattle.counting.specs.First.{firstBelow}
 use Rattle.counting.specs.FirstLaws.{first-most, first-before, first-holds, first-is}
 use Rattle.code.specs.Word.{isLocal}
 use Rattle.syndrome.specs.Tests.{brokenGroupIn}
-use Rattle.wide_edition.specs.Edition.{wide}
+use Rattle.wide_edition.specs.Edition.{wideEdition}
 use Rattle.wide_sums.specs.Survey.{passed}
 
 -- the lowest number that passes a test, with one number more
@@ -35,7 +35,8 @@ module _ (n : ℕ) (f : ℕ → Bool) where
     | no l ↦
         (let m = first-most n f in
         let e : firstBelow n f ≡ n = omega arith in
-        at-end e (f n) refl ∙ sym (ap (λ v. cond (v && not (f n)) (n + 1) (firstBelow n f)) (eq-eqb (firstBelow n f) n e) ∙ ap (λ k. cond (not (f n)) (n + 1) k) e))
+        at-end e (f n) refl ∙ sym (ap (λ v. cond (v && not (f n)) (n + 1) (firstBelow n f)) (eq-eqb (firstBelow n f) n e)
+        ∙ ap (λ k. cond (not (f n)) (n + 1) k) e))
   ]
 
 not-not : (b : Bool) → not (not b) ≡ b
@@ -43,12 +44,13 @@ not-not true = refl
 not-not false = refl
 
 -- one group more
-pub broken-next : (w c : ℕ) (word : List ℕ) (g : ℕ) (group : ℕ) (sound : Bool) → group ≡ brokenGroupIn wide g w c word → sound ≡ isLocal wide w c word g
-    → passed group g sound ≡ brokenGroupIn wide (g + 1) w c word
+pub broken-next : (w c : ℕ) (word : List ℕ) (g : ℕ) (group : ℕ) (sound : Bool) → group ≡ brokenGroupIn wideEdition g w c word → sound
+    ≡ isLocal wideEdition w c word g
+    → passed group g sound ≡ brokenGroupIn wideEdition (g + 1) w c word
 unfolding brokenGroupIn
 broken-next w c word g group sound e q =
-    ap₂ (λ k b. passed k g b) e (q ∙ sym (not-not (isLocal wide w c word g))) ∙ sym (first-next g (λ i. not (isLocal wide w c word i)))
+    ap₂ (λ k b. passed k g b) e (q ∙ sym (not-not (isLocal wideEdition w c word g))) ∙ sym (first-next g (λ i. not (isLocal wideEdition w c word i)))
 
-pub broken-start : (w c : ℕ) (word : List ℕ) → brokenGroupIn wide 0 w c word ≡ 0
+pub broken-start : (w c : ℕ) (word : List ℕ) → brokenGroupIn wideEdition 0 w c word ≡ 0
 unfolding brokenGroupIn firstBelow
 broken-start w c word = refl

@@ -9,9 +9,9 @@ ghost use Rattle.counting.specs.Test.{allBelow};
 ghost use Rattle.binary_field.specs.Xor.{_⊕_};
 ghost use Rattle.binary_field.specs.Product.{product};
 ghost use Rattle.shape.specs.Shapes.{GoodIn};
-ghost use Rattle.code.specs.Word.{groupSum, coefficient, twisted, isLocal};
+ghost use Rattle.code.specs.Word.{groupSum, coefficient, secondCoefficient, isLocal};
 ghost use Rattle.syndrome.specs.Tests.{testedIn, notTested};
-ghost use Rattle.wide_edition.specs.Edition.{wideLimits, wide};
+ghost use Rattle.wide_edition.specs.Edition.{wideLimits, wideEdition};
 ghost use Rattle.wide_sums.specs.PowerSums.{PowerSums, EachTimes, IsRow};
 ghost use Rattle.wide_sums.specs.Survey.{surveyOf, noSurvey, passed};
 
@@ -107,7 +107,7 @@ fn all_zero(sums: [u16; 6], c: usize) -> bool
 
 // Whether the first c local sums of one group's stretch are zero; false for more than 256 places or c above 4.
 pub fn local_zero(part: &[u16], c: usize) -> bool
-    ensures { λ r. ⌜ (length (now (part .entry)) ≤ 256 → c ≤ 4 → r ≡ isLocal wide (length (now (part .entry))) c (now (part .entry)) 0) ⌝ }
+    ensures { λ r. ⌜ (length (now (part .entry)) ≤ 256 → c ≤ 4 → r ≡ isLocal wideEdition (length (now (part .entry))) c (now (part .entry)) 0) ⌝ }
     ensures { λ r. ⌜ ((length (now (part .entry)) ≤ 256 → c ≤ 4 → ⊥) → r ≡ false) ⌝ }
 {
     if 4 < c {
@@ -135,8 +135,8 @@ fn share(sums: [u16; 6], c: usize, weight: u16) -> Sums
 
 // The share of group g in the two sums across, from its stretch; zeros for more than 256 places or c above 4.
 pub fn group_sums(part: &[u16], c: usize, g: usize) -> Sums
-    ensures { λ r. ⌜ (length (now (part .entry)) ≤ 256 → c ≤ 4 → r .first ≡ groupSum wide (length (now (part .entry))) (now (part .entry)) 0 (coefficient wide c)) ⌝ }
-    ensures { λ r. ⌜ (length (now (part .entry)) ≤ 256 → c ≤ 4 → r .second ≡ groupSum wide (length (now (part .entry))) (now (part .entry)) 0 (twisted wide c g)) ⌝ }
+    ensures { λ r. ⌜ (length (now (part .entry)) ≤ 256 → c ≤ 4 → r .first ≡ groupSum wideEdition (length (now (part .entry))) (now (part .entry)) 0 (coefficient wideEdition c)) ⌝ }
+    ensures { λ r. ⌜ (length (now (part .entry)) ≤ 256 → c ≤ 4 → r .second ≡ groupSum wideEdition (length (now (part .entry))) (now (part .entry)) 0 (secondCoefficient wideEdition c g)) ⌝ }
     ensures { λ r. ⌜ ((length (now (part .entry)) ≤ 256 → c ≤ 4 → ⊥) → (r .first ≡ 0) × (r .second ≡ 0)) ⌝ }
 {
     if 4 < c {
@@ -205,7 +205,7 @@ pub fn pass_over(m: usize, w: usize, c: usize, word: &[u16]) -> Survey
 
 // The test of all the equations of a word of a good shape's length. A shape or length that is refused is no codeword, and its group is 0.
 pub fn test(m: usize, w: usize, c: usize, word: &[u16]) -> Tested
-    ensures { λ r. ⌜ (GoodIn wideLimits m w c → length (now (word .entry)) ≡ m * w → r ≡ testedIn wide m w c (now (word .entry))) ⌝ }
+    ensures { λ r. ⌜ (GoodIn wideLimits m w c → length (now (word .entry)) ≡ m * w → r ≡ testedIn wideEdition m w c (now (word .entry))) ⌝ }
     ensures { λ r. ⌜ ((GoodIn wideLimits m w c → length (now (word .entry)) ≡ m * w → ⊥) → r ≡ notTested) ⌝ }
 {
     if wide_shape::word_refusal(m, w, c, word.len()) != 0 {

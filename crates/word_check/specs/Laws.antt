@@ -14,7 +14,7 @@ use Rattle.shape.specs.Laws.{word-of-good}
 use Rattle.code.specs.Edition.{Edition}
 use Rattle.code.specs.Word.{isCodeword, Symbols, Codeword}
 use Rattle.word_check.specs.declared.Checked.{Checked}
-use Rattle.word_check.specs.Answer.{checkedAt, wholeGroupIn, checkedIn, checkedNumber, checkedFigures, figuresIn}
+use Rattle.word_check.specs.Checked.{checkedAt, wholeGroupIn, checkedIn, checkedNumber, checkedFigures, checkFiguresIn}
 
 pub checked-refused : (r : ℕ) (b : Bool) (g : ℕ) → (r ≡ 0 → ⊥) → checkedAt r b g ≡ Checked.Refused r
 checked-refused zero b g h = absurd (h refl)
@@ -30,11 +30,12 @@ module _ (E : Edition) (m w c : ℕ) (word : List ℕ) where
       go zero false = refl
       go (suc r) b = refl
 
-  pub checked-figures : checkedFigures (checkedIn E m w c word) ≡ figuresIn E m w c word
-  unfolding checkedIn figuresIn
+  pub checked-figures : checkedFigures (checkedIn E m w c word) ≡ checkFiguresIn E m w c word
+  unfolding checkedIn checkFiguresIn
   checked-figures = go (wordRefusalIn (E .limits) m w c (length word)) (isCodeword E m w c word)
     where
-      go : (r : ℕ) (b : Bool) → checkedFigures (checkedAt r b (wholeGroupIn E m w c word)) ≡ unlessRefused r (cond b (1 ∷ []) (0 ∷ wholeGroupIn E m w c word ∷ [])) []
+      go : (r : ℕ) (b : Bool) → checkedFigures (checkedAt r b (wholeGroupIn E m w c word))
+          ≡ unlessRefused r (cond b (1 ∷ []) (0 ∷ wholeGroupIn E m w c word ∷ [])) []
       go zero true = refl
       go zero false = refl
       go (suc r) b = refl

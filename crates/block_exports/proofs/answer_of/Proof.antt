@@ -1,5 +1,5 @@
 use mathlib.Core.Path.{sym, ap}
-use Rattle.block_exports.specs.Answer.{rebuiltAnswer}
+use Rattle.block_exports.specs.RebuildAnswer.{rebuiltAnswer}
 use borrow.Author.Needs.{needs}
 use Rattle.block_exports.proofs.answer_of.Statement.{statement}
 use Rattle.block_exports.proofs.answer_of.Tie as tie

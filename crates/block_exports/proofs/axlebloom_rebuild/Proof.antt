@@ -1,6 +1,6 @@
 use mathlib.Core.Path.{ap, _∙_}
-use Rattle.block_exports.specs.Answer.{rebuiltAnswer}
-use Rattle.block_exports.specs.AnswerLaws.{answer-is}
+use Rattle.block_exports.specs.RebuildAnswer.{rebuiltAnswer}
+use Rattle.block_exports.specs.RebuildAnswerLaws.{answer-is}
 use borrow.Author.Needs.{needs}
 use Rattle.block_exports.proofs.axlebloom_rebuild.Statement.{statement}
 use Rattle.block_exports.proofs.axlebloom_rebuild.Tie as tie

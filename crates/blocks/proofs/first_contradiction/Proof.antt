@@ -8,7 +8,7 @@ use lib.Seq.{length-take-le}
 use types.Run.{OneOf}
 use denote.Enum.Declared.{tagOf}
 use Rattle.shape.proofs.Mending as Mending
-use Rattle.code.specs.Answer.{Outcome}
+use Rattle.code.specs.Outcome.{Outcome}
 use Rattle.shape.specs.Laws.{places-most}
 use Rattle.shape.specs.Answers.{mendingAt}
 use Rattle.blocks.specs.Rebuild.{wordOutcome}

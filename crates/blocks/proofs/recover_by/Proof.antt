@@ -1,6 +1,6 @@
 use mathlib.Core.Path.{sym, ap, _∙_}
 use Rattle.shape.specs.Answers.{mendingAt}
-use Rattle.recover.specs.Service.{recoverOf}
+use Rattle.recover.specs.Recover.{recoverOf}
 use borrow.Author.Needs.{needs}
 use Rattle.blocks.proofs.recover_by.Statement.{statement}
 use Rattle.blocks.proofs.recover_by.Tie as tie

@@ -4,7 +4,7 @@ use native.Mathlib.Omega.{arith}
 use lib.Seq.{length-take-le}
 use Rattle.shape.specs.Answers.{mendingAt}
 use Rattle.shape.specs.Laws.{places-most}
-use Rattle.recover.specs.Service.{recoverOf}
+use Rattle.recover.specs.Recover.{recoverOf}
 use Rattle.blocks.specs.Columns.{blockWord}
 use Rattle.blocks.specs.Rebuild.{wordOutcome}
 use borrow.Author.Needs.{needs}

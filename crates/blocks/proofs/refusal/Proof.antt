@@ -1,6 +1,6 @@
 use mathlib.Core.Path.{_≡_, sym, ap, _∙_}
 use native.Mathlib.Omega.{arith}
-use Rattle.judge.specs.Answer.{judgedNumber}
+use Rattle.judge.specs.Judgement.{judgedNumber}
 use Rattle.marks.specs.Refusal.{marksRefusal}
 use Rattle.blocks.specs.Rebuild.{rebuildRefusal}
 use Rattle.blocks.specs.RebuildLaws.{refused-marks, refused-blocks, refused-judged, marks-few}

@@ -4,7 +4,7 @@ use Prim.Native.Nat.{ℕ}
 use native.Mathlib.Omega.{arith}
 use lib.ListN.{take, length-take, length-drop}
 use borrow.Author.Needs.{needs}
-use Rattle.groups.specs.LentLaws.{stretch-lent, with-lent}
+use Rattle.code.specs.LentLaws.{stretch-lent, with-lent}
 use Rattle.candidate.proofs.Laws.{stretch-end, added-combined}
 use Rattle.candidate.proofs.add_direction.Statement.{statement}
 use Rattle.candidate.proofs.add_direction.Tie as tie

@@ -21,7 +21,8 @@ returns : tie.Need-returns
 returns c =
     let f = c .before in
     let s = f .before .before .before in
-    direction-filled 16 (s .args .j) (s .args .kept .now) (f .fill .last .0) _ (omega arith) (omega arith) (omega arith) (s .pre .1 .1 .0) (omega arith) (f .fill .ensures)
+    direction-filled 16 (s .args .j) (s .args .bound .now) (f .fill .last .0) _ (omega arith) (omega arith) (omega arith) (s .pre .1 .1 .0) (omega arith)
+    (f .fill .ensures)
 
 pub direction-spec : {M : Type 1} → statement M
 direction-spec =

@@ -2,7 +2,7 @@ use mathlib.Core.Path.{ap, _∙_}
 use Prim.Native.Nat.{_*_}
 use lib.ListN.{length, take}
 use borrow.Author.Needs.{needs}
-use Rattle.byte_edition.specs.Edition.{bytes}
+use Rattle.byte_edition.specs.Edition.{byteEdition}
 use Rattle.candidate.specs.SolvedLaws.{combined-length}
 use Rattle.candidate.proofs.Laws.{group-lt, solved-sums}
 use Rattle.candidate.proofs.mend_two.Statement.{statement}
@@ -48,8 +48,14 @@ add-direction-requires-2 : tie.Need-add-direction-requires-2
 add-direction-requires-2 c κs =
     let d = c .before .before .before in
     let s = d .before .before .before .before .before .before .before .before .before .before .before in
-    let a = s .args in
-    (s .pre .0 .narrow, (group-lt (a .m) (a .w) (a .c) (a .q) (s .pre .0) (s .pre .1 .1 .0 .1), ap length (d .add-direction .ensures) ∙ combined-length bytes (a .m * a .w) 1 _ _ _))
+    let a = s .args in (
+      s .pre .0 .narrow,
+      (
+        group-lt (a .m) (a .w) (a .c) (a .q) (s .pre .0) (s .pre .1 .1 .0 .1),
+        ap length (d .add-direction .ensures)
+            ∙ combined-length byteEdition (a .m * a .w) 1 _ _ _,
+      ),
+    )
 
 same-length : tie.Need-same-length
 same-length c = search needs

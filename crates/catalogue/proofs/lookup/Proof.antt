@@ -1,5 +1,5 @@
 use Rattle.catalogue.specs.Laws.{at-place, no-place, spot, looked-number, looked-bad, looked-unnamed, looked-none, looked-place}
-use Rattle.catalogue.specs.Service.{lookedOf, lookedNumber, lookupRefusal}
+use Rattle.catalogue.specs.LookupAndPut.{lookedOf, lookedNumber, lookupRefusal}
 use Rattle.catalogue.specs.declared.Looked.{Looked}
 use borrow.Author.Tests.{not-true, not-false}
 use mathlib.Core.Bool.{true, false}

@@ -1,5 +1,5 @@
 use Rattle.catalogue.specs.Laws.{at-place, no-place, put-number, put-unsold, put-bad, put-formed}
-use Rattle.catalogue.specs.Service.{putNumber}
+use Rattle.catalogue.specs.LookupAndPut.{putNumber}
 use Rattle.shape.specs.Laws.{sold-of-refusal}
 use native.Mathlib.Omega.{arith}
 use mathlib.Core.Path.{_≡_, refl, sym, ap, _∙_}

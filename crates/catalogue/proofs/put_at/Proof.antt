@@ -148,14 +148,19 @@ same-length c = search needs
 returns-6 : tie.Need-returns-6
 returns-6 c =
     let a = c .before .before .before .before .before .before .before .before .before .before .before .before .before .before .before .before .before .before .args in
-    let g = (sym (c .before .before .before .before .before .before .before .before .before .before .before .before .before .before .before .is-name .ensures) ∙ not-false (c .before .before .before .before .before .before .before .before .before .before .before .before .before .before .before .is-name .result) (c .before .before .before .before .before .before .before .before .before .before .before .before .before .before .if1 .left)) in
+    let g = (sym (c .before .before .before .before .before .before .before .before .before .before .before .before .before .before .before .is-name .ensures)
+    ∙ not-false (c .before .before .before .before .before .before .before .before .before .before .before .before .before .before .before .is-name .result)
+    (c .before .before .before .before .before .before .before .before .before .before .before .before .before .before .if1 .left)) in
     let row = c .before .before .before .before .before .before .before .before .entry-line in
     let h = row .ensures .0 (name-short (a .name .now) g) in
     let z = h .size in
     let o = order (a .place) (a .buffer .now) (a .size) (a .name .now)
     (c .before .before .before .before .before .before .before .before .before .before .before .before .before .before .before .before .before .before .pre) in
     rw z (at-done (a .place) (a .buffer .now) (a .size) (a .name .now)
-    (c .before .before .before .before .before .before .before .before .before .before .before .before .before .before .before .before .before .before .pre) (a .m) (a .w) (a .c) (a .expected) g (c .before .before .before .before .before .before .before .before .before .before .before .before .if2 .left) (c .before .before .before .before .before .before .before .before .before .before .if3 .left) _ refl (omega arith) (omega arith) _ (rw (row-line (row .result) _ h) at (c .before .before .splice .ensures .0)))
+    (c .before .before .before .before .before .before .before .before .before .before .before .before .before .before .before .before .before .before .pre)
+    (a .m) (a .w) (a .c) (a .expected) g (c .before .before .before .before .before .before .before .before .before .before .before .before .if2 .left)
+    (c .before .before .before .before .before .before .before .before .before .before .if3 .left) _ refl (omega arith) (omega arith) _
+    (rw (row-line (row .result) _ h) at (c .before .before .splice .ensures .0)))
 
 pub put-at-spec : {M : Type 1} → statement M
 put-at-spec =

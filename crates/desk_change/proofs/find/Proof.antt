@@ -28,7 +28,8 @@ element-copy-out-job c = search needs
 -- no refusal: the handle is open, and the place is below n
 parts : (c : tie.Else1)
     → (handleRefusal (c .before .before .args .handle) (c .before .before .args .t1) ≡ 0)
-    × (c .before .before .args .place < jobAt (c .before .before .args .t1) (slotOf (c .before .before .args .handle)) .m * jobAt (c .before .before .args .t1) (slotOf (c .before .before .args .handle)) .w)
+    × (c .before .before .args .place < jobAt (c .before .before .args .t1) (slotOf (c .before .before .args .handle)) .m * jobAt (c .before .before .args .t1)
+    (slotOf (c .before .before .args .handle)) .w)
 parts c =
     let a = c .before .before .args in
     refusal-parts (a .handle) (a .place) (a .t1) (sym (c .before .place-refusal .ensures) ∙ c .if1 .left)
@@ -52,8 +53,10 @@ returns-2 c =
     let a = i .before .before .args in
     let j = jobAt (a .t1) (slotOf (a .handle)) in
     let s = open-sound 0 (a .handle) (a .place) (a .t1) (P .0) in
-    subst (λ (x : Job). ChangeGives (changeOf 0 (a .handle) (a .place) (a .t1)) (withJob (a .t1) (slotOf (a .handle)) x) Answer.Done) (sym (c .with-found .ensures))
-    (gives-done 0 (a .handle) (a .place) (a .t1) (P .0) (place-done 0 (a .place) j (P .1) (le-trans (found-few j s (a .place) (P .1)) (few j s (a .place) (P .1)))))
+    subst (λ (x : Job). ChangeGives (changeOf 0 (a .handle) (a .place) (a .t1)) (withJob (a .t1) (slotOf (a .handle)) x) Answer.Done)
+    (sym (c .with-found .ensures))
+    (gives-done 0 (a .handle) (a .place) (a .t1) (P .0) (place-done 0 (a .place) j (P .1)
+    (le-trans (found-few j s (a .place) (P .1)) (few j s (a .place) (P .1)))))
 
 pub find-spec : {M : Type 1} → statement M
 find-spec =

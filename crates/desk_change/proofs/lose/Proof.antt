@@ -28,7 +28,8 @@ element-copy-out-job c = search needs
 -- no refusal: the handle is open, and the place is below n
 parts : (c : tie.Else1)
     → (handleRefusal (c .before .before .args .handle) (c .before .before .args .t1) ≡ 0)
-    × (c .before .before .args .place < jobAt (c .before .before .args .t1) (slotOf (c .before .before .args .handle)) .m * jobAt (c .before .before .args .t1) (slotOf (c .before .before .args .handle)) .w)
+    × (c .before .before .args .place < jobAt (c .before .before .args .t1) (slotOf (c .before .before .args .handle)) .m * jobAt (c .before .before .args .t1)
+    (slotOf (c .before .before .args .handle)) .w)
 parts c =
     let a = c .before .before .args in
     refusal-parts (a .handle) (a .place) (a .t1) (sym (c .before .place-refusal .ensures) ∙ c .if1 .left)
@@ -60,7 +61,8 @@ returns-3 c =
     let P = parts (k .before .before) in
     let a = k .before .before .before .before .args in
     let j = jobAt (a .t1) (slotOf (a .handle)) in
-    subst (λ (x : Job). ChangeGives (changeOf 1 (a .handle) (a .place) (a .t1)) (withJob (a .t1) (slotOf (a .handle)) x) Answer.Done) (sym (k .with-lost .ensures))
+    subst (λ (x : Job). ChangeGives (changeOf 1 (a .handle) (a .place) (a .t1)) (withJob (a .t1) (slotOf (a .handle)) x) Answer.Done)
+    (sym (k .with-lost .ensures))
     (gives-done 1 (a .handle) (a .place) (a .t1) (P .0)
     (place-done 1 (a .place) j (P .1) (subst (λ (x : Job). x .excess ≤ 2) (k .with-lost .ensures) (c .if2 .left))))
 

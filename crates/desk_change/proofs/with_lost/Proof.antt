@@ -54,7 +54,8 @@ add-t10 : tie.Need-add-t10
 add-t10 c =
     let s = c .before .before .before .before .before .before in
     let k = few (s .args .job) (s .pre .0) (s .args .place) (s .pre .1) in
-    let h = subst (λ x. x ≤ 1) (sym (c .before .over .ensures)) (one-most (ltb (s .args .job .c) (getD (s .args .job .lost) (s .args .place / s .args .job .w) 0 + 1))) in
+    let h = subst (λ x. x ≤ 1) (sym (c .before .over .ensures)) (one-most
+    (ltb (s .args .job .c) (getD (s .args .job .lost) (s .args .place / s .args .job .w) 0 + 1))) in
     omega arith
 
 returns-2 : tie.Need-returns-2

@@ -7,8 +7,8 @@ use borrow.Author.Needs.{needs}
 use lib.ListN.{length, set}
 use Rattle.shape.specs.Laws.{word-of-good}
 use Rattle.code.specs.Marks as Marks
-use Rattle.groups.specs.Lent.{Lent}
-use Rattle.groups.specs.LentLaws.{lent, end-fits, part-narrow}
+use Rattle.code.specs.Lent.{Lent}
+use Rattle.code.specs.LentLaws.{lent, end-fits, part-narrow}
 use Rattle.marks.specs.CountsLaws.{excess-none, excess-turn, lost-most}
 use Rattle.desk_job.specs.Figures.{lostCounts}
 use Rattle.desk_job.specs.FiguresLaws.{counts-none, counts-turn}
@@ -16,7 +16,8 @@ use Rattle.desk_job.proofs.figures_of.Statement.{statement}
 use Rattle.desk_job.proofs.figures_of.Tie as tie
 
 abbrev Inv-loop : tie.InvT-loop
-Inv-loop m w c marks lost₀ excess₀ g₀ lost excess g = Lent m w c marks × (g ≤ m) × (excess ≤ 16 * g) × (lost ≡ lostCounts g w marks) × (excess ≡ Marks.excess g w c marks)
+Inv-loop m w c marks lost₀ excess₀ g₀ lost excess g = Lent m w c marks × (g ≤ m) × (excess ≤ 16 * g) × (lost ≡ lostCounts g w marks)
+    × (excess ≡ Marks.excess g w c marks)
 
 abbrev μ-loop : tie.MeasureT-loop
 μ-loop m w c marks lost₀ excess₀ g₀ lost excess g = m - g
@@ -32,8 +33,14 @@ returns c =
 loop-holds : tie.Need-loop-holds Inv-loop μ-loop
 loop-holds c =
     let a = c .before .before .before .args in
-    let z = excess-none (a .w) (a .c) (a .marks .now) in
-    (lent (a .m) (a .w) (a .c) (a .marks .now) (sym (c .before .word-refusal .ensures) ∙ c .if1 .left), omega arith, omega arith, counts-none (a .w) (a .marks .now), omega arith)
+    let z = excess-none (a .w) (a .c) (a .marks .now) in (
+      lent (a .m) (a .w) (a .c) (a .marks .now) (sym (c .before .word-refusal .ensures) ∙ c .if1 .left),
+      omega arith,
+      omega arith,
+      counts-none (a .w)
+          (a .marks .now),
+      omega arith,
+    )
 
 mul-a : tie.Need-mul-a Inv-loop μ-loop
 mul-a c = omega (arith, end-fits (c .before .loop .inv .0) (c .before .loop .g) (c .loop-test .taken))

@@ -51,7 +51,9 @@ cast-if1 : tie.Need-cast-if1
 cast-if1 c = search needs
 
 -- what was worked from the marks
-worked : (c : tie.After-figures-of) → c .figures-of .result ≡ lossFigures (c .before .before .before .before .before .before .args .job .m) (c .before .before .before .before .before .before .args .job .w) (c .before .before .before .before .before .before .args .job .c) (marksOf (c .before .before .before .before .before .before .args .job))
+worked : (c : tie.After-figures-of) → c .figures-of .result ≡ lossFigures (c .before .before .before .before .before .before .args .job .m)
+    (c .before .before .before .before .before .before .args .job .w) (c .before .before .before .before .before .before .args .job .c)
+    (marksOf (c .before .before .before .before .before .before .args .job))
 worked c =
     let s = c .before .before .before .before .before .before in
     let M = good-iff (s .args .job) .0 (s .pre) .0 in

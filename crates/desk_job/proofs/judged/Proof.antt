@@ -1,5 +1,5 @@
 use mathlib.Core.Path.{sym, ap, _∙_}
-use Rattle.judge.specs.Answer.{judgedNumber}
+use Rattle.judge.specs.Judgement.{judgedNumber}
 use borrow.Author.Needs.{needs}
 use Rattle.desk_job.proofs.judged.Statement.{statement}
 use Rattle.desk_job.proofs.judged.Tie as tie

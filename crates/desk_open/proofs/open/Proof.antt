@@ -22,7 +22,8 @@ parts : (c : tie.After-free-slot)
 parts c =
     let s = c .before .before .before .before in
     let a = s .args in
-    open-parts (a .m) (a .w) (a .c) (a .marks .now) (a .desk) (jobs-long (a .desk) _ (s .good .0)) (sym (c .before .before .open-refusal .ensures) ∙ c .before .if1 .left)
+    open-parts (a .m) (a .w) (a .c) (a .marks .now) (a .desk) (jobs-long (a .desk) _ (s .good .0))
+    (sym (c .before .before .open-refusal .ensures) ∙ c .before .if1 .left)
 
 marked : (c : tie.After-free-slot)
     → Marked (c .before .before .before .before .args .m) (c .before .before .before .before .args .w) (c .before .before .before .before .args .c)
@@ -72,7 +73,8 @@ figures-of-requires c κs = search needs
 
 -- the figures of the marks given
 worked : (c : tie.After-figures-of)
-    → c .figures-of .result ≡ lossFigures (c .before .before .before .before .before .before .before .args .m) (c .before .before .before .before .before .before .before .args .w)
+    → c .figures-of .result ≡ lossFigures (c .before .before .before .before .before .before .before .args .m)
+    (c .before .before .before .before .before .before .before .args .w)
     (c .before .before .before .before .before .before .before .args .c) (c .before .before .before .before .before .before .before .args .marks .now)
 worked c = let M = marked (c .before .before .before) in c .figures-of .ensures .0 (M .good) (M .size)
 
@@ -90,7 +92,8 @@ cast-t21 c =
     let f = c .before .before in
     let a = f .before .before .before .before .before .before .before .args in
     let M = marked (f .before .before .before) in
-    let l = zero-excess byteLimits (a .m) (a .w) (a .c) (a .marks .now) (marks-of-good (a .m) (a .w) (a .c) (a .marks .now) M) .0 (parts (f .before .before .before) .judged) in
+    let l = zero-excess byteLimits (a .m) (a .w) (a .c) (a .marks .now) (marks-of-good (a .m) (a .w) (a .c) (a .marks .now) M) .0
+    (parts (f .before .before .before) .judged) in
     let e = ap (λ (x : Figures). x .excess) (worked f) in
     omega arith
 

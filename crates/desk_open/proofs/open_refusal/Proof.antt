@@ -3,7 +3,7 @@ use mathlib.Core.Bool.{true, false}
 use borrow.Author.Tests.{not-true, not-false}
 use lib.Dec.{eqb}
 use Rattle.shape.specs.RefusalsLaws.{orElse-first}
-use Rattle.judge.specs.Answer.{judgedNumberOf}
+use Rattle.judge.specs.Judgement.{judgedNumberOf}
 use Rattle.desk_record.specs.Desks.{isSound}
 use Rattle.desk_open.specs.Open.{openNumber, freeFrom}
 use borrow.Author.Needs.{needs}

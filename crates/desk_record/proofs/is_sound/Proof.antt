@@ -58,7 +58,8 @@ loop-again : tie.Need-loop-again Inv-loop μ-loop
 loop-again c =
     let l = c .before .before .before .before .before .before in
     let d = l .before .before .args .t1 in
-    let g : isSoundSlot (d .t) (l .loop .s) (jobAt d (l .loop .s)) ≡ true = sym (c .before .before .before .is-sound-slot .ensures) ∙ not-false _ (c .before .before .if2 .left) in
+    let g : isSoundSlot (d .t) (l .loop .s) (jobAt d (l .loop .s)) ≡ true = sym (c .before .before .before .is-sound-slot .ensures)
+    ∙ not-false _ (c .before .before .if2 .left) in
     let h : isTwice d (l .loop .s) ≡ false = sym (c .before .is-twice .ensures) ∙ c .if3 .left in
     (omega arith, below-more _ _ (l .loop .inv .1) g, below-more _ _ (l .loop .inv .2) h)
 

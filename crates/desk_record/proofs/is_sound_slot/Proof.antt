@@ -21,14 +21,16 @@ is-sound-job-requires c κs = search needs
 returns-3 : tie.Need-returns-3
 unfolding isSoundSlot
 returns-3 c =
-    let e : isSoundJob (c .before .before .before .before .before .before .args .job) ≡ false = sym (c .before .is-sound-job .ensures) ∙ not-true _ (c .if3 .taken) in
+    let e : isSoundJob (c .before .before .before .before .before .before .args .job) ≡ false = sym (c .before .is-sound-job .ensures)
+    ∙ not-true _ (c .if3 .taken) in
     simp (ne-eqb _ _ (c .before .before .before .before .if1 .left), eq-eqb _ _ (c .before .before .if2 .left), e)
 
 returns-4 : tie.Need-returns-4
 unfolding isSoundSlot
 returns-4 c =
     let b = c .before .before .before in
-    let e : isSoundJob (b .before .before .before .before .before .args .job) ≡ true = sym (b .is-sound-job .ensures) ∙ not-false _ (c .before .before .if3 .left) in
+    let e : isSoundJob (b .before .before .before .before .before .args .job) ≡ true = sym (b .is-sound-job .ensures)
+    ∙ not-false _ (c .before .before .if3 .left) in
     simp (ne-eqb _ _ (b .before .before .before .if1 .left), eq-eqb _ _ (b .before .if2 .left), e, ne-eqb _ _ (c .if4 .taken))
 
 is-issued-requires : tie.Need-is-issued-requires
@@ -38,8 +40,10 @@ returns-5 : tie.Need-returns-5
 unfolding isSoundSlot
 returns-5 c =
     let b = c .before .before .before .before .before in
-    let e : isSoundJob (b .before .before .before .before .before .args .job) ≡ true = sym (b .is-sound-job .ensures) ∙ not-false _ (c .before .before .before .before .if3 .left) in
-    simp (ne-eqb _ _ (b .before .before .before .if1 .left), eq-eqb _ _ (b .before .if2 .left), e, eq-eqb _ _ (c .before .before .if4 .left)) (c .is-issued .ensures)
+    let e : isSoundJob (b .before .before .before .before .before .args .job) ≡ true = sym (b .is-sound-job .ensures)
+    ∙ not-false _ (c .before .before .before .before .if3 .left) in
+    simp (ne-eqb _ _ (b .before .before .before .if1 .left), eq-eqb _ _ (b .before .if2 .left), e, eq-eqb _ _ (c .before .before .if4 .left))
+    (c .is-issued .ensures)
 
 pub is-sound-slot-spec : {M : Type 1} → statement M
 is-sound-slot-spec =

@@ -70,7 +70,8 @@ returns-3 c =
     let a = e .before .before .before .args in
     let d = a .t1 in
     let q : l .loop .r ≡ a .s = omega arith in
-    let h : anyBelow (a .s) (λ k. hasIssue (issueOf (jobAt d (a .s) .handle)) (jobAt d k)) ≡ false = subst (λ n. anyBelow n (λ k. hasIssue (issueOf (jobAt d (a .s) .handle)) (jobAt d k)) ≡ false) q (l .loop .inv .1) in
+    let h : anyBelow (a .s) (λ k. hasIssue (issueOf (jobAt d (a .s) .handle)) (jobAt d k))
+    ≡ false = subst (λ n. anyBelow n (λ k. hasIssue (issueOf (jobAt d (a .s) .handle)) (jobAt d k)) ≡ false) q (l .loop .inv .1) in
     simp (eq-eqb _ _ (e .if1 .left), h)
 
 pub is-twice-spec : {M : Type 1} → statement M

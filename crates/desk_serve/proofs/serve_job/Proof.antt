@@ -63,7 +63,8 @@ returns-3 c =
     let e₂ = k .before .before .before .before in
     let e₁ = e₂ .before .before in
     let a = e₁ .before .before .before .before .before .args in
-    let n : jobNumber (a .job) (a .word .now) ≡ (recoveryOf (a .job) (a .word .now)) .number = job-recovery (a .job) (a .word .now) (e₁ .if1 .left) (e₂ .if2 .left) in
+    let n : jobNumber (a .job) (a .word .now) ≡ (recoveryOf (a .job) (a .word .now)) .number =
+    job-recovery (a .job) (a .word .now) (e₁ .if1 .left) (e₂ .if2 .left) in
     rw n (
       k .recover .ensures .0,
       k .recover .ensures .1 .0

@@ -7,7 +7,7 @@ use borrow.Author.Needs.{needs}
 use Rattle.binary_field.specs.Xor.{_⊕_}
 use Rattle.binary_field.specs.XorLaws.{⊕-bits}
 use Rattle.code.specs.Edition.{times}
-use Rattle.byte_edition.specs.Edition.{bytes}
+use Rattle.byte_edition.specs.Edition.{byteEdition}
 use Rattle.fill.proofs.Laws.{each-set}
 use Rattle.candidate.proofs.Laws.{rest-set}
 use Rattle.edit.proofs.add_rows.Statement.{statement}
@@ -16,7 +16,7 @@ use Rattle.edit.proofs.add_rows.Tie as tie
 abbrev Inv-loop : tie.InvT-loop
 Inv-loop u h v k part₀ i₀ part i =
     (i ≤ length part₀) × (length part ≡ length part₀)
-    × ((l : ℕ) → l < i → getD part l 0 ≡ getD part₀ l 0 ⊕ (times bytes u (getD h l 0) ⊕ times bytes v (getD k l 0)))
+    × ((l : ℕ) → l < i → getD part l 0 ≡ getD part₀ l 0 ⊕ (times byteEdition u (getD h l 0) ⊕ times byteEdition v (getD k l 0)))
     × ((l : ℕ) → i ≤ l → getD part l 0 ≡ getD part₀ l 0)
 
 abbrev μ-loop : tie.MeasureT-loop
@@ -58,7 +58,8 @@ loop-again c =
     let x₀ : List ℕ = a .part .now in (
       omega arith,
       simp length-set (omega arith),
-      each-set (λ l z. z ≡ getD x₀ l 0 ⊕ (times bytes (a .u) (getD (a .h .now) l 0) ⊕ times bytes (a .v) (getD (a .k .now) l 0))) x i _ 0 (omega arith)
+      each-set (λ l z. z ≡ getD x₀ l 0 ⊕ (times byteEdition (a .u) (getD (a .h .now) l 0) ⊕ times byteEdition (a .v) (getD (a .k .now) l 0))) x i _ 0
+          (omega arith)
           (s .loop .inv .2)
           (⊕-bits _ _
           ∙ ap₂ _⊕_ (s .loop .inv .3 i (omega arith))

@@ -6,7 +6,7 @@ use native.Mathlib.Omega.{arith}
 use lib.ListN.{length, getD, take, drop}
 use Rattle.code.specs.Stretch.{stretch, withStretch}
 use Rattle.code.specs.StretchLaws.{stretch-length}
-use Rattle.groups.specs.LentLaws.{stretch-lent, with-lent}
+use Rattle.code.specs.LentLaws.{stretch-lent, with-lent}
 use Rattle.candidate.proofs.Laws.{stretch-end}
 use Rattle.edit.specs.PlacesLaws.{group-less, place-less}
 use Rattle.edit.specs.Steps.{Refilled, correctedOf}

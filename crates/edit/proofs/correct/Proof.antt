@@ -1,7 +1,7 @@
 use mathlib.Core.Path.{_≡_, refl, ap, _∙_}
 use native.Mathlib.Omega.{arith}
 use Rattle.code.specs.Edition.{times}
-use Rattle.byte_edition.specs.Edition.{bytes}
+use Rattle.byte_edition.specs.Edition.{byteEdition}
 use Rattle.edit.specs.Rows.{firstFixes, secondFixes}
 use Rattle.edit.proofs.Laws.{checks-fit, lent-rows, corrected-lent}
 use borrow.Author.Needs.{needs}
@@ -91,7 +91,7 @@ returns c =
     let s = p .before .before .before in
     let a = s .args in
     corrected-lent (a .m) (a .w) (a .c) (a .first) (a .second) _ (a .word .now) (r .add-rows .last .1 .1 .1 .1 .0) (s .pre .0) (s .pre .1 .0) (s .pre .1 .1)
-    (p .shifted-product .ensures ∙ ap (times bytes (a .second)) (p .before .power-of-two .ensures)) (r .add-rows .ensures)
+    (p .shifted-product .ensures ∙ ap (times byteEdition (a .second)) (p .before .power-of-two .ensures)) (r .add-rows .ensures)
 
 pub correct-spec : {M : Type 1} → statement M
 correct-spec =

@@ -6,13 +6,13 @@ use borrow.Author.Tests.{not-true, not-false}
 use lib.Dec.{T}
 use lib.ListN.{length}
 use Rattle.shape.specs.Shapes.{Good, dataCount}
-use Rattle.byte_edition.specs.Edition.{bytes}
+use Rattle.byte_edition.specs.Edition.{byteEdition}
 use Rattle.code.specs.ContradictionLaws.{whole-groups}
 use Rattle.code.specs.Word.{isCodeword}
 use Rattle.syndrome.specs.declared.Tested.{Tested}
 use Rattle.syndrome.specs.Tests.{brokenGroupIn, testedOf}
 use Rattle.syndrome.specs.TestsLaws.{broken-most}
-use Rattle.edit.specs.Service.{numberRefusal}
+use Rattle.edit.specs.Edit.{numberRefusal}
 use Rattle.edit.specs.Laws.{good-of-number}
 use Rattle.edit.proofs.Laws.{sold-of-number, edit-refused, edit-contradictory, edit-done}
 use borrow.Author.Needs.{needs}
@@ -49,7 +49,7 @@ cast-t13 c =
     let e = t .before .before in
     let a = e .before .before .before .args in
     let g = good-of-number (a .m) (a .w) (a .c) (length (a .word .now)) (a .number) (fair e) in
-    omega (arith, ap (λ (x : Tested). x .group) (found t), broken-most bytes (a .m) (a .w) (a .c) (a .word .now), g .0 .few)
+    omega (arith, ap (λ (x : Tested). x .group) (found t), broken-most byteEdition (a .m) (a .w) (a .c) (a .word .now), g .0 .few)
 
 same-length : tie.Need-same-length
 same-length c = search needs
@@ -64,7 +64,7 @@ returns-2 c =
     let g = good-of-number (a .m) (a .w) (a .c) (length (a .word .now)) (a .number) (fair e) in
     edit-contradictory (a .m) (a .w) (a .c) (a .word .now) (a .number) (a .byte) (fair e) _
     (sym (ap (λ (x : Tested). x .codeword) (found t)) ∙ not-true _ (c .before .if2 .taken))
-    (ap (λ (x : Tested). x .group) (found t) ∙ whole-groups bytes (a .m) (a .w) (a .c) (a .word .now) (g .1) (λ p. k .slice-known .given p .fits))
+    (ap (λ (x : Tested). x .group) (found t) ∙ whole-groups byteEdition (a .m) (a .w) (a .c) (a .word .now) (g .1) (λ p. k .slice-known .given p .fits))
 
 change-requires : tie.Need-change-requires
 change-requires c κs =

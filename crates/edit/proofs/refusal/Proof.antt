@@ -6,7 +6,7 @@ use borrow.Author.Tests.{le-leb, lt-leb}
 use Rattle.shape.specs.Refusals.{refuse}
 use lib.Dec.{leb}
 use Rattle.shape.specs.Shapes.{Good, dataCount}
-use Rattle.edit.specs.Service.{numberRefusal}
+use Rattle.edit.specs.Edit.{numberRefusal}
 use Rattle.shape.specs.Laws.{good-of-word}
 use Rattle.edit.proofs.Laws.{refused-sale, refused-length, refused-number}
 use borrow.Author.Needs.{needs}

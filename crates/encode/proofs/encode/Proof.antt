@@ -6,8 +6,8 @@ use Rattle.shape.specs.RefusalsLaws.{unless-refused}
 use Rattle.shape.specs.Laws.{places-most}
 use Rattle.shape.specs.Answers.{answerAt}
 use Rattle.shape.specs.AnswersLaws.{answer-refused}
-use Rattle.encode.specs.Service.{encodeRefusal, encodeIn, encodedBufferIn}
-use Rattle.byte_edition.specs.Edition.{bytes}
+use Rattle.encode.specs.Encode.{encodeRefusal, encodeIn, encodedBufferIn}
+use Rattle.byte_edition.specs.Edition.{byteEdition}
 use Rattle.byte_edition.specs.EditionLaws.{bytes-sound}
 use Rattle.encode.specs.Laws.{good-of-encode, after-size, buffer-end}
 use borrow.Author.Needs.{needs}
@@ -41,7 +41,7 @@ array-borrow-prefix-marks c =
     let a = r .before .before .before .args in
     let z : encodeRefusal (a .m) (a .w) (a .c) (length (a .word .now)) (length (a .bytes .now)) ≡ 0 = cc in
     let g = good-of-encode (a .m) (a .w) (a .c) (length (a .word .now)) (length (a .bytes .now)) z in
-    subst (λ n. n ≤ 240) (sym (after-size bytes (a .m) (a .w) (a .c) (a .bytes .now) (a .word .now) _ z (p .place .ensures))) (places-most (g .0))
+    subst (λ n. n ≤ 240) (sym (after-size byteEdition (a .m) (a .w) (a .c) (a .bytes .now) (a .word .now) _ z (p .place .ensures))) (places-most (g .0))
 
 slice-aggregate-fill-checks : tie.Need-slice-aggregate-fill-checks
 slice-aggregate-fill-checks c = sym (length-take-le _ _ (array-borrow-prefix-marks (c .before)))
@@ -53,7 +53,7 @@ fill-checks-requires c κs =
     let a = r .before .before .before .args in
     let z : encodeRefusal (a .m) (a .w) (a .c) (length (a .word .now)) (length (a .bytes .now)) ≡ 0 = cc in
     let g = good-of-encode (a .m) (a .w) (a .c) (length (a .word .now)) (length (a .bytes .now)) z in
-    (g .0, sym (slice-aggregate-fill-checks c) ∙ after-size bytes (a .m) (a .w) (a .c) (a .bytes .now) (a .word .now) _ z (p .place .ensures))
+    (g .0, sym (slice-aggregate-fill-checks c) ∙ after-size byteEdition (a .m) (a .w) (a .c) (a .bytes .now) (a .word .now) _ z (p .place .ensures))
 
 same-length : tie.Need-same-length
 same-length c = search needs
@@ -68,7 +68,11 @@ returns-2 c =
     let a = k .before .args in
     let z : encodeRefusal (a .m) (a .w) (a .c) (length (a .word .now)) (length (a .bytes .now)) ≡ 0 = cc in (
       sym (ap answerAt z),
-      (sym z, buffer-end bytes (a .m) (a .w) (a .c) (a .bytes .now) (a .word .now) _ z (p .place .ensures) bytes-sound (λ i. k .shared-slice-known .given i .fits) _ (f .fill-checks .ensures)),
+      (
+        sym z,
+        buffer-end byteEdition (a .m) (a .w) (a .c) (a .bytes .now) (a .word .now) _ z (p .place .ensures) bytes-sound
+            (λ i. k .shared-slice-known .given i .fits) _ (f .fill-checks .ensures),
+      ),
     )
 
 pub encode-spec : {M : Type 1} → statement M

@@ -1,6 +1,6 @@
 use mathlib.Core.Path.{ap, _∙_}
 use Rattle.places.specs.Laws.{marked-checks}
-use Rattle.recover.specs.Service.{recoverOf}
+use Rattle.recover.specs.Recover.{recoverOf}
 use borrow.Author.Needs.{needs}
 use Rattle.encode.proofs.fill_checks.Statement.{statement}
 use Rattle.encode.proofs.fill_checks.Tie as tie

@@ -11,8 +11,8 @@ returns : tie.Need-returns
 returns c =
     let a = c .before .before .before .before .args in
     let n = c .before .next-free in (
-      free-none (a .marks .now) (a .kept .now) (n .result) (n .ensures) (c .if1 .taken),
-      two-none (a .marks .now) (a .kept .now) (n .result) (n .ensures) (c .if1 .taken),
+      free-none (a .marks .now) (a .bound .now) (n .result) (n .ensures) (c .if1 .taken),
+      two-none (a .marks .now) (a .bound .now) (n .result) (n .ensures) (c .if1 .taken),
     )
 
 add-after : tie.Need-add-after
@@ -28,8 +28,8 @@ returns-2 c =
     let n = f .next-free in
     let i = c .before .before .if1 .left in
     let k = c .before .next-free2 in (
-      free-one (a .marks .now) (a .kept .now) (n .result) (n .ensures) i (k .result) (k .ensures) (c .if2 .taken),
-      two-one (a .marks .now) (a .kept .now) (n .result) (n .ensures) i (k .result) (k .ensures) (c .if2 .taken),
+      free-one (a .marks .now) (a .bound .now) (n .result) (n .ensures) i (k .result) (k .ensures) (c .if2 .taken),
+      two-one (a .marks .now) (a .bound .now) (n .result) (n .ensures) i (k .result) (k .ensures) (c .if2 .taken),
     )
 
 returns-3 : tie.Need-returns-3
@@ -39,8 +39,8 @@ returns-3 c =
     let n = f .next-free in
     let i = c .before .before .if1 .left in
     let k = c .before .next-free2 in (
-      free-two (a .marks .now) (a .kept .now) (n .result) (n .ensures) i (k .result) (k .ensures) (c .if2 .left),
-      two-two (a .marks .now) (a .kept .now) (n .result) (n .ensures) i (k .result) (k .ensures) (c .if2 .left),
+      free-two (a .marks .now) (a .bound .now) (n .result) (n .ensures) i (k .result) (k .ensures) (c .if2 .left),
+      two-two (a .marks .now) (a .bound .now) (n .result) (n .ensures) i (k .result) (k .ensures) (c .if2 .left),
     )
 
 pub free-places-spec : {M : Type 1} → statement M

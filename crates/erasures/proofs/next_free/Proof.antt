@@ -5,15 +5,15 @@ use native.Mathlib.Omega.{arith}
 use borrow.Author.Needs.{needs}
 use borrow.Author.Count.{below-more}
 use lib.ListN.{length}
-use Rattle.erasures.specs.Kept.{free}
+use Rattle.erasures.specs.Bound.{free}
 use Rattle.erasures.proofs.next_free.Statement.{statement}
 use Rattle.erasures.proofs.next_free.Tie as tie
 
 abbrev Inv-loop : tie.InvT-loop
-Inv-loop marks kept start i₀ i = (start ≤ i) × ((p : ℕ) → p < i → start ≤ p → free marks kept p ≡ false)
+Inv-loop marks bound start i₀ i = (start ≤ i) × ((p : ℕ) → p < i → start ≤ p → free marks bound p ≡ false)
 
 abbrev μ-loop : tie.MeasureT-loop
-μ-loop marks kept start i₀ i = length marks - i
+μ-loop marks bound start i₀ i = length marks - i
 
 loop-holds : tie.Need-loop-holds Inv-loop μ-loop
 loop-holds c = (omega arith, λ p a b. absurd (omega arith))

@@ -1,4 +1,5 @@
--- `axlebloom_read` meets its contract: a walk of its MIR, by hand. The lent desk is handed on to `desk::read_at`, and the lent count to `counted_number` with the answer.
+-- `axlebloom_read` meets its contract: a walk of its MIR, by hand. The lent desk is handed on to `desk::read_at`, and the lent count to `counted_number` with
+-- the answer.
 -- All that is known of the two is their contracts.
 -- Assumes nothing.
 use mathlib.Core.Path.{_≡_, refl}
@@ -15,8 +16,10 @@ use prog.Wp.{Heap, Calls, Loops, WpFn}
 use ghost.Atoms.{Atoms, sem}
 use contract.Monad.{Fun, fact}
 use contract.Running.{givenOf, tables}
-use types.Kit.{Given, ‵, ⋆, raw, _⊛_, some, later, _$_, _∵_, !, qed, by, move, keep, drop, use1, use3, split, join, pick, fsplit, fjoin, suffices, frame, await, done}
-use types.Run.{look, init, forget, stop, hop, from, load, addr, assigns, and-then, no-more, land, returns, enter, alloc1, alloc0, params1, pass1, pass0, free1, free0}
+use types.Kit.{Given, ‵, ⋆, raw, _⊛_, some, later, _$_, _∵_, !, qed, by, move, keep, drop, use1, use3, split, join, pick, fsplit, fjoin, suffices, frame, await}
+use types.Kit.{done}
+use types.Run.{look, init, forget, stop, hop, from, load, addr, assigns, and-then, no-more, land, returns, enter, alloc1, alloc0, params1, pass1, pass0, free1}
+use types.Run.{free0}
 use sound.WpLaws.{FmC}
 use denote.RattleType.{owns}
 use denote.Laws.{Is, shows}
@@ -39,7 +42,7 @@ use Rattle.desk_close.specs.Read.{readOf, ReadGives, countedNumber}
 use Rattle.desk_record.specs.declared.Desk.{Desk}
 use Rattle.exports_desk.specs.DeskCalls.{ReadsNumber, servedOr}
 use Rattle.exports_desk.specs.DeskCallsLaws.{reads-number}
-use Rattle.desk_lent.proofs.Walks.{by-walk}
+use Rattle.hand_walks.proofs.Walks.{by-walk}
 use Rattle.desk_record.proofs.Desk as T
 use Rattle.desk_close.proofs.Counted as E
 use Rattle.desk_close.proofs.Counted.Laws as E′
@@ -69,7 +72,8 @@ Read 𝓤 H A mem run = tripleOf 𝓤 H A read.signature (read.spec 𝓤 H A mem
 abbrev Number : {M : Type 1} (𝓤 : URA M) (H : Heap 𝓤) (A : Atoms 𝓤) (mem : Memory → SProp 𝓤) (run : Routine → Fun 𝓤) → Contract 𝓤
 Number 𝓤 H A mem run = tripleOf 𝓤 H A number.signature (number.spec 𝓤 H A mem run)
 
-module _ {M : Type 1} (𝓤 : URA M) (H : Heap 𝓤) (A : Atoms 𝓤) (W : Given 𝓤 H A) (at-mem : Memory → SProp 𝓤) (run : Routine → Fun 𝓤) (κ κ′ : Lft) (q q′ : Share) (b o : ℕ) (γ : GName) (h : Desk) (n : ℕ) (b′ o′ : ℕ) (γ′ : GName) (y : ℕ) (n-fits : n < 2 ^ 64) where
+module _ {M : Type 1} (𝓤 : URA M) (H : Heap 𝓤) (A : Atoms 𝓤) (W : Given 𝓤 H A) (at-mem : Memory → SProp 𝓤) (run : Routine → Fun 𝓤) (κ κ′ : Lft) (q q′ : Share)
+    (b o : ℕ) (γ : GName) (h : Desk) (n : ℕ) (b′ o′ : ℕ) (γ′ : GName) (y : ℕ) (n-fits : n < 2 ^ 64) where
   abbrev d : RefT Desk
   d = record { ptr = (b, o); name = γ; now = h }
 
@@ -96,63 +100,88 @@ module _ {M : Type 1} (𝓤 : URA M) (H : Heap 𝓤) (A : Atoms 𝓤) (W : Given
   Post = walkOf 𝓤 H A axlebloom-read.ended stayed (axlebloom-read.clauses 𝓤 H A at-mem run) .post (((κ, (κ′, tt)), (q, (q′, tt)), tt, a, at), tt)
 
   exits : (k : ℕ) (v : Val) (z : ℕ) → ReadsNumber (readOf n h) y z k
-      → ent 𝓤 (⋆ 𝓤 H A (‵ (u8 .own k (v ∷ [])) ∷ (‵ (flft κ′ q′) ⊛ ‵ ftrue) ∷ ‵ (fres γ′ (u32 .coded .code z)) ∷ (‵ (flft κ q) ⊛ ‵ ftrue) ∷ ‵ Own ∷ [])) (Post v)
+      → ent 𝓤 (⋆ 𝓤 H A (‵ (u8 .own k (v ∷ [])) ∷ (‵ (flft κ′ q′) ⊛ ‵ ftrue) ∷ ‵ (fres γ′ (u32 .coded .code z)) ∷ (‵ (flft κ q) ⊛ ‵ ftrue) ∷ ‵ Own ∷ []))
+      (Post v)
   exits k v z e =
       qed W (‵ (u8 .own k (v ∷ [])) ∷ (‵ (flft κ′ q′) ⊛ ‵ ftrue) ∷ ‵ (fres γ′ (u32 .coded .code z)) ∷ (‵ (flft κ q) ⊛ ‵ ftrue) ∷ ‵ Own ∷ []) ∵
-      suffices ! _ (ends-at 𝓤 H A axlebloom-read.ended stayed (axlebloom-read.clauses 𝓤 H A at-mem run) W (((κ, (κ′, tt)), (q, (q′, tt)), tt, a, at), tt) v k (tt, (tt, (z, tt))) (tt, (tt, (tt, tt)))) $
-      says ! e $ move ! (3 ∷ []) $ split ! $ move ! (0 ∷ 3 ∷ []) $ join ! $ frame ! $ move ! (2 ∷ 0 ∷ []) $ fjoin ! $ owned ! u64 (Is u64) (uint-makes 𝓤 H A W w64) n _ (refl, n-fits) $ fjoin ! $ move ! (2 ∷ 0 ∷ []) $ fjoin ! $ done !
+      suffices ! _ (ends-at 𝓤 H A axlebloom-read.ended stayed (axlebloom-read.clauses 𝓤 H A at-mem run) W (((κ, (κ′, tt)), (q, (q′, tt)), tt, a, at), tt) v k
+      (tt, (tt, (z, tt))) (tt, (tt, (tt, tt)))) $
+      says ! e $ move ! (3 ∷ []) $ split ! $ move ! (0 ∷ 3 ∷ []) $ join ! $ frame ! $ move ! (2 ∷ 0 ∷ []) $ fjoin ! $ owned ! u64 (Is u64)
+      (uint-makes 𝓤 H A W w64) n _ (refl, n-fits) $ fjoin ! $ move ! (2 ∷ 0 ∷ []) $ fjoin ! $ done !
 
   abbrev to-read : Read 𝓤 H A at-mem run .Ghost
   to-read = (((κ, tt), (q, tt), tt, (d, (n, tt)), (vptr b o ∷ [], (vint w64 n ∷ [], tt))), tt)
 
   goes-read : ent 𝓤 (sep 𝓤 (A .lft κ q) (sep 𝓤 (sem 𝓤 H A OwnN) (sem 𝓤 H A Own))) (Read 𝓤 H A at-mem run .pre to-read)
   goes-read =
-      qed W (‵ (flft κ q) ∷ ‵ OwnN ∷ ‵ Own ∷ []) ∵ nothing ! $ move ! (2 ∷ 0 ∷ []) $ fjoin ! $ move ! (2 ∷ 0 ∷ []) $ fjoin ! $ nothing ! $ move ! (2 ∷ 0 ∷ []) $ join ! $ join ! $ frame ! $ done !
+      qed W (‵ (flft κ q) ∷ ‵ OwnN ∷ ‵ Own ∷ []) ∵ nothing ! $ move ! (2 ∷ 0 ∷ []) $ fjoin ! $ move ! (2 ∷ 0 ∷ []) $ fjoin ! $ nothing ! $ move !
+      (2 ∷ 0 ∷ []) $ join ! $ join ! $ frame ! $ done !
 
   abbrev to-number : Counted → Val → Number 𝓤 H A at-mem run .Ghost
   to-number r v = (((κ′, tt), (q′, tt), tt, (r, (x, tt)), (v ∷ [], (vptr b′ o′ ∷ [], tt))), tt)
 
-  goes-number : (r : Counted) (v : Val) → ent 𝓤 (sep 𝓤 (sem 𝓤 H A (E.the-row .own r (v ∷ []))) (sep 𝓤 (sep 𝓤 (A .lft κ′ q′) (sem 𝓤 H A ftrue)) (sem 𝓤 H A Own′))) (Number 𝓤 H A at-mem run .pre (to-number r v))
+  goes-number : (r : Counted) (v : Val) → ent 𝓤 (sep 𝓤 (sem 𝓤 H A (E.the-row .own r (v ∷ [])))
+      (sep 𝓤 (sep 𝓤 (A .lft κ′ q′) (sem 𝓤 H A ftrue)) (sem 𝓤 H A Own′))) (Number 𝓤 H A at-mem run .pre (to-number r v))
   goes-number r v =
-      qed W (‵ (E.the-row .own r (v ∷ [])) ∷ (‵ (flft κ′ q′) ⊛ ‵ ftrue) ∷ ‵ Own′ ∷ []) ∵ nothing ! $ move ! (3 ∷ 0 ∷ []) $ fjoin ! $ move ! (1 ∷ 0 ∷ []) $ fjoin ! $ move ! (1 ∷ 0 ∷ []) $ join ! $ frame ! $ done !
+      qed W (‵ (E.the-row .own r (v ∷ [])) ∷ (‵ (flft κ′ q′) ⊛ ‵ ftrue) ∷ ‵ Own′ ∷ []) ∵ nothing ! $ move ! (3 ∷ 0 ∷ []) $ fjoin ! $ move !
+      (1 ∷ 0 ∷ []) $ fjoin ! $ move ! (1 ∷ 0 ∷ []) $ join ! $ frame ! $ done !
 
-  module _ (C : Calls 𝓤 H) (Λ : Loops 𝓤 H) (fm : FmC 𝓤 H (W .laws) C) (known : Triple 𝓤 (C #desk-lent·read-at) (Read 𝓤 H A at-mem run)) (known-number : Triple 𝓤 (C #exports-desk·counted-number) (Number 𝓤 H A at-mem run)) where
-    walk : ent 𝓤 (onEntry 𝓤 H A axlebloom-read.signature (κ, (κ′, tt)) (q, (q′, tt)) a at) (WpFn 𝓤 H C Λ code.function (vptr b o ∷ vint w64 n ∷ vptr b′ o′ ∷ []) Post)
+  module _ (C : Calls 𝓤 H) (Λ : Loops 𝓤 H) (fm : FmC 𝓤 H (W .laws) C) (known : Triple 𝓤 (C #desk-lent·read-at) (Read 𝓤 H A at-mem run))
+      (known-number : Triple 𝓤 (C #exports-desk·counted-number) (Number 𝓤 H A at-mem run)) where
+    walk : ent 𝓤 (onEntry 𝓤 H A axlebloom-read.signature (κ, (κ′, tt)) (q, (q′, tt)) a at)
+        (WpFn 𝓤 H C Λ code.function (vptr b o ∷ vint w64 n ∷ vptr b′ o′ ∷ []) Post)
     walk =
-        qed W ((‵ (flft κ q) ⊛ ‵ (flft κ′ q′) ⊛ ‵ ftrue) ∷ ‵ (owns (ShrRef (named 0) κ T.the-row ∷ u64 ∷ MutRef (named 1) κ′ u32 ∷ []) a at) ∷ []) ∵ enter ! C Λ code.function (vptr b o ∷ vint w64 n ∷ vptr b′ o′ ∷ []) _ $
+        qed W ((‵ (flft κ q) ⊛ ‵ (flft κ′ q′) ⊛ ‵ ftrue) ∷ ‵ (owns (ShrRef (named 0) κ T.the-row ∷ u64 ∷ MutRef (named 1) κ′ u32 ∷ []) a at) ∷ []) ∵ enter ! C Λ
+        code.function (vptr b o ∷ vint w64 n ∷ vptr b′ o′ ∷ []) _ $
         alloc1 ! (λ l₀. alloc1 ! (λ l₁. alloc1 ! (λ l₂. alloc1 ! (λ l₃. alloc1 ! (λ l₄. alloc1 ! (λ l₅. alloc0 ! $ params1 ! $
         pass1 ! (init ! 8 refl (tt, tt)) $ pass1 ! (init ! 6 refl (tt, record { fits = n-fits })) $ pass1 ! (init ! 4 refl (tt, tt)) $ pass0 ! $
-        move ! (13 ∷ []) $ fsplit ! $ use1 W (‵ Own ⊛ ‵ Own) (shr-copy 𝓤 H A W (named 0) κ T.the-row .twice d (vptr b o ∷ [])) $ split ! $ move ! (2 ∷ []) $ fsplit ! $ move ! (1 ∷ []) $ fsplit ! $ move ! (17 ∷ []) $ split ! $
+        move ! (13 ∷ []) $ fsplit ! $ use1 W (‵ Own ⊛ ‵ Own) (shr-copy 𝓤 H A W (named 0) κ T.the-row .twice d (vptr b o ∷ [])) $ split ! $ move !
+        (2 ∷ []) $ fsplit ! $ move ! (1 ∷ []) $ fsplit ! $ move ! (17 ∷ []) $ split ! $
         -- [the desk's token; the count's; what served owns; …; what handle owns; what desk owns, twice; _5; …; _4; …; _3; …; _2; …; _1; …; room for _0; …]
         move ! (0 ∷ 4 ∷ 5 ∷ []) $ use3 W (raw (Read 𝓤 H A at-mem run .pre to-read)) goes-read $
-        calls-at ! fm (Read 𝓤 H A at-mem run) known to-read (and-then ! (load ! (from ! (stop !)) (look ! 13 refl)) (and-then ! (load ! (from ! (stop !)) (look ! 11 refl)) (no-more !))) (λ v.
-        use1 W (later (some (λ (r : Counted). ((‵ (flft κ q) ⊛ ‵ ftrue) ⊛ ‵ (E.the-row .own r (v ∷ []))) ⊛ raw (ensured 𝓤 H A read.ended (read.clauses 𝓤 H A at-mem run) (κ, tt) (d, (n, tt)) tt r)))) (id⊢ 𝓤 _) $ await ! tt $ pick ! (λ r.
-        split ! $ move ! (1 ∷ []) $ use1 W (raw (fact 𝓤 (ReadGives (readOf n h) r))) (exE 𝓤 _ (λ ws. snd∗ 𝓤 (sem 𝓤 H A (lasts read.ended (κ, tt) (d, (n, tt)) ws)) _)) $ heard ! (ReadGives (readOf n h) r) (λ e. split ! $ move ! (1 ∷ []) $
+        calls-at ! fm (Read 𝓤 H A at-mem run) known to-read (and-then ! (load ! (from ! (stop !)) (look ! 13 refl))
+        (and-then ! (load ! (from ! (stop !)) (look ! 11 refl)) (no-more !))) (λ v.
+        use1 W (later (some (λ (r : Counted). ((‵ (flft κ q) ⊛ ‵ ftrue) ⊛ ‵ (E.the-row .own r (v ∷ []))) ⊛ raw
+        (ensured 𝓤 H A read.ended (read.clauses 𝓤 H A at-mem run) (κ, tt) (d, (n, tt)) tt r)))) (id⊢ 𝓤 _) $ await ! tt $ pick ! (λ r.
+        split ! $ move ! (1 ∷ []) $ use1 W (raw (fact 𝓤 (ReadGives (readOf n h) r)))
+        (exE 𝓤 _ (λ ws. snd∗ 𝓤 (sem 𝓤 H A (lasts read.ended (κ, tt) (d, (n, tt)) ws)) _)) $ heard ! (ReadGives (readOf n h) r)
+        (λ e. split ! $ move ! (1 ∷ []) $
         peeks ! E.the-row (Is E.the-row) (shows 𝓤 H A E.the-row) r (v ∷ []) (λ is.
         -- [what the answer owns; the desk's token; the count's; what served owns; …; what desk owns; _5; …; _4; …; _3; …; _2; …; _1; …; room for _0; …]
         land ! (from ! (stop !)) (init ! 8 refl (EL.lawful E.the-type E′.the-laws 𝓤 H A W tt .typed r _ is .0)) $
         assigns ! (addr ! (from ! (hop ! (look ! 10 refl) (stop !)))) (from ! (stop !)) (init ! 6 refl (tt, tt)) $
         move ! (0 ∷ 2 ∷ 3 ∷ []) $ use3 W (raw (Number 𝓤 H A at-mem run .pre (to-number r v))) (goes-number r v) $
-        calls-at ! fm (Number 𝓤 H A at-mem run) known-number (to-number r v) (and-then ! (load ! (from ! (stop !)) (look ! 6 refl)) (and-then ! (load ! (from ! (stop !)) (look ! 4 refl)) (no-more !))) (λ v′.
-        use1 W (later (some (λ (k : ℕ). ((‵ (flft κ′ q′) ⊛ ‵ ftrue) ⊛ ‵ (u8 .own k (v′ ∷ []))) ⊛ raw (ensured 𝓤 H A number.ended (number.clauses 𝓤 H A at-mem run) (κ′, tt) (r, (x, tt)) tt k)))) (id⊢ 𝓤 _) $ await ! tt $ pick ! (λ k.
+        calls-at ! fm (Number 𝓤 H A at-mem run) known-number (to-number r v)
+        (and-then ! (load ! (from ! (stop !)) (look ! 6 refl)) (and-then ! (load ! (from ! (stop !)) (look ! 4 refl)) (no-more !))) (λ v′.
+        use1 W (later (some (λ (k : ℕ). ((‵ (flft κ′ q′) ⊛ ‵ ftrue) ⊛ ‵ (u8 .own k (v′ ∷ []))) ⊛ raw
+        (ensured 𝓤 H A number.ended (number.clauses 𝓤 H A at-mem run) (κ′, tt) (r, (x, tt)) tt k)))) (id⊢ 𝓤 _) $ await ! tt $ pick ! (λ k.
         -- what `counted_number` ensures, at some last count
-        split ! $ move ! (1 ∷ []) $ use1 W (some (λ (zs : Unit {0} × (ℕ × Unit {0})). ‵ (lasts number.ended (κ′, tt) (r, (x, tt)) zs) ⊛ raw (fact 𝓤 ((k ≡ countedNumber r) × (zs .1 .0 ≡ servedOr r y))))) (id⊢ 𝓤 _) $ pick ! (λ zs.
-        split ! $ move ! (1 ∷ []) $ heard ! ((k ≡ countedNumber r) × (zs .1 .0 ≡ servedOr r y)) (λ e′. fsplit ! $ drop ! $ fsplit ! $ move ! (2 ∷ []) $ split ! $ move ! (1 ∷ []) $
+        split ! $ move ! (1 ∷ []) $ use1 W (some (λ (zs : Unit {0} × (ℕ × Unit {0})). ‵ (lasts number.ended (κ′, tt) (r, (x, tt)) zs) ⊛ raw
+        (fact 𝓤 ((k ≡ countedNumber r) × (zs .1 .0 ≡ servedOr r y))))) (id⊢ 𝓤 _) $ pick ! (λ zs.
+        split ! $ move ! (1 ∷ []) $ heard ! ((k ≡ countedNumber r) × (zs .1 .0 ≡ servedOr r y))
+        (λ e′. fsplit ! $ drop ! $ fsplit ! $ move ! (2 ∷ []) $ split ! $ move ! (1 ∷ []) $
         peeks ! u8 (Is u8) (shows 𝓤 H A u8) k (v′ ∷ []) (λ are.
         -- [what the number owns; the count's token; the last count; …; the desk's token; …; what desk owns; _5; …; _4; …; _3; …; _2; …; _1; …; room for _0; …]
         land ! (from ! (stop !)) (init ! 17 refl (uint-lawful 𝓤 H A W w8 .typed k _ are .0)) $
         returns ! (look ! 17 refl) $ forget ! 7 refl $ forget ! 9 refl $ forget ! 11 refl $ forget ! 13 refl $ forget ! 15 refl $ forget ! 17 refl $
-        move ! (17 ∷ 18 ∷ []) $ free1 ! $ move ! (15 ∷ 16 ∷ []) $ free1 ! $ move ! (13 ∷ 14 ∷ []) $ free1 ! $ move ! (11 ∷ 12 ∷ []) $ free1 ! $ move ! (9 ∷ 10 ∷ []) $ free1 ! $ move ! (7 ∷ 8 ∷ []) $ free1 ! $ free0 ! $
+        move ! (17 ∷ 18 ∷ []) $ free1 ! $ move ! (15 ∷ 16 ∷ []) $ free1 ! $ move ! (13 ∷ 14 ∷ []) $ free1 ! $ move ! (11 ∷ 12 ∷ []) $ free1 ! $ move !
+        (9 ∷ 10 ∷ []) $ free1 ! $ move ! (7 ∷ 8 ∷ []) $ free1 ! $ free0 ! $
         keep ! (0 ∷ 1 ∷ 2 ∷ 4 ∷ 6 ∷ []) $ by ! (exits k v′ (zs .1 .0) (reads-number _ _ _ _ _ e′ e)))))))))))))))))
 
 pub axlebloom-read-spec : {M : Type 1} → stated.statement M
 unfolding code.routine
 axlebloom-read-spec 𝓤 H 𝓜 𝓖 𝓡 =
     let W = givenOf 𝓤 H 𝓜 𝓖 in
-    by-walk 𝓤 H 𝓜 𝓖 𝓡 axlebloom-read.ended stayed (axlebloom-read.clauses 𝓤 H (𝓖 .A) (𝓜 .mem) (𝓡 .run)) code.env #exports-desk·axlebloom-read code.function (code.unfolded 𝓤 H 𝓜 𝓡)
-    (goes-none-ref 𝓤 H (𝓖 .A) W 2 (0 ∷ []) tt (plain (λ _. T.the-row)) yes, (goes-none 𝓤 H (𝓖 .A) W 2 (λ _. u64) yes (λ κs x f. refl), (goes-gave-ref 𝓤 H (𝓖 .A) W 2 1 tt (plain (λ _. u32)), tt)))
+    by-walk 𝓤 H 𝓜 𝓖 𝓡 axlebloom-read.ended stayed (axlebloom-read.clauses 𝓤 H (𝓖 .A) (𝓜 .mem) (𝓡 .run)) code.env #exports-desk·axlebloom-read code.function
+    (code.unfolded 𝓤 H 𝓜 𝓡) (
+      goes-none-ref 𝓤 H (𝓖 .A) W 2 (0 ∷ []) tt (plain (λ _. T.the-row)) yes,
+      (goes-none 𝓤 H (𝓖 .A) W 2 (λ _. u64) yes (λ κs x f. refl), (goes-gave-ref 𝓤 H (𝓖 .A) W 2 1 tt (plain (λ _. u32)), tt)),
+    )
     (λ κs. (ptr-vals, (uint-vals w64, (ptr-vals, tt))))
     (λ κs. (shr-tells (named 0) (κs .0) T.the-row, (uint-tells w64, (mut-tells (named 1) (κs .1 .0) u32, tt))))
-    (λ fm κs qs bounds a g are. walk 𝓤 H (𝓖 .A) W (𝓜 .mem) (𝓡 .run) (κs .0) (κs .1 .0) (qs .0) (qs .1 .0) (a .0 .ptr .0) (a .0 .ptr .1) (a .0 .name) (a .0 .now) (a .1 .0) (a .1 .1 .0 .ptr .0) (a .1 .1 .0 .ptr .1) (a .1 .1 .0 .name) (a .1 .1 .0 .now) (are .1 .0 .1) (tables 𝓤 H 𝓜 𝓡 code.env .C) (tables 𝓤 H 𝓜 𝓡 code.env .Λ) fm
+    (λ fm κs qs bounds a g are. walk 𝓤 H (𝓖 .A) W (𝓜 .mem) (𝓡 .run) (κs .0) (κs .1 .0) (qs .0) (qs .1 .0) (a .0 .ptr .0) (a .0 .ptr .1) (a .0 .name) (a .0 .now)
+    (a .1 .0) (a .1 .1 .0 .ptr .0) (a .1 .1 .0 .ptr .1) (a .1 .1 .0 .name) (a .1 .1 .0 .now) (are .1 .0 .1) (tables 𝓤 H 𝓜 𝓡 code.env .C)
+    (tables 𝓤 H 𝓜 𝓡 code.env .Λ) fm
     (cited 𝓤 H (Read 𝓤 H (𝓖 .A) (𝓜 .mem) (𝓡 .run)) 𝓜 𝓡 code.env #desk-lent·read-at read-def.routine code.calls-desk-lent·read-at (read-thm.met 𝓤 H 𝓜 𝓖 𝓡))
-    (cited 𝓤 H (Number 𝓤 H (𝓖 .A) (𝓜 .mem) (𝓡 .run)) 𝓜 𝓡 code.env #exports-desk·counted-number number-def.routine code.calls-exports-desk·counted-number (number-thm.met 𝓤 H 𝓜 𝓖 𝓡)))
+    (cited 𝓤 H (Number 𝓤 H (𝓖 .A) (𝓜 .mem) (𝓡 .run)) 𝓜 𝓡 code.env #exports-desk·counted-number number-def.routine code.calls-exports-desk·counted-number
+    (number-thm.met 𝓤 H 𝓜 𝓖 𝓡)))

@@ -4,8 +4,8 @@ use Prim.Native.Nat.{ℕ, zero, suc, _%_, _<_}
 use native.Mathlib.Nat.{mod-eq-of-lt}
 use native.Mathlib.Omega.{arith}
 use lib.ListN.{length, getD}
-use Rattle.coefficients.specs.Rows.{powerRows, noRow}
-use Rattle.coefficients.specs.RowsLaws.{power-at}
+use Rattle.check_rows.specs.Rows.{powerRows, noRow}
+use Rattle.check_rows.specs.RowsLaws.{power-at}
 use Rattle.fill.proofs.Laws.{syndrome}
 use borrow.Author.Needs.{needs}
 use Rattle.fill.proofs.equation.Statement.{statement}
@@ -43,7 +43,8 @@ array-read-t36 c = search needs
 
 -- the entries of a row at four positions below 16
 at-four : (powers at rest : List ℕ) (i : ℕ) → i < 4 → getD at i 0 < 16
-    → getD (getD powers (getD at 0 0 % 16) 0 ∷ getD powers (getD at 1 0 % 16) 0 ∷ getD powers (getD at 2 0 % 16) 0 ∷ getD powers (getD at 3 0 % 16) 0 ∷ rest) i 0
+    → getD (getD powers (getD at 0 0 % 16) 0 ∷ getD powers (getD at 1 0 % 16) 0 ∷ getD powers (getD at 2 0 % 16) 0 ∷ getD powers (getD at 3 0 % 16) 0 ∷ rest) i
+    0
     ≡ getD powers (getD at i 0) 0
 at-four powers at rest zero l h = ap (λ p. getD powers p 0) (mod-eq-of-lt h)
 at-four powers at rest (suc zero) l h = ap (λ p. getD powers p 0) (mod-eq-of-lt h)
@@ -57,7 +58,8 @@ returns c =
     let r : c .before .power-row .result ≡ getD powerRows (a .args .e) noRow = c .before .power-row .ensures in record {
       left = λ i l.
           let h = a .pre .3 i l in
-          at-four (c .before .power-row .result) (a .args .t2) (c .power-sum .result ∷ 0 ∷ 0 ∷ 0 ∷ 0 ∷ 0 ∷ 0 ∷ 0 ∷ 0 ∷ 0 ∷ 0 ∷ 0 ∷ []) i (omega arith) (omega arith)
+          at-four (c .before .power-row .result) (a .args .t2) (c .power-sum .result ∷ 0 ∷ 0 ∷ 0 ∷ 0 ∷ 0 ∷ 0 ∷ 0 ∷ 0 ∷ 0 ∷ 0 ∷ 0 ∷ []) i (omega arith)
+          (omega arith)
           ∙ rw r (power-at (a .args .e) (getD (a .args .t2) i 0) (omega arith) (omega arith));
       right = c .power-sum .ensures ∙ syndrome (a .args .part .now) (a .args .e) (omega arith) (omega arith);
     }

@@ -1,14 +1,14 @@
 use mathlib.Core.Path.{_∙_}
 use native.Mathlib.Omega.{arith}
 use Rattle.code.specs.Edition.{raised}
-use Rattle.byte_edition.specs.Edition.{bytes}
-use Rattle.coefficients.specs.PaddedLaws.{padded-group}
+use Rattle.byte_edition.specs.Edition.{byteEdition}
+use Rattle.check_rows.specs.PaddedLaws.{padded-group}
 use borrow.Author.Needs.{needs}
 use Rattle.fill.proofs.equations.Statement.{statement}
 use Rattle.fill.proofs.equations.Tie as tie
 use Rattle.fill.proofs.equations.Reads as reads
 use Rattle.fill.proofs.equations.Lts as lts
-use Rattle.coefficients.proofs.padded.Reads as padded-reads
+use Rattle.check_rows.proofs.padded.Reads as padded-reads
 use Rattle.fill.proofs.equations_of.Reads as equations-of-reads
 
 equations-of-requires : tie.Need-equations-of-requires
@@ -36,7 +36,7 @@ returns-2 c e l =
     let s = p .before .before .before in
     let q = c .equations-of2 .ensures e l in record {
       left = q .left;
-      right = q .right ∙ padded-group (p .padded .ensures) (omega arith) (λ j. raised bytes (bytes .locator j) e);
+      right = q .right ∙ padded-group (p .padded .ensures) (omega arith) (λ j. raised byteEdition (byteEdition .locator j) e);
     }
 
 pub equations-spec : {M : Type 1} → statement M

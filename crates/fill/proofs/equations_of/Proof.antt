@@ -40,7 +40,8 @@ loop-again c =
     let a = s .before .before .args in (
       omega arith,
       simp length-set (omega arith),
-      each-set (Equation (a .part .now) (a .at) (a .t)) (s .loop .rows) (s .loop .e) (c .equation .result) [] (omega arith) (s .loop .inv .2) (c .equation .ensures),
+      each-set (Equation (a .part .now) (a .at) (a .t)) (s .loop .rows) (s .loop .e) (c .equation .result) [] (omega arith) (s .loop .inv .2)
+          (c .equation .ensures),
     )
 
 returns : tie.Need-returns Inv-loop μ-loop

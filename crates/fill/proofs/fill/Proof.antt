@@ -3,7 +3,7 @@ use Prim.Native.Nat.{ℕ, min}
 use native.Mathlib.Omega.{arith}
 use lib.ListN.{length}
 use mir.Syntax.{w8}
-use Rattle.byte_edition.specs.Edition.{bytes}
+use Rattle.byte_edition.specs.Edition.{byteEdition}
 use Rattle.byte_edition.specs.EditionLaws.{bytes-sound}
 use Rattle.solve.proofs.Arrays.{array-system}
 use Rattle.fill.proofs.Laws.{zeros-at, unchanged, filled}
@@ -21,7 +21,7 @@ find-requires : tie.Need-find-requires
 find-requires c κs = search needs
 
 returns-3 : tie.Need-returns-3
-returns-3 c = let f = c .before .find in unchanged bytes _ _ (f .result .count) (f .ensures .all) (c .if3 .taken)
+returns-3 c = let f = c .before .find in unchanged byteEdition _ _ (f .result .count) (f .ensures .all) (c .if3 .taken)
 
 place-requires : tie.Need-place-requires
 place-requires c κs = (omega arith, λ i l. let b = c .before .before .before .find .ensures .few (omega arith) .inside i (omega arith) in omega arith)
@@ -54,7 +54,7 @@ returns-4 c =
     let m : min t 4 ≡ t = omega arith in
     let w : length (a .marks .now) ≡ length (a .part .now) = omega arith in
     filled (a .marks .now) (a .part .now) (z .place .last .0) (p .place2 .last .0) (f .find .result .at) _ (q .equations .result) (x .eliminate .result) t
-    (rw w at (f .find .ensures .few (omega arith))) (z .place .ensures) (p .place2 .ensures) bytes bytes-sound (λ i. zeros-at 4 16 i 4) (omega arith)
+    (rw w at (f .find .ensures .few (omega arith))) (z .place .ensures) (p .place2 .ensures) byteEdition bytes-sound (λ i. zeros-at 4 16 i 4) (omega arith)
     (array-system w8 16 4 (q .equations .result) _ (q .equations .ok) t (omega arith)) (q .equations .ensures) (rw m at (x .eliminate .ensures))
     w (omega arith) (rw w at (f .find .ensures .all))
 

@@ -8,8 +8,8 @@ use Rattle.shape.specs.Answers.{mendingAt}
 use Rattle.shape.specs.Refusals.{unlessRefused}
 use Rattle.shape.specs.RefusalsLaws.{unless-refused}
 use Rattle.shape.specs.Laws.{places-most}
-use Rattle.code.specs.Answer.{Outcome}
-use Rattle.recover.specs.Service.{recoverOf}
+use Rattle.code.specs.Outcome.{Outcome}
+use Rattle.recover.specs.Recover.{recoverOf}
 use Rattle.gather_record.specs.declared.Gather.{Gather}
 use Rattle.gather_record.specs.Record.{Whole}
 use Rattle.gather_record.proofs.Laws.{whole}

@@ -58,7 +58,8 @@ returns-2 c =
     e ∙ sym (marks-bad (b .before .before .before .before .before .args .gather) (good b) (long b) (λ z. c .if2 .taken (e ∙ z)))
 
 -- the shape is good, and the marks are
-fair : (k : tie.Else2) → gatherRefusal (lent (k .before .before .before .before)) ≡ refuse 6 (ltb 1 (lent (k .before .before .before .before) .finished)) orElse refuse 22 (eqb (lent (k .before .before .before .before) .finished) 1)
+fair : (k : tie.Else2) → gatherRefusal (lent (k .before .before .before .before))
+    ≡ refuse 6 (ltb 1 (lent (k .before .before .before .before) .finished)) orElse refuse 22 (eqb (lent (k .before .before .before .before) .finished) 1)
 fair k =
     let b = k .before .before .before .before in
     record-good (lent b) (good b) (long b) (sym (k .before .marks-refusal .ensures) ∙ k .if2 .left)

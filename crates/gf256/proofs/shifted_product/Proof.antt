@@ -37,7 +37,8 @@ loop-again c =
     let l = c .before .before .before .loop in
     let n : ℕ = 8 - (l .i + 1) in
     let e : 8 - l .i ≡ suc n = omega arith in
-    let t : l .r ⊕ bitSum 8 285 (suc n) (l .x) (l .y) ≡ product 8 285 (c .before .before .before .before .args .a) (c .before .before .before .before .args .b) = rw (← e) (l .inv .1) in (
+    let t : l .r ⊕ bitSum 8 285 (suc n) (l .x) (l .y) ≡ product 8 285 (c .before .before .before .before .args .a)
+    (c .before .before .before .before .args .b) = rw (← e) (l .inv .1) in (
       omega arith,
       ⊎-elim
           (λ w. cc (⊕-bits (l .r) (l .x), bits-set 8 285 n (l .r) (l .x) (l .y) (w .0 .taken)))

@@ -51,7 +51,8 @@ returns-3 c =
     let w2 = w3 .before .before in
     let w1 = w2 .before in
     let a = w1 .before .before .before in
-    through-low (a .args .p .now) (a .args .l .now) (a .args .a) (a .args .b) (w3 .wide3 .result) (w4 .wide4 .result) (w1 .before .before .if1 .left) (w1 .before .if2 .left)
+    through-low (a .args .p .now) (a .args .l .now) (a .args .a) (a .args .b) (w3 .wide3 .result) (w4 .wide4 .result) (w1 .before .before .if1 .left)
+    (w1 .before .if2 .left)
     (cc) (cc) (omega arith)
 
 returns-4 : tie.Need-returns-4
@@ -61,7 +62,8 @@ returns-4 c =
     let w2 = w3 .before .before in
     let w1 = w2 .before in
     let a = w1 .before .before .before in
-    through-high (a .args .p .now) (a .args .l .now) (a .args .a) (a .args .b) (w3 .wide3 .result) (w4 .wide4 .result) (w1 .before .before .if1 .left) (w1 .before .if2 .left)
+    through-high (a .args .p .now) (a .args .l .now) (a .args .a) (a .args .b) (w3 .wide3 .result) (w4 .wide4 .result) (w1 .before .before .if1 .left)
+    (w1 .before .if2 .left)
     (cc) (cc) (omega arith)
 
 pub product-in-spec : {M : Type 1} → statement M

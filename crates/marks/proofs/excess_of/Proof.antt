@@ -6,8 +6,8 @@ use borrow.Author.Needs.{needs}
 use lib.ListN.{length}
 use Rattle.shape.specs.Laws.{word-of-good}
 use Rattle.code.specs.Marks.{excess}
-use Rattle.groups.specs.Lent.{Lent}
-use Rattle.groups.specs.LentLaws.{lent, end-fits, part-narrow}
+use Rattle.code.specs.Lent.{Lent}
+use Rattle.code.specs.LentLaws.{lent, end-fits, part-narrow}
 use Rattle.marks.specs.CountsLaws.{excess-none, excess-turn, lost-most}
 use Rattle.marks.proofs.excess_of.Statement.{statement}
 use Rattle.marks.proofs.excess_of.Tie as tie

@@ -1,5 +1,5 @@
 use Rattle.byte_edition.specs.EditionLaws.{bytes-sound}
-use Rattle.order.specs.ServiceLaws.{contract}
+use Rattle.order.specs.RepairOrderLaws.{contract}
 use borrow.Author.Needs.{needs}
 use Rattle.order.proofs.repair_then_recover.Statement.{statement}
 use Rattle.order.proofs.repair_then_recover.Tie as tie

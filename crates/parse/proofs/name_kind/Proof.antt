@@ -37,14 +37,24 @@ unfolding nameKind
 returns-3 c =
     let t = c .before .before .before in
     let o = t .before .before .before in
-    simp (sym (o .before .is-same .ensures) ∙ o .if1 .left, sym (t .before .is-same2 .ensures) ∙ t .if2 .left, sym (c .before .is-same3 .ensures) ∙ c .if3 .taken)
+    simp (
+      sym (o .before .is-same .ensures) ∙ o .if1 .left,
+      sym (t .before .is-same2 .ensures) ∙ t .if2 .left,
+      sym (c .before .is-same3 .ensures)
+          ∙ c .if3 .taken,
+    )
 
 returns-4 : tie.Need-returns-4
 unfolding nameKind
 returns-4 c =
     let t = c .before .before .before in
     let o = t .before .before .before in
-    simp (sym (o .before .is-same .ensures) ∙ o .if1 .left, sym (t .before .is-same2 .ensures) ∙ t .if2 .left, sym (c .before .is-same3 .ensures) ∙ c .if3 .left)
+    simp (
+      sym (o .before .is-same .ensures) ∙ o .if1 .left,
+      sym (t .before .is-same2 .ensures) ∙ t .if2 .left,
+      sym (c .before .is-same3 .ensures)
+          ∙ c .if3 .left,
+    )
 
 pub name-kind-spec : {M : Type 1} → statement M
 name-kind-spec =

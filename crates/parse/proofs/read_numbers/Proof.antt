@@ -50,7 +50,8 @@ returns-2 c =
     let n = u .before in
     let f = n .before .before in
     let a = f .before .before .before .before .args in
-    let e = numbers-read (a .line .now) (omega arith) (f .part-end .result) (f .part-end .ensures .0) (a .name .now) _ _ (n .is-same .ensures) (u .all-under .ensures) in
+    let e = numbers-read (a .line .now) (omega arith) (f .part-end .result) (f .part-end .ensures .0) (a .name .now) _ _ (n .is-same .ensures)
+    (u .all-under .ensures) in
     let v = w .write-values .ensures in
     (both-hold _ _ (c .if2 .taken) ∙ e, λ _. holds-numbers (a .line .now) (omega arith) (f .part-end .result) (f .part-end .ensures .0) _ (v .0) (v .1 .0))
 
@@ -61,7 +62,8 @@ returns-3 c =
     let n = u .before in
     let f = n .before .before in
     let a = f .before .before .before .before .args in
-    let e = numbers-read (a .line .now) (omega arith) (f .part-end .result) (f .part-end .ensures .0) (a .name .now) _ _ (n .is-same .ensures) (u .all-under .ensures) in
+    let e = numbers-read (a .line .now) (omega arith) (f .part-end .result) (f .part-end .ensures .0) (a .name .now) _ _ (n .is-same .ensures)
+    (u .all-under .ensures) in
     (first-fails _ _ (c .if2 .left) ∙ e, λ z. never (sym (c .if2 .left) ∙ z))
 
 pub read-numbers-spec : {M : Type 1} → statement M

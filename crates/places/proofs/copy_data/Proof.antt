@@ -40,7 +40,8 @@ slice-write-bytes c =
     let s = c .before .before .before .before in
     let a = s .before .before .before .args in
     let k = c .before .before .is-check in
-    let o = ap length (others-data (isCheck (a .m) (a .w) (a .c)) (s .loop .p) (length (a .word .now)) (omega arith) (sym (k .ensures) ∙ not-true (k .result) (c .before .if1 .taken))) in
+    let o = ap length (others-data (isCheck (a .m) (a .w) (a .c)) (s .loop .p) (length (a .word .now)) (omega arith)
+    (sym (k .ensures) ∙ not-true (k .result) (c .before .if1 .taken))) in
     omega arith
 
 add-i : tie.Need-add-i Inv-loop μ-loop

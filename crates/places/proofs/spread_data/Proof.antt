@@ -17,7 +17,8 @@ use Rattle.places.proofs.spread_part.Reads as spread-part-reads
 
 abbrev Inv-loop : tie.InvT-loop
 Inv-loop m w c bytes word₀ i₀ g₀ word i g =
-    (g ≤ m) × (length word ≡ m * w) × (g < m → i ≡ g * (w - c)) × (take (g * w) word ++ spreadFrom (isCheck m w c) (g * w) ((m - g) * w) (drop i bytes) ≡ placedOf m w c bytes)
+    (g ≤ m) × (length word ≡ m * w) × (g < m → i ≡ g * (w - c)) × (take (g * w) word ++ spreadFrom (isCheck m w c) (g * w) ((m - g) * w) (drop i bytes)
+    ≡ placedOf m w c bytes)
 
 abbrev μ-loop : tie.MeasureT-loop
 μ-loop m w c bytes word₀ i₀ g₀ word i g = m - g
@@ -115,11 +116,13 @@ loop-again c =
     let z : i + n - i ≡ n = omega arith in
     let own : length (take (i + n - i) (drop i bytes)) ≡ n = (let j = length-drop i bytes in length-take-le (i + n - i) (drop i bytes) (omega arith) ∙ z) in
     let e : p .spread-part .last .1 .0 ≡ take n (drop i bytes) ++ replicate (a .w - n) 0 =
-    p .spread-part .ensures ∙ ap₂ (λ u v. take (i + n - i) (drop i bytes) ++ replicate (u - v) 0) k own ∙ ap (λ u. take u (drop i bytes) ++ replicate (a .w - n) 0) z in (
+    p .spread-part .ensures ∙ ap₂ (λ u v. take (i + n - i) (drop i bytes) ++ replicate (u - v) 0) k own
+    ∙ ap (λ u. take u (drop i bytes) ++ replicate (a .w - n) 0) z in (
       omega arith,
       search needs,
       λ l. (let u = data-next (b .pre .0) g (t .loop-test .taken) l in omega arith),
-      spread-turn (a .m) (a .w) g (t .loop-test .taken) (a .c) n R x (p .spread-part .last .1 .0) (drop (g * a .w + a .w - g * a .w) (drop (g * a .w) x)) (s .loop .inv .1)
+      spread-turn (a .m) (a .w) g (t .loop-test .taken) (a .c) n R x (p .spread-part .last .1 .0) (drop (g * a .w + a .w - g * a .w) (drop (g * a .w) x))
+          (s .loop .inv .1)
           bytes i room e
           ∙ s .loop .inv .3,
     )

@@ -80,7 +80,8 @@ loop-again c =
     let e : p .mark-part .last .1 .0 ≡ replicate n 0 ++ replicate (a .w - n) 1 = p .mark-part .ensures ∙ ap (λ q. replicate n 0 ++ replicate (q - n) 1) k in (
       omega arith,
       search needs,
-      marks-turn (a .m) (a .w) g (t .loop-test .taken) (a .c) n R x (p .mark-part .last .1 .0) (drop (g * a .w + a .w - g * a .w) (drop (g * a .w) x)) (s .loop .inv .1) e
+      marks-turn (a .m) (a .w) g (t .loop-test .taken) (a .c) n R x (p .mark-part .last .1 .0) (drop (g * a .w + a .w - g * a .w) (drop (g * a .w) x))
+          (s .loop .inv .1) e
           ∙ s .loop .inv .2,
     )
 

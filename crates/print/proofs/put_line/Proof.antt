@@ -19,8 +19,10 @@ slice-write-out c =
     let a = c .before .before .before .before .before .before .before .before .before .before .before in
     let n = c .before .before .before .before .before .before .put-text in
     let u = c .before .before .put-numbers in
-    let r = line-room (a .args .out .now) (a .args .name .now) (a .args .numbers .now) (n .last .0) (u .last .0) (n .result) (u .result) (a .pre) (n .ensures .0) (n .ensures .1) (u .ensures .0) (u .ensures .1) in
-    let s = line-same (a .args .out .now) (a .args .name .now) (a .args .numbers .now) (n .last .0) (u .last .0) (n .result) (u .result) (a .pre) (n .ensures .0) (n .ensures .1) (u .ensures .0) (u .ensures .1) in
+    let r = line-room (a .args .out .now) (a .args .name .now) (a .args .numbers .now) (n .last .0) (u .last .0) (n .result) (u .result) (a .pre)
+    (n .ensures .0) (n .ensures .1) (u .ensures .0) (u .ensures .1) in
+    let s = line-same (a .args .out .now) (a .args .name .now) (a .args .numbers .now) (n .last .0) (u .last .0) (n .result) (u .result) (a .pre)
+    (n .ensures .0) (n .ensures .1) (u .ensures .0) (u .ensures .1) in
     omega arith
 
 add-result : tie.Need-add-result
@@ -28,7 +30,8 @@ add-result c =
     let a = c .before .before .before .before .before .before .before .before .before .before .before in
     let n = c .before .before .before .before .before .before .put-text in
     let u = c .before .before .put-numbers in
-    let r = line-room (a .args .out .now) (a .args .name .now) (a .args .numbers .now) (n .last .0) (u .last .0) (n .result) (u .result) (a .pre) (n .ensures .0) (n .ensures .1) (u .ensures .0) (u .ensures .1) in
+    let r = line-room (a .args .out .now) (a .args .name .now) (a .args .numbers .now) (n .last .0) (u .last .0) (n .result) (u .result) (a .pre)
+    (n .ensures .0) (n .ensures .1) (u .ensures .0) (u .ensures .1) in
     search needs
 
 same-length : tie.Need-same-length
@@ -36,14 +39,16 @@ same-length c =
     let a = c .before .before .before .before .before .before .before .before .before .before .before in
     let n = c .before .before .before .before .before .before .put-text in
     let u = c .before .before .put-numbers in
-    simp length-set (line-same (a .args .out .now) (a .args .name .now) (a .args .numbers .now) (n .last .0) (u .last .0) (n .result) (u .result) (a .pre) (n .ensures .0) (n .ensures .1) (u .ensures .0) (u .ensures .1))
+    simp length-set (line-same (a .args .out .now) (a .args .name .now) (a .args .numbers .now) (n .last .0) (u .last .0) (n .result) (u .result) (a .pre)
+    (n .ensures .0) (n .ensures .1) (u .ensures .0) (u .ensures .1))
 
 returns : tie.Need-returns
 returns c =
     let a = c .before .before .before .before .before .before .before .before .before .before .before in
     let n = c .before .before .before .before .before .before .put-text in
     let u = c .before .before .put-numbers in
-    let s = line-step (a .args .out .now) (a .args .name .now) (a .args .numbers .now) (n .last .0) (u .last .0) (n .result) (u .result) (a .pre) (n .ensures .0) (n .ensures .1) (u .ensures .0) (u .ensures .1) in
+    let s = line-step (a .args .out .now) (a .args .name .now) (a .args .numbers .now) (n .last .0) (u .last .0) (n .result) (u .result) (a .pre)
+    (n .ensures .0) (n .ensures .1) (u .ensures .0) (u .ensures .1) in
     (s .0, (s .1, s .2))
 
 pub put-line-spec : {M : Type 1} → statement M

@@ -42,7 +42,8 @@ same-length c =
     let s = c .before .before .before .before .before .before .put-number in
     let f = c .before .before .before .before .before .before .before .before .before .before .put-text in
     let t = c .before .before .before .before .before .before .before .before .before .before .before .before .before .before in
-    simp length-set (nine-feed (t .args .out .now) (f .last .0) (s .last .0) (n .last .0) (f .result) (s .result) (n .result) (t .args .word) (t .args .group) (t .pre)
+    simp length-set (nine-feed (t .args .out .now) (f .last .0) (s .last .0) (n .last .0) (f .result) (s .result) (n .result) (t .args .word) (t .args .group)
+    (t .pre)
     (f .ensures .0) (f .ensures .1) (s .ensures .0) (s .ensures .1) (n .ensures .0) (n .ensures .1) .1)
 
 returns : tie.Need-returns

@@ -43,7 +43,8 @@ loop-again c =
     let a = c .before .before .before .before .before .before .before .before .before .args in
     let p = c .before .before .put-number in
     let d = c .before .before .before .shared-slice-known2 .given (l .i) in
-    let s = numbers-step (a .out .now) (l .out) (p .last .0) (a .numbers .now) (a .at) (l .next) (l .i) (omega arith) (omega arith) (omega arith) (l .inv .2) (l .inv .3) (p .result) (p .ensures .0) (p .ensures .1) in
+    let s = numbers-step (a .out .now) (l .out) (p .last .0) (a .numbers .now) (a .at) (l .next) (l .i) (omega arith) (omega arith) (omega arith) (l .inv .2)
+    (l .inv .3) (p .result) (p .ensures .0) (p .ensures .1) in
     (omega arith, s .2, s .0, s .1)
 
 same-length : tie.Need-same-length Inv-loop μ-loop

@@ -6,7 +6,7 @@ use Rattle.marks.specs.Refusal.{Marked, marksRefusal}
 use Rattle.marks.specs.RefusalLaws.{good-of-marks}
 use Rattle.profile.specs.declared.Profiled.{Profiled}
 use Rattle.profile.specs.Profile.{shownSet}
-use Rattle.profile.specs.Answer.{profiledNumberOf, profiledAt, profiledOf, profiledNumber}
+use Rattle.profile.specs.Profiled.{profiledNumberOf, profiledAt, profiledOf, profiledNumber}
 use Rattle.profile.specs.Search.{foundAt}
 use Rattle.profile.specs.SearchLaws.{search-shown}
 use Rattle.profile.specs.Laws.{profiled-refused, profiled-number, answered-set, answered-none}

@@ -7,7 +7,7 @@ use lib.ListN.{length, take, drop, drop-of-length-le}
 use lib.Seq.{take-all, length-take-le}
 use borrow.Author.Tests.{not-true, not-false}
 use Rattle.shape.specs.Shapes.{Good}
-use Rattle.groups.specs.LentLaws.{end-fits}
+use Rattle.code.specs.LentLaws.{end-fits}
 use Rattle.syndrome.specs.declared.Tested.{Tested}
 use Rattle.recover.specs.Attempt.{Attempt}
 use Rattle.recover.specs.AttemptLaws.{attempt-done, attempt-failed}

@@ -9,7 +9,7 @@ use Rattle.recover.specs.AttemptLaws.{accepted, recover-most, service-re
 use borrow.Author.Needs.{needs}
 use Rattle.recover.proofs.recover.Statement.{statement}
 use Rattle.byte_edition.specs.EditionLaws.{bytes-sound}
-use Rattle.byte_edition.specs.Edition.{bytes}
+use Rattle.byte_edition.specs.Edition.{byteEdition}
 use Rattle.recover.proofs.recover.Tie as tie
 
 refusal-requires : tie.Need-refusal-requires
@@ -25,10 +25,13 @@ returns : tie.Need-returns
 returns c =
     let r = c .before in
     let a = r .before .before .before .before .before in
-    let e = service-refused bytes (a .args .m) (a .args .w) (a .args .c) (a .args .word .now) (a .args .marks .now) (r .refusal .result) (r .refusal .ensures) (c .if1 .taken) in
+    let e = service-refused byteEdition (a .args .m) (a .args .w) (a .args .c) (a .args .word .now) (a .args .marks .now) (r .refusal .result)
+    (r .refusal .ensures) (c .if1 .taken) in
     let few = recover-most (a .args .m) (a .args .w) (a .args .c) (a .args .word .now) (a .args .marks .now) in
-    let n : r .refusal .result ≡ 9 → ⊥ = (λ z. let k = r .refusal .ensures in omega arith) in
-    (sym (mending-refused (r .refusal .result) 0 (c .if1 .taken) n) ∙ ap (λ o. mendingAt (o .number) (o .group)) (sym e), (ap (λ o. o .word) (sym e), ap (λ o. o .marks) (sym e)))
+    let n : r .refusal .result ≡ 9 → ⊥ = (λ z. let k = r .refusal .ensures in omega arith) in (
+      sym (mending-refused (r .refusal .result) 0 (c .if1 .taken) n) ∙ ap (λ o. mendingAt (o .number) (o .group)) (sym e),
+      (ap (λ o. o .word) (sym e), ap (λ o. o .marks) (sym e)),
+    )
 
 -- past the first test the shape is good, and word and marks have its length
 fair : (t : tie.Else1) → let a = t .before .before .before .before .before .before .args in Accepted (a .m) (a .w) (a .c) (a .word .now) (a .marks .now)
@@ -53,11 +56,13 @@ returns-2 c =
     let k = t .before .before .before .before .before in
     let a = k .before .args in
     let h = x .excess-of .ensures .0 (fair t .good) (fair t .marks-size) in
-    let e = service-eight bytes-sound (a .m) (a .w) (a .c) (a .word .now) (a .marks .now) (fair t) (λ p. k .slice-known .given p .fits) (rw (← h) (c .if2 .taken)) in
+    let e = service-eight bytes-sound (a .m) (a .w) (a .c) (a .word .now) (a .marks .now) (fair t) (λ p. k .slice-known .given p .fits)
+    (rw (← h) (c .if2 .taken)) in
     (ap (λ o. mendingAt (o .number) (o .group)) (sym e), (ap (λ o. o .word) (sym e), ap (λ o. o .marks) (sym e)))
 
 -- past the second test the excess is at most two
-low : (t : tie.Else2) → let a = t .before .before .before .before .before .before .before .before .before .args in excess (a .m) (a .w) (a .c) (a .marks .now) ≤ 2
+low : (t : tie.Else2) → let a = t .before .before .before .before .before .before .before .before .before .args in
+    excess (a .m) (a .w) (a .c) (a .marks .now) ≤ 2
 low t =
     let A = fair (t .before .before .before) in
     let h = t .before .excess-of .ensures .0 (A .good) (A .marks-size) in

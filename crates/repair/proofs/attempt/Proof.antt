@@ -4,12 +4,12 @@ use native.Mathlib.Omega.{arith}
 use borrow.Author.Tests.{not-true, not-false}
 use Prim.Native.Nat.{_≤_}
 use lib.ListN.{length}
-use Rattle.byte_edition.specs.Edition.{bytes}
+use Rattle.byte_edition.specs.Edition.{byteEdition}
 use Rattle.code.specs.Word.{isLocal}
 use Rattle.fill.specs.Filled.{Filled}
-use Rattle.repair.specs.Service.{PartAttempt}
+use Rattle.repair.specs.Repair.{PartAttempt}
 use Rattle.byte_edition.specs.EditionLaws.{bytes-sound}
-use Rattle.repair.specs.ServiceLaws.{part-done, part-failed}
+use Rattle.repair.specs.RepairLaws.{part-done, part-failed}
 use borrow.Author.Needs.{needs}
 use Rattle.repair.proofs.attempt.Statement.{statement}
 use Rattle.repair.proofs.attempt.Tie as tie
@@ -43,7 +43,8 @@ returns c =
     let s = cp .before .before .before .before .before in
     let a = s .before in
     let p = a .pre in
-    part-failed bytes-sound (length (a .args .part .now)) (a .args .c) (p .0) (p .1 .0) (p .1 .1 .0) (a .args .marks .now) (a .args .part .now) _ _ refl (p .1 .1 .1 .0)
+    part-failed bytes-sound (length (a .args .part .now)) (a .args .c) (p .0) (p .1 .0) (p .1 .1 .0) (a .args .marks .now) (a .args .part .now) _ _ refl
+    (p .1 .1 .1 .0)
     (λ i. s .slice-known .given i .fits) (λ i. k .slice-known4 .given i .fits) (p .1 .1 .1 .1 .1)
     (cp .copy .ensures .0 (sym (p .1 .1 .1 .1 .0))) (f .fill .ensures) _ (z .local-zero .ensures .0) (not-true _ (c .if1 .taken))
 
@@ -67,7 +68,8 @@ returns-2 c =
     let s = cp .before .before .before .before .before in
     let a = s .before in
     let p = a .pre in
-    part-done bytes-sound (length (a .args .part .now)) (a .args .c) (p .0) (p .1 .0) (p .1 .1 .0) (a .args .marks .now) (a .args .part .now) _ _ refl (p .1 .1 .1 .0)
+    part-done bytes-sound (length (a .args .part .now)) (a .args .c) (p .0) (p .1 .0) (p .1 .1 .0) (a .args .marks .now) (a .args .part .now) _ _ refl
+    (p .1 .1 .1 .0)
     (λ i. s .slice-known .given i .fits) (λ i. k .slice-known4 .given i .fits) (p .1 .1 .1 .1 .1)
     (cp .copy .ensures .0 (sym (p .1 .1 .1 .1 .0))) (f .fill .ensures) _ (z .local-zero .ensures .0) _ (not-false _ (e .if1 .left)) (cp2 .copy2 .ensures .0)
 

@@ -6,12 +6,12 @@ use Rattle.shape.specs.Answers.{mendingAt}
 use Rattle.shape.specs.AnswersLaws.{mending-refused}
 use Rattle.shape.specs.Shapes.{byteLimits}
 use Rattle.shape.specs.Laws.{places-most}
-use Rattle.byte_edition.specs.Edition.{bytes}
-use Rattle.groups.specs.Lent.{Lent}
-use Rattle.groups.specs.LentLaws.{end-fits, part-length, part-narrow}
+use Rattle.byte_edition.specs.Edition.{byteEdition}
+use Rattle.code.specs.Lent.{Lent}
+use Rattle.code.specs.LentLaws.{end-fits, part-length, part-narrow}
 use Rattle.recover.specs.Attempt.{Accepted}
 use Rattle.recover.specs.AttemptLaws.{accepted, recover-most}
-use Rattle.repair.specs.ServiceLaws.{service-refused, refused-early, refused-seven, service-lent}
+use Rattle.repair.specs.RepairLaws.{service-refused, refused-early, refused-seven, service-lent}
 use borrow.Author.Needs.{needs}
 use Rattle.repair.proofs.repair.Statement.{statement}
 use Rattle.repair.proofs.repair.Tie as tie
@@ -34,7 +34,7 @@ returns c =
     let r = c .before in
     let a = r .before .before .before .before .before .args in
     let n = r .refusal .result in
-    let e = service-refused bytes (a .m) (a .w) (a .c) (a .g) (a .word .now) (a .marks .now) n
+    let e = service-refused byteEdition (a .m) (a .w) (a .c) (a .g) (a .word .now) (a .marks .now) n
     (refused-early byteLimits (a .m) (a .w) (a .c) (a .g) (a .word .now) (a .marks .now) n (r .refusal .ensures) (c .if1 .taken)) (c .if1 .taken) in
     let few = recover-most (a .m) (a .w) (a .c) (a .word .now) (a .marks .now) in
     let k : n ≡ 9 → ⊥ = (λ z. let h = r .refusal .ensures in omega arith) in
@@ -57,16 +57,20 @@ returns-2 : tie.Need-returns-2
 returns-2 c =
     let t = c .before in
     let a = t .before .before .before .before .before .before .args in
-    let e = service-refused bytes (a .m) (a .w) (a .c) (a .g) (a .word .now) (a .marks .now) 7
+    let e = service-refused byteEdition (a .m) (a .w) (a .c) (a .g) (a .word .now) (a .marks .now) 7
     (refused-seven byteLimits (a .m) (a .w) (a .c) (a .g) (a .word .now) (a .marks .now) (fair t .refusal) (c .if2 .taken)) (λ z. omega arith) in
     (ap (λ o. mendingAt (o .number) (o .group)) (sym e), (ap (λ o. o .word) (sym e), ap (λ o. o .marks) (sym e)))
 
 -- past the second test the group's part lies within the word, and within the marks
-fits : (t : tie.Else2) → let a = t .before .before .before .before .before .before .before .args in (a .g * a .w + a .w ≤ length (a .word .now)) × (a .g * a .w + a .w ≤ length (a .marks .now))
+fits : (t : tie.Else2) → let a = t .before .before .before .before .before .before .before .args in (a .g * a .w + a .w ≤ length (a .word .now))
+    × (a .g * a .w + a .w ≤ length (a .marks .now))
 fits t =
     let a = t .before .before .before .before .before .before .before .args in
-    let A = fair (t .before) in
-    (end-fits {xs = a .word .now} (record { good = A .good; size = A .word-size }) (a .g) (omega arith), end-fits {xs = a .marks .now} (record { good = A .good; size = A .marks-size }) (a .g) (omega arith))
+    let A = fair (t .before) in (
+      end-fits {xs = a .word .now} (record { good = A .good; size = A .word-size }) (a .g) (omega arith),
+      end-fits {xs = a .marks .now}
+          (record { good = A .good; size = A .marks-size }) (a .g) (omega arith),
+    )
 
 mul-a : tie.Need-mul-a
 mul-a c = omega (arith, places-most (fair (c .before) .good), fair (c .before) .word-size, fits c .0)
@@ -117,7 +121,7 @@ returns-3 c =
     let u = t .before .before .before .before in
     let a = u .before .before .before .before .before .before .args in
     let E = t .repair-part .ensures in
-    service-lent bytes (a .m) (a .w) (a .c) (a .g) (a .word .now) (a .marks .now) (fair u) (omega arith) _ _ _ (E .0) (E .1 .0) (E .1 .1)
+    service-lent byteEdition (a .m) (a .w) (a .c) (a .g) (a .word .now) (a .marks .now) (fair u) (omega arith) _ _ _ (E .0) (E .1 .0) (E .1 .1)
 
 pub repair-spec : {M : Type 1} → statement M
 repair-spec =

@@ -67,7 +67,8 @@ returns-4 : tie.Need-returns-4
 returns-4 c =
     let p = c .before .before .before .before .before .before .before .parse in
     let n = c .before .before .before .before .before .before .if1 .left in
-    turn-data _ _ _ _ _ (p .result) (p .ensures .0) n (p .ensures .1) (c .before .before .before .before .if2 .left) (c .before .before .before .if3 .left) (c .before .before .if4 .taken) (c .answer-data .ensures)
+    turn-data _ _ _ _ _ (p .result) (p .ensures .0) n (p .ensures .1) (c .before .before .before .before .if2 .left) (c .before .before .before .if3 .left)
+    (c .before .before .if4 .taken) (c .answer-data .ensures)
 
 array-borrow-prefix-bytes : tie.Need-array-borrow-prefix-bytes
 array-borrow-prefix-bytes c =
@@ -94,7 +95,9 @@ returns-5 : tie.Need-returns-5
 returns-5 c =
     let p = c .before .before .before .before .before .before .before .before .before .before .before .parse in
     let n = c .before .before .before .before .before .before .before .before .before .before .if1 .left in
-    turn-word _ _ _ _ _ (p .result) (p .ensures .0) n (p .ensures .1) (c .before .before .before .before .before .before .before .before .if2 .left) (c .before .before .before .before .before .before .before .if3 .left) (c .before .before .before .before .before .before .if4 .left) (c .before .before .answer-word .ensures)
+    turn-word _ _ _ _ _ (p .result) (p .ensures .0) n (p .ensures .1) (c .before .before .before .before .before .before .before .before .if2 .left)
+    (c .before .before .before .before .before .before .before .if3 .left) (c .before .before .before .before .before .before .if4 .left)
+    (c .before .before .answer-word .ensures)
 
 pub answer-spec : {M : Type 1} → statement M
 answer-spec =

@@ -21,7 +21,8 @@ reply-word-requires : tie.Need-reply-word-requires
 reply-word-requires c κs =
     let s = c .before .before .before .before .before in
     let a = c .before .before .before .before .before .before .before .before .before in
-    let h = data-most (a .args .bytes .now) (a .args .word .now) (a .args .m) (a .args .w) (a .args .c) (sym (s .encode .ensures .0) ∙ c .before .enum-told .given .1) in
+    let h = data-most (a .args .bytes .now) (a .args .word .now) (a .args .m) (a .args .w) (a .args .c)
+    (sym (s .encode .ensures .0) ∙ c .before .enum-told .given .1) in
     omega arith
 
 same-length : tie.Need-same-length
@@ -30,7 +31,8 @@ same-length c = search needs
 returns : tie.Need-returns
 returns c =
     let s = c .before .before .before .before .before .before in
-    data-refused _ _ _ _ _ _ (c .before .before .before .before .before .before .before .before .before .before .pre) _ (sym (s .encode .ensures .0) ∙ c .before .before .r .given .1) (c .refuse .ensures)
+    data-refused _ _ _ _ _ _ (c .before .before .before .before .before .before .before .before .before .before .pre) _
+    (sym (s .encode .ensures .0) ∙ c .before .before .r .given .1) (c .refuse .ensures)
 
 same-length-2 : tie.Need-same-length-2
 same-length-2 c = search needs
@@ -38,7 +40,8 @@ same-length-2 c = search needs
 returns-2 : tie.Need-returns-2
 returns-2 c =
     let s = c .before .before .before .before .before .before in
-    data-done _ _ _ _ _ _ (c .before .before .before .before .before .before .before .before .before .before .pre) _ (sym (s .encode .ensures .0) ∙ c .before .before .enum-told .given .1) (s .encode .ensures .1 .1) (c .reply-word .ensures)
+    data-done _ _ _ _ _ _ (c .before .before .before .before .before .before .before .before .before .before .pre) _
+    (sym (s .encode .ensures .0) ∙ c .before .before .enum-told .given .1) (s .encode .ensures .1 .1) (c .reply-word .ensures)
 
 pub encode-in-spec : {M : Type 1} → statement M
 encode-in-spec =

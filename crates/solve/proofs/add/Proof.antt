@@ -46,8 +46,12 @@ loop-again c =
     let a = s .before .before .before .args in
     let x : List ℕ = s .loop .row in
     let i : ℕ = s .loop .c in
-    let y : List ℕ = a .b .now in
-    (omega arith, simp length-set (omega arith), cc (added-step 8 285 (a .f) x y i (c .shifted-product .result) (omega arith) (omega arith) (cc (product-comm 8 285 (getD y i 0) (a .f)))))
+    let y : List ℕ = a .b .now in (
+      omega arith,
+      simp length-set (omega arith),
+      cc (added-step 8 285 (a .f) x y i (c .shifted-product .result) (omega arith) (omega arith)
+          (cc (product-comm 8 285 (getD y i 0) (a .f)))),
+    )
 
 same-length : tie.Need-same-length Inv-loop μ-loop
 same-length c = omega arith

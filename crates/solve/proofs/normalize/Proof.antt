@@ -3,7 +3,7 @@ use mathlib.Core.List.{List}
 use Prim.Native.Nat.{ℕ}
 use native.Mathlib.Omega.{arith}
 use lib.Dec.{lit<}
-use Rattle.groups.specs.LentLaws.{stretch-lent, with-lent}
+use Rattle.code.specs.LentLaws.{stretch-lent, with-lent}
 use Rattle.solve.specs.Flat.{rowsOf}
 use Rattle.solve.proofs.Laws.{normalize-row, normalize-one}
 use borrow.Author.Needs.{needs}

@@ -5,7 +5,7 @@ use native.Mathlib.Omega.{arith}
 use lib.ListN.{length, set}
 use Rattle.code.specs.Stretch.{stretch}
 use Rattle.code.specs.StretchLaws.{stretch-length}
-use Rattle.groups.specs.LentLaws.{stretch-lent, with-lent}
+use Rattle.code.specs.LentLaws.{stretch-lent, with-lent}
 use Rattle.solve.specs.Flat.{rowsOf}
 use Rattle.solve.specs.FlatLaws.{rows-with}
 use borrow.Author.Needs.{needs}

@@ -5,7 +5,7 @@ use native.Mathlib.Omega.{arith}
 use lib.ListN.{length}
 use Rattle.code.specs.Stretch.{stretch}
 use Rattle.code.specs.StretchLaws.{stretch-length}
-use Rattle.groups.specs.LentLaws.{stretch-lent}
+use Rattle.code.specs.LentLaws.{stretch-lent}
 use Rattle.solve.specs.FlatLaws.{row-of}
 use borrow.Author.Needs.{needs}
 use Rattle.solve.proofs.row_at.Statement.{statement}

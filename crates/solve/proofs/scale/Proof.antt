@@ -42,8 +42,12 @@ loop-again c =
     let s = c .before .before .before in
     let a = s .before .before .args in
     let x : List ℕ = s .loop .row in
-    let i : ℕ = s .loop .c in
-    (omega arith, simp length-set (omega arith), cc (scaled-step 8 285 (a .f) x i (c .shifted-product .result) (omega arith) (cc (product-comm 8 285 (getD x i 0) (a .f)))))
+    let i : ℕ = s .loop .c in (
+      omega arith,
+      simp length-set (omega arith),
+      cc (scaled-step 8 285 (a .f) x i (c .shifted-product .result) (omega arith)
+          (cc (product-comm 8 285 (getD x i 0) (a .f)))),
+    )
 
 same-length : tie.Need-same-length Inv-loop μ-loop
 same-length c = omega arith

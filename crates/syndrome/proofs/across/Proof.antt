@@ -10,18 +10,18 @@ use Rattle.binary_field.specs.Product.{double, product}
 use Rattle.binary_field.specs.Power.{power}
 use Rattle.binary_field.specs.PowerLaws.{power-zero}
 use Rattle.gf256.specs.BytesLaws.{power-next}
-use Rattle.byte_edition.specs.Edition.{bytes}
-use Rattle.code.specs.Word.{coefficient, twisted, firstAcross, secondAcross}
-use Rattle.groups.specs.Lent.{Lent}
-use Rattle.groups.specs.LentLaws.{lent, end-fits, part-narrow}
+use Rattle.byte_edition.specs.Edition.{byteEdition}
+use Rattle.code.specs.Word.{coefficient, secondCoefficient, firstAcross, secondAcross}
+use Rattle.code.specs.Lent.{Lent}
+use Rattle.code.specs.LentLaws.{lent, end-fits, part-narrow}
 use Rattle.syndrome.specs.Across.{acrossOf}
-use Rattle.syndrome.specs.PartsLaws.{word-none, sum-turn, twisted-group}
+use Rattle.syndrome.specs.PartsLaws.{word-none, sum-turn, second-coefficient-group}
 use Rattle.syndrome.proofs.across.Statement.{statement}
 use Rattle.syndrome.proofs.across.Tie as tie
 
 abbrev Inv-loop : tie.InvT-loop
 Inv-loop m w c word first₀ second₀ factor₀ g₀ first second factor g =
-    Lent m w c word × (g ≤ m) × (first ≡ firstAcross bytes g w c word) × (second ≡ secondAcross bytes g w c word) × (factor ≡ power 8 285 2 g)
+    Lent m w c word × (g ≤ m) × (first ≡ firstAcross byteEdition g w c word) × (second ≡ secondAcross byteEdition g w c word) × (factor ≡ power 8 285 2 g)
 
 abbrev μ-loop : tie.MeasureT-loop
 μ-loop m w c word first₀ second₀ factor₀ g₀ first second factor g = m - g
@@ -39,8 +39,8 @@ loop-holds c =
     let a = c .before .before .before .args in (
       lent (a .m) (a .w) (a .c) (a .word .now) (sym (c .before .word-refusal .ensures) ∙ c .if1 .left),
       omega arith,
-      sym (word-none bytes (a .w) (a .word .now) (λ _. coefficient bytes (a .c))),
-      sym (word-none bytes (a .w) (a .word .now) (twisted bytes (a .c))),
+      sym (word-none byteEdition (a .w) (a .word .now) (λ _. coefficient byteEdition (a .c))),
+      sym (word-none byteEdition (a .w) (a .word .now) (secondCoefficient byteEdition (a .c))),
       sym (power-zero 8 285 2),
     )
 
@@ -90,10 +90,10 @@ loop-again c =
     let p : List ℕ = take (g * a .w + a .w - g * a .w) (drop (g * a .w) (a .word .now)) in (
       L,
       omega arith,
-      sum-turn bytes L g l refl (λ _. coefficient bytes (a .c)) _ _ (s .loop .inv .2) (ap (λ s. s .first) (q .padded-sums .ensures)),
-      sum-turn bytes L g l refl (twisted bytes (a .c)) _ _ (s .loop .inv .3)
+      sum-turn byteEdition L g l refl (λ _. coefficient byteEdition (a .c)) _ _ (s .loop .inv .2) (ap (λ s. s .first) (q .padded-sums .ensures)),
+      sum-turn byteEdition L g l refl (secondCoefficient byteEdition (a .c)) _ _ (s .loop .inv .3)
           (c .before .shifted-product .ensures ∙ ap₂ (product 8 285) (s .loop .inv .4) (ap (λ s. s .second) (q .padded-sums .ensures))
-          ∙ twisted-group bytes (length p) (a .c) g p),
+          ∙ second-coefficient-group byteEdition (length p) (a .c) g p),
       c .double .ensures ∙ ap (double 8 285) (s .loop .inv .4) ∙ sym (power-next g) ∙ ap (power 8 285 2) (sym (add-one g)),
     )
 

@@ -6,17 +6,17 @@ use borrow.Author.Count.{below-none, below-more}
 use borrow.Author.Needs.{needs}
 use borrow.Author.Tests.{not-true, not-false}
 use lib.Dec.{T}
-use Rattle.byte_edition.specs.Edition.{bytes}
+use Rattle.byte_edition.specs.Edition.{byteEdition}
 use Rattle.code.specs.Word.{isLocal}
-use Rattle.groups.specs.Lent.{Lent}
-use Rattle.groups.specs.LentLaws.{end-fits, part-narrow}
+use Rattle.code.specs.Lent.{Lent}
+use Rattle.code.specs.LentLaws.{end-fits, part-narrow}
 use Rattle.syndrome.specs.PartsLaws.{part-local}
 use Rattle.syndrome.specs.TestsLaws.{broken-is, broken-none}
 use Rattle.syndrome.proofs.broken_group.Statement.{statement}
 use Rattle.syndrome.proofs.broken_group.Tie as tie
 
 abbrev Inv-loop : tie.InvT-loop
-Inv-loop m w c word g₀ g = Lent m w c word × (g ≤ m) × ((k : ℕ) → k < g → T (isLocal bytes w c word k))
+Inv-loop m w c word g₀ g = Lent m w c word × (g ≤ m) × ((k : ℕ) → k < g → T (isLocal byteEdition w c word k))
 
 abbrev μ-loop : tie.MeasureT-loop
 μ-loop m w c word g₀ g = m - g
@@ -44,20 +44,21 @@ local-zero-requires c κs = search needs
 
 -- what was tested is the group's own equations
 tested : (c : tie.After-local-zero Inv-loop μ-loop)
-    → c .local-zero .result ≡ isLocal bytes (c .before .before .before .before .before .args .w) (c .before .before .before .before .before .args .c)
+    → c .local-zero .result ≡ isLocal byteEdition (c .before .before .before .before .before .args .w) (c .before .before .before .before .before .args .c)
     (c .before .before .before .before .before .args .word .now) (c .before .before .before .loop .g)
 tested c =
     let t = c .before .before in
     let s = t .before in
     let L = s .loop .inv .0 in
     let n = part-narrow L (s .loop .g) (t .loop-test .taken) refl in
-    c .local-zero .ensures .0 n (L .good .few-checks) ∙ part-local bytes L (s .loop .g) (t .loop-test .taken) refl
+    c .local-zero .ensures .0 n (L .good .few-checks) ∙ part-local byteEdition L (s .loop .g) (t .loop-test .taken) refl
 
 returns : tie.Need-returns Inv-loop μ-loop
 returns c =
     let s = c .before .before .before .before in
     let a = s .before .before .args in
-    broken-is bytes (a .m) (a .w) (a .c) (a .word .now) (s .loop .g) (omega arith) (s .loop .inv .2) (sym (tested (c .before)) ∙ not-true _ (c .if1 .taken))
+    broken-is byteEdition (a .m) (a .w) (a .c) (a .word .now) (s .loop .g) (omega arith) (s .loop .inv .2)
+    (sym (tested (c .before)) ∙ not-true _ (c .if1 .taken))
 
 add-g : tie.Need-add-g Inv-loop μ-loop
 add-g c = omega arith
@@ -69,14 +70,14 @@ loop-again : tie.Need-loop-again Inv-loop μ-loop
 loop-again c =
     let s = c .before .before .before .before in
     let a = s .before .before .args in
-    let e : true ≡ isLocal bytes (a .w) (a .c) (a .word .now) (s .loop .g) = sym (not-false _ (c .if1 .left)) ∙ tested (c .before) in
-    (s .loop .inv .0, omega arith, below-more (λ k. T (isLocal bytes (a .w) (a .c) (a .word .now) k)) (s .loop .g) (s .loop .inv .2) (subst T e tt))
+    let e : true ≡ isLocal byteEdition (a .w) (a .c) (a .word .now) (s .loop .g) = sym (not-false _ (c .if1 .left)) ∙ tested (c .before) in
+    (s .loop .inv .0, omega arith, below-more (λ k. T (isLocal byteEdition (a .w) (a .c) (a .word .now) k)) (s .loop .g) (s .loop .inv .2) (subst T e tt))
 
 returns-2 : tie.Need-returns-2 Inv-loop μ-loop
 returns-2 c =
     let s = c .before in
     let a = s .before .before .args in
-    broken-none bytes (a .m) (a .w) (a .c) (a .word .now) (s .loop .g) (s .loop .inv .1) (omega arith) (s .loop .inv .2)
+    broken-none byteEdition (a .m) (a .w) (a .c) (a .word .now) (s .loop .g) (s .loop .inv .1) (omega arith) (s .loop .inv .2)
 
 pub broken-group-spec : {M : Type 1} → statement M
 broken-group-spec =

@@ -3,8 +3,8 @@ use native.Mathlib.Omega.{arith}
 use lib.ListN.{length}
 use borrow.Author.Tests.{not-true, not-false}
 use Rattle.binary_field.specs.Product.{product}
-use Rattle.byte_edition.specs.Edition.{bytes}
-use Rattle.syndrome.specs.PartsLaws.{twisted-group}
+use Rattle.byte_edition.specs.Edition.{byteEdition}
+use Rattle.syndrome.specs.PartsLaws.{second-coefficient-group}
 use borrow.Author.Needs.{needs}
 use Rattle.syndrome.proofs.group_sums.Statement.{statement}
 use Rattle.syndrome.proofs.group_sums.Tie as tie
@@ -45,7 +45,7 @@ returns-3 c =
       λ narrow some few _.
           ap₂ (λ x y. record { first = x; second = y }) (ap (λ s. s .first) (q .padded-sums .ensures))
           (c .shifted-product .ensures ∙ ap₂ (product 8 285) (c .before .power-of-two .ensures) (ap (λ s. s .second) (q .padded-sums .ensures))
-          ∙ twisted-group bytes (length p) (a .c) (a .g) p),
+          ∙ second-coefficient-group byteEdition (length p) (a .c) (a .g) p),
       λ n. absurd (n (r .0) (r .1) (r .2) (omega arith)),
     )
 

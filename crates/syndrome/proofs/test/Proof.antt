@@ -1,14 +1,13 @@
 use mathlib.Core.Path.{_≡_, refl, sym, ap, ap₂, _∙_}
-use mathlib.Core.Bool.{true, false}
+use mathlib.Core.Bool.{true, false, _&&_}
 use borrow.Author.Needs.{needs}
 use borrow.Author.Tests.{eq-eqb, ne-eqb}
 use lib.Dec.{eqb}
 use lib.ListN.{length}
-use Rattle.counting.specs.Test.{both}
 use Rattle.shape.specs.Laws.{word-of-good}
-use Rattle.groups.specs.Lent.{Lent}
-use Rattle.groups.specs.LentLaws.{lent}
-use Rattle.byte_edition.specs.Edition.{bytes}
+use Rattle.code.specs.Lent.{Lent}
+use Rattle.code.specs.LentLaws.{lent}
+use Rattle.byte_edition.specs.Edition.{byteEdition}
 use Rattle.code.specs.Word.{isCodeword}
 use Rattle.syndrome.specs.declared.Sums.{Sums}
 use Rattle.syndrome.specs.TestsLaws.{broken-other, across-decide}
@@ -34,22 +33,25 @@ returns-2 : tie.Need-returns-2
 returns-2 c =
     let b = c .before in
     let L = fair (b .before) in
-    let a = b .before .before .before .before .args in
-    (λ _ _. ap₂ (λ v g. record { codeword = v; group = g }) (sym (broken-other bytes (a .m) (a .w) (a .c) (a .word .now) (λ e. c .if2 .taken (b .broken-group .ensures ∙ e)))) (b .broken-group .ensures), λ k. absurd (k (L .good) (L .size)))
+    let a = b .before .before .before .before .args in (
+      λ _ _. ap₂ (λ v g. record { codeword = v; group = g }) (sym (broken-other byteEdition (a .m) (a .w) (a .c) (a .word .now)
+          (λ e. c .if2 .taken (b .broken-group .ensures ∙ e)))) (b .broken-group .ensures),
+      λ k. absurd (k (L .good) (L .size)),
+    )
 
 across-requires : tie.Need-across-requires
 across-requires c κs = search needs
 
 -- where no group is broken the two sums across decide
 decided : (c : tie.After-across) → let a = c .before .before .before .before .before .before .args in
-    both (eqb (c .across .result .first) 0) (eqb (c .across .result .second) 0) ≡ isCodeword bytes (a .m) (a .w) (a .c) (a .word .now)
+    (eqb (c .across .result .first) 0 && eqb (c .across .result .second) 0) ≡ isCodeword byteEdition (a .m) (a .w) (a .c) (a .word .now)
 decided c =
     let t = c .before in
     let b = t .before in
     let L = fair (b .before) in
     let a = b .before .before .before .before .args in
-    ap (λ (s : Sums). both (eqb (s .first) 0) (eqb (s .second) 0)) (c .across .ensures .0 (L .good) (L .size))
-    ∙ sym (across-decide bytes (a .m) (a .w) (a .c) (a .word .now) (sym (b .broken-group .ensures) ∙ t .if2 .left))
+    ap (λ (s : Sums). (eqb (s .first) 0 && eqb (s .second) 0)) (c .across .ensures .0 (L .good) (L .size))
+    ∙ sym (across-decide byteEdition (a .m) (a .w) (a .c) (a .word .now) (sym (b .broken-group .ensures) ∙ t .if2 .left))
 
 returns-3 : tie.Need-returns-3
 returns-3 c =

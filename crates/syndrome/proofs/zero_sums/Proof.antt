@@ -5,7 +5,7 @@ use borrow.Author.Count.{below-none, below-more}
 use borrow.Author.Needs.{needs}
 use lib.Ieee.Bits.{is-true}
 use lib.ListN.{length}
-use Rattle.byte_edition.specs.Edition.{bytes}
+use Rattle.byte_edition.specs.Edition.{byteEdition}
 use Rattle.code.specs.Word.{localSum}
 use Rattle.code.specs.WordLaws.{local-zero, zero-local}
 use Rattle.syndrome.specs.PartsLaws.{is-false, power-group}
@@ -13,7 +13,7 @@ use Rattle.syndrome.proofs.zero_sums.Statement.{statement}
 use Rattle.syndrome.proofs.zero_sums.Tie as tie
 
 abbrev Inv-loop : tie.InvT-loop
-Inv-loop part c e₀ e = (e ≤ c) × (length part ≤ 16) × (c ≤ 4) × ((k : ℕ) → k < e → localSum bytes (length part) part 0 k ≡ 0)
+Inv-loop part c e₀ e = (e ≤ c) × (length part ≤ 16) × (c ≤ 4) × ((k : ℕ) → k < e → localSum byteEdition (length part) part 0 k ≡ 0)
 
 abbrev μ-loop : tie.MeasureT-loop
 μ-loop part c e₀ e = c - e
@@ -31,8 +31,8 @@ returns c =
     let p = a .part .now in
     let narrow = s .loop .inv .1 in
     let z = power-group p narrow (s .loop .e) (omega arith) in
-    let e : c .before .power-sum .result ≡ localSum bytes (length p) p 0 (s .loop .e) = cc in
-    sym (is-false _ (λ t. c .if1 .taken (e ∙ local-zero bytes (length p) (a .c) p 0 t (s .loop .e) (omega arith))))
+    let e : c .before .power-sum .result ≡ localSum byteEdition (length p) p 0 (s .loop .e) = cc in
+    sym (is-false _ (λ t. c .if1 .taken (e ∙ local-zero byteEdition (length p) (a .c) p 0 t (s .loop .e) (omega arith))))
 
 add-e : tie.Need-add-e Inv-loop μ-loop
 add-e c = omega arith
@@ -48,7 +48,7 @@ loop-again c =
       omega arith,
       omega arith,
       omega arith,
-      below-more (λ k. localSum bytes (length p) p 0 k ≡ 0) (s .loop .e) (s .loop .inv .3) (cc),
+      below-more (λ k. localSum byteEdition (length p) p 0 k ≡ 0) (s .loop .e) (s .loop .inv .3) (cc),
     )
 
 returns-2 : tie.Need-returns-2 Inv-loop μ-loop
@@ -56,7 +56,7 @@ returns-2 c =
     let s = c .before in
     let a = s .before .before .args in
     let p = a .part .now in
-    sym (is-true _ (zero-local bytes (length p) (a .c) p 0 (λ k l. s .loop .inv .3 k (omega arith))))
+    sym (is-true _ (zero-local byteEdition (length p) (a .c) p 0 (λ k l. s .loop .inv .3 k (omega arith))))
 
 pub zero-sums-spec : {M : Type 1} → statement M
 zero-sums-spec =

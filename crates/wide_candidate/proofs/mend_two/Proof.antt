@@ -5,7 +5,7 @@ use Rattle.wide_sums.specs.declared.Sums.{Sums}
 use Rattle.wide_sums.specs.declared.Survey.{Survey}
 use lib.ListN.{length, take}
 use borrow.Author.Needs.{needs}
-use Rattle.wide_edition.specs.Edition.{wide}
+use Rattle.wide_edition.specs.Edition.{wideEdition}
 use Rattle.candidate.specs.SolvedLaws.{combined-length}
 use Rattle.candidate.proofs.Laws.{group-lt}
 use Rattle.wide_candidate.proofs.mend_two.Statement.{statement}
@@ -51,19 +51,26 @@ add-direction-requires-2 : tie.Need-add-direction-requires-2
 add-direction-requires-2 c κs =
     let d = c .before .before .before in
     let s = d .before .before .before .before .before .before .before .before .before .before .before in
-    let a = s .args in
-    (s .pre .0 .narrow, (group-lt (a .m) (a .w) (a .c) (a .q) (s .pre .0) (s .pre .1 .1 .0 .1), ap length (d .add-direction .ensures) ∙ combined-length wide (a .m * a .w) 1 _ _ _))
+    let a = s .args in (
+      s .pre .0 .narrow,
+      (
+        group-lt (a .m) (a .w) (a .c) (a .q) (s .pre .0) (s .pre .1 .1 .0 .1),
+        ap length (d .add-direction .ensures)
+            ∙ combined-length wideEdition (a .m * a .w) 1 _ _ _,
+      ),
+    )
 
 same-length : tie.Need-same-length
 same-length c = search needs
 
 -- the unknowns for these sums
-solved-sums : {A B a b : Sums} {S s : Survey} {u v : ℕ} → A ≡ a → B ≡ b → S ≡ s → SolvedIn wide (A .first) (B .first) (A .second) (B .second) (S .first) (S .second) u v
-    → SolvedIn wide (a .first) (b .first) (a .second) (b .second) (s .first) (s .second) u v
+solved-sums : {A B a b : Sums} {S s : Survey} {u v : ℕ} → A ≡ a → B ≡ b → S ≡ s
+    → SolvedIn wideEdition (A .first) (B .first) (A .second) (B .second) (S .first) (S .second) u v
+    → SolvedIn wideEdition (a .first) (b .first) (a .second) (b .second) (s .first) (s .second) u v
 solved-sums {A} {B} {a} {b} {S} {u = u} {v = v} e f g Q =
-    subst (λ z. SolvedIn wide (a .first) (b .first) (a .second) (b .second) (z .first) (z .second) u v) g
-    (subst (λ z. SolvedIn wide (a .first) (z .first) (a .second) (z .second) (S .first) (S .second) u v) f
-    (subst (λ z. SolvedIn wide (z .first) (B .first) (z .second) (B .second) (S .first) (S .second) u v) e Q))
+    subst (λ z. SolvedIn wideEdition (a .first) (b .first) (a .second) (b .second) (z .first) (z .second) u v) g
+    (subst (λ z. SolvedIn wideEdition (a .first) (z .first) (a .second) (z .second) (S .first) (S .second) u v) f
+    (subst (λ z. SolvedIn wideEdition (z .first) (B .first) (z .second) (B .second) (S .first) (S .second) u v) e Q))
 
 returns : tie.Need-returns
 returns c =

@@ -1,35 +1,35 @@
 use mathlib.Core.Path.{sym, _∙_}
 use borrow.Author.Needs.{needs}
-use Rattle.erasures.specs.Whole.{KeptAll}
+use Rattle.erasures.specs.Whole.{BoundAll}
 use Rattle.wide_edition.specs.EditionLaws.{wide-sound}
 use Rattle.candidate.specs.WholeLaws.{is-candidate}
-use Rattle.candidate.proofs.Laws.{kept-copy}
+use Rattle.candidate.proofs.Laws.{bound-copy}
 use Rattle.wide_candidate.proofs.rebuild.Statement.{statement}
 use Rattle.wide_candidate.proofs.rebuild.Tie as tie
 
 copy-requires : tie.Need-copy-requires
 copy-requires c κs = search needs
 
-keep-requires : tie.Need-keep-requires
-keep-requires c κs = search needs
+clear-free-requires : tie.Need-clear-free-requires
+clear-free-requires c κs = search needs
 
 blank-lost-requires : tie.Need-blank-lost-requires
 blank-lost-requires c κs = search needs
 
--- the marks kept, once that is done
-keeps : (k : tie.After-keep) → let s = k .before .before .before .before .before .before .before .before .before .before in
-    KeptAll (s .args .m) (s .args .w) (s .args .c) (s .args .marks .now) (k .keep .last .1 .1 .1 .0)
+-- the marks bound, once that is done
+keeps : (k : tie.After-clear-free) → let s = k .before .before .before .before .before .before .before .before .before .before in
+    BoundAll (s .args .m) (s .args .w) (s .args .c) (s .args .marks .now) (k .clear-free .last .1 .1 .1 .0)
 keeps k =
     let d = k .before .before .before .before in
     let s = d .before .before .before .before .before .before in
-    kept-copy (s .pre .0) (s .pre .1 .1 .0) (d .copy .ensures .0 (s .pre .1 .1 .0 ∙ sym (s .pre .1 .1 .1 .0))) (k .keep .ensures .0)
+    bound-copy (s .pre .0) (s .pre .1 .1 .0) (d .copy .ensures .0 (s .pre .1 .1 .0 ∙ sym (s .pre .1 .1 .1 .0))) (k .clear-free .ensures .0)
 
 fill-groups-requires : tie.Need-fill-groups-requires
 fill-groups-requires c κs =
     let b = c .before .before .before .before in
     let k = b .before .before .before .before in
     let s = k .before .before .before .before .before .before .before .before .before .before in
-    (s .pre .0, (b .blank-lost .ensures .size ∙ s .pre .1 .0, (keeps k .size ∙ s .pre .1 .1 .0, keeps k .kept-few)))
+    (s .pre .0, (b .blank-lost .ensures .size ∙ s .pre .1 .0, (keeps k .size ∙ s .pre .1 .1 .0, keeps k .bound-few)))
 
 mend-requires : tie.Need-mend-requires
 mend-requires c κs =
@@ -55,8 +55,10 @@ returns c =
     let x = k .before .before .before .before .before .before .before .before .before in
     let s = x .before in
     let a = s .args in
-    is-candidate wide-sound (a .m) (a .w) (a .c) (s .pre .0) (a .marks .now) _ (a .word .now) _ _ _ (record { size = s .pre .1 .0; each = λ p. x .shared-slice-known .given p .fits })
-    (record { size = f .fill-groups .ensures .size ∙ b .blank-lost .ensures .size ∙ s .pre .1 .0; each = λ p. y .slice-known6 .given p .fits }) (s .pre .1 .1 .0)
+    is-candidate wide-sound (a .m) (a .w) (a .c) (s .pre .0) (a .marks .now) _ (a .word .now) _ _ _
+    (record { size = s .pre .1 .0; each = λ p. x .shared-slice-known .given p .fits })
+    (record { size = f .fill-groups .ensures .size ∙ b .blank-lost .ensures .size ∙ s .pre .1 .0; each = λ p. y .slice-known6 .given p .fits })
+    (s .pre .1 .1 .0)
     (keeps k) (b .blank-lost .ensures) (f .fill-groups .ensures) (e .mend .ensures)
 
 pub rebuild-spec : {M : Type 1} → statement M
@@ -64,7 +66,7 @@ rebuild-spec =
     tie.close
     (tie.spec
     copy-requires
-    keep-requires
+    clear-free-requires
     blank-lost-requires
     fill-groups-requires
     mend-requires

@@ -3,9 +3,9 @@ use mathlib.Core.Path.{_≡_, sym, ap, ap₂, _∙_}
 use mathlib.Core.List.{List}
 use Prim.Native.Nat.{ℕ}
 use lib.ListN.{length, take, length-take}
-use Rattle.code.specs.Word.{groupSum, coefficient, twisted}
+use Rattle.code.specs.Word.{groupSum, coefficient, secondCoefficient}
 use Rattle.code.specs.LoneLaws.{lone-word}
-use Rattle.wide_edition.specs.Edition.{wide}
+use Rattle.wide_edition.specs.Edition.{wideEdition}
 use borrow.Author.Needs.{needs}
 use Rattle.wide_candidate.proofs.weights.Statement.{statement}
 use Rattle.wide_candidate.proofs.weights.Tie as tie
@@ -27,10 +27,10 @@ returns c =
     let n = length-take (a .w) (a .t5) in
     let long : length h ≡ a .w = omega arith in
     ap₂ (λ x y. record { first = x; second = y })
-    (c .group-sums .ensures .0 (omega arith) (omega arith) ∙ ap (λ n. groupSum wide n h 0 (coefficient wide (a .c))) long
-    ∙ sym (lone-word (a .m) (a .w) (a .g) h (s .pre .1) long wide _))
-    (c .group-sums .ensures .1 .0 (omega arith) (omega arith) ∙ ap (λ n. groupSum wide n h 0 (twisted wide (a .c) (a .g))) long
-    ∙ sym (lone-word (a .m) (a .w) (a .g) h (s .pre .1) long wide _))
+    (c .group-sums .ensures .0 (omega arith) (omega arith) ∙ ap (λ n. groupSum wideEdition n h 0 (coefficient wideEdition (a .c))) long
+    ∙ sym (lone-word (a .m) (a .w) (a .g) h (s .pre .1) long wideEdition _))
+    (c .group-sums .ensures .1 .0 (omega arith) (omega arith) ∙ ap (λ n. groupSum wideEdition n h 0 (secondCoefficient wideEdition (a .c) (a .g))) long
+    ∙ sym (lone-word (a .m) (a .w) (a .g) h (s .pre .1) long wideEdition _))
 
 pub weights-spec : {M : Type 1} → statement M
 weights-spec =

@@ -6,12 +6,12 @@ use borrow.Author.Needs.{needs}
 use lib.ListN.{length, getD}
 use Rattle.shape.specs.Laws.{good-of-word}
 use Rattle.shape.specs.Shapes.{wordRefusalIn}
-use Rattle.wide_edition.specs.Edition.{wide}
+use Rattle.wide_edition.specs.Edition.{wideEdition}
 use Rattle.code.specs.ContradictionLaws.{whole-groups}
 use Rattle.syndrome.specs.declared.Tested.{Tested}
 use Rattle.syndrome.specs.Tests.{brokenGroupIn}
 use Rattle.syndrome.specs.TestsLaws.{broken-most}
-use Rattle.word_check.specs.Answer.{checkedAt, wholeGroupIn, checkedIn, checkedNumber, checkedFigures, figuresIn}
+use Rattle.word_check.specs.Checked.{checkedAt, wholeGroupIn, checkedIn, checkedNumber, checkedFigures, checkFiguresIn}
 use Rattle.word_check.specs.Laws.{checked-number, checked-figures, checked-refused}
 use Rattle.word_check.specs.declared.Checked.{Checked}
 use Rattle.wide_edition.specs.Edition.{wideLimits}
@@ -19,14 +19,16 @@ use Rattle.wide_check.proofs.check.Statement.{statement}
 use Rattle.wide_check.proofs.check.Tie as tie
 
 -- number and figures follow from the answer
-whole : (m w c : ℕ) (word : List ℕ) (r : Checked) → r ≡ checkedIn wide m w c word
-    → (r ≡ checkedIn wide m w c word) × ((checkedNumber r ≡ wordRefusalIn wideLimits m w c (length word)) × (checkedFigures r ≡ figuresIn wide m w c word))
-whole m w c word r e = (e, (ap checkedNumber e ∙ checked-number wide m w c word, ap checkedFigures e ∙ checked-figures wide m w c word))
+whole : (m w c : ℕ) (word : List ℕ) (r : Checked) → r ≡ checkedIn wideEdition m w c word
+    → (r ≡ checkedIn wideEdition m w c word) × ((checkedNumber r ≡ wordRefusalIn wideLimits m w c (length word))
+    × (checkedFigures r ≡ checkFiguresIn wideEdition m w c word))
+whole m w c word r e = (e, (ap checkedNumber e ∙ checked-number wideEdition m w c word, ap checkedFigures e ∙ checked-figures wideEdition m w c word))
 
 -- the lowest broken group is the one that contradicts
-named : (m w c : ℕ) (word : List ℕ) → length word ≡ m * w → ((p : ℕ) → getD word p 0 < 65536) → brokenGroupIn wide m w c word ≡ wholeGroupIn wide m w c word
+named : (m w c : ℕ) (word : List ℕ) → length word ≡ m * w → ((p : ℕ) → getD word p 0 < 65536) → brokenGroupIn wideEdition m w c word
+    ≡ wholeGroupIn wideEdition m w c word
 unfolding brokenGroupIn
-named m w c word size small = whole-groups wide m w c word size small
+named m w c word size small = whole-groups wideEdition m w c word size small
 
 word-refusal-requires : tie.Need-word-refusal-requires
 word-refusal-requires c κs = search needs
@@ -50,10 +52,10 @@ cast-t10 c =
     let e : wordRefusalIn wideLimits (a .m) (a .w) (a .c) (length (a .word .now)) ≡ 0 = sym (t .before .word-refusal .ensures) ∙ t .if1 .left in
     let g = good-of-word (a .m) (a .w) (a .c) (length (a .word .now)) e in
     let v = ap (λ (x : Tested). x .group) (s .test .ensures .0 (g .0) (g .1)) in
-    omega (arith, v, broken-most wide (a .m) (a .w) (a .c) (a .word .now), g .0 .few)
+    omega (arith, v, broken-most wideEdition (a .m) (a .w) (a .c) (a .word .now), g .0 .few)
 
 answered : (c : tie.After-test) → let a = c .before .before .before .before .args in
-    checkedAt 0 (c .test .result .codeword) (c .test .result .group) ≡ checkedIn wide (a .m) (a .w) (a .c) (a .word .now)
+    checkedAt 0 (c .test .result .codeword) (c .test .result .group) ≡ checkedIn wideEdition (a .m) (a .w) (a .c) (a .word .now)
 unfolding checkedIn
 answered c =
     let t = c .before in

@@ -6,8 +6,8 @@ use Rattle.shape.specs.RefusalsLaws.{unless-refused}
 use Rattle.shape.specs.Laws.{places-most}
 use Rattle.shape.specs.Answers.{answerAt}
 use Rattle.shape.specs.AnswersLaws.{answer-refused}
-use Rattle.encode.specs.Service.{encodeRefusalIn, encodeIn, encodedBufferIn}
-use Rattle.wide_edition.specs.Edition.{wide}
+use Rattle.encode.specs.Encode.{encodeRefusalIn, encodeIn, encodedBufferIn}
+use Rattle.wide_edition.specs.Edition.{wideEdition}
 use Rattle.wide_edition.specs.EditionLaws.{wide-sound}
 use Rattle.encode.specs.Laws.{good-of-encode, after-size, buffer-end}
 use borrow.Author.Needs.{needs}
@@ -37,7 +37,7 @@ array-borrow-prefix-marks c =
     let a = r .before .before .before .args in
     let z : encodeRefusalIn wideLimits (a .m) (a .w) (a .c) (length (a .word .now)) (length (a .symbols .now)) ≡ 0 = cc in
     let g = good-of-encode (a .m) (a .w) (a .c) (length (a .word .now)) (length (a .symbols .now)) z in
-    subst (λ n. n ≤ 4096) (sym (after-size wide (a .m) (a .w) (a .c) (a .symbols .now) (a .word .now) _ z (p .place .ensures))) (places-most (g .0))
+    subst (λ n. n ≤ 4096) (sym (after-size wideEdition (a .m) (a .w) (a .c) (a .symbols .now) (a .word .now) _ z (p .place .ensures))) (places-most (g .0))
 
 slice-aggregate-fill-checks : tie.Need-slice-aggregate-fill-checks
 slice-aggregate-fill-checks c = sym (length-take-le _ _ (array-borrow-prefix-marks (c .before)))
@@ -49,7 +49,7 @@ fill-checks-requires c κs =
     let a = r .before .before .before .args in
     let z : encodeRefusalIn wideLimits (a .m) (a .w) (a .c) (length (a .word .now)) (length (a .symbols .now)) ≡ 0 = cc in
     let g = good-of-encode (a .m) (a .w) (a .c) (length (a .word .now)) (length (a .symbols .now)) z in
-    (g .0, sym (slice-aggregate-fill-checks c) ∙ after-size wide (a .m) (a .w) (a .c) (a .symbols .now) (a .word .now) _ z (p .place .ensures))
+    (g .0, sym (slice-aggregate-fill-checks c) ∙ after-size wideEdition (a .m) (a .w) (a .c) (a .symbols .now) (a .word .now) _ z (p .place .ensures))
 
 same-length : tie.Need-same-length
 same-length c = search needs
@@ -64,7 +64,11 @@ returns-2 c =
     let a = k .before .args in
     let z : encodeRefusalIn wideLimits (a .m) (a .w) (a .c) (length (a .word .now)) (length (a .symbols .now)) ≡ 0 = cc in (
       sym (ap answerAt z),
-      (sym z, buffer-end wide (a .m) (a .w) (a .c) (a .symbols .now) (a .word .now) _ z (p .place .ensures) wide-sound (λ i. k .shared-slice-known .given i .fits) _ (f .fill-checks .ensures)),
+      (
+        sym z,
+        buffer-end wideEdition (a .m) (a .w) (a .c) (a .symbols .now) (a .word .now) _ z (p .place .ensures) wide-sound
+            (λ i. k .shared-slice-known .given i .fits) _ (f .fill-checks .ensures),
+      ),
     )
 
 pub encode-spec : {M : Type 1} → statement M

@@ -1,8 +1,8 @@
 use mathlib.Core.Path.{ap, _∙_}
 use Rattle.places.specs.Laws.{marked-checks}
-use Rattle.recover.specs.Service.{recoverIn}
+use Rattle.recover.specs.Recover.{recoverIn}
 use borrow.Author.Needs.{needs}
-use Rattle.wide_edition.specs.Edition.{wide}
+use Rattle.wide_edition.specs.Edition.{wideEdition}
 use Rattle.wide_encode.proofs.fill_checks.Statement.{statement}
 use Rattle.wide_encode.proofs.fill_checks.Tie as tie
 
@@ -25,7 +25,7 @@ returns c =
     let s = k .before .before .before .before in
     let a = s .args in
     r .recover .ensures .1 .0
-    ∙ ap (λ u. (recoverIn wide (a .m) (a .w) (a .c) (a .word .now) u) .word)
+    ∙ ap (λ u. (recoverIn wideEdition (a .m) (a .w) (a .c) (a .word .now) u) .word)
     (k .mark-checks .ensures ∙ marked-checks (s .pre .0) (a .marks .now) (s .pre .1))
 
 pub fill-checks-spec : {M : Type 1} → statement M

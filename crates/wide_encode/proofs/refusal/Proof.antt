@@ -1,5 +1,5 @@
 use borrow.Author.Needs.{needs}
-use Rattle.encode.specs.Service.{encodeRefusalIn}
+use Rattle.encode.specs.Encode.{encodeRefusalIn}
 use Rattle.wide_encode.proofs.refusal.Statement.{statement}
 use Rattle.wide_encode.proofs.refusal.Tie as tie
 

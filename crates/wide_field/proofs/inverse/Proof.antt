@@ -40,7 +40,8 @@ next-square : (a i x : ℕ) → x ≡ power 16 69643 a (2 ^ i) → product 16 69
 next-square a i x e =
     ap (λ y. product 16 69643 y y) e ∙ sym (power-twice 16 69643 (lit< tt) a (2 ^ i)) ∙ ap (power 16 69643 a) (sym (ap (λ n. 2 ^ n) (add-one i) ∙ pow-suc 2 i))
 
-next-factor : (a i r x : ℕ) → r ≡ power 16 69643 a (2 ^ i * 2 - 2) → x ≡ power 16 69643 a (2 ^ (i + 1)) → product 16 69643 r x ≡ power 16 69643 a (2 ^ (i + 1) * 2 - 2)
+next-factor : (a i r x : ℕ) → r ≡ power 16 69643 a (2 ^ i * 2 - 2) → x ≡ power 16 69643 a (2 ^ (i + 1)) → product 16 69643 r x
+    ≡ power 16 69643 a (2 ^ (i + 1) * 2 - 2)
 next-factor a i r x e f =
     let p = pow-pos i in
     let q : 2 ^ (i + 1) ≡ 2 ^ i * 2 = ap (λ n. 2 ^ n) (add-one i) ∙ pow-suc 2 i in

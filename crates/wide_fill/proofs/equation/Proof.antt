@@ -68,12 +68,15 @@ returns c =
     let s = x .before .before in
     let e : ℕ = s .args .e in
     let at = s .args .t1 in
-    let row : List ℕ = x .power .result ∷ b .power2 .result ∷ k .power3 .result ∷ d .power4 .result ∷ getD (s .args .t2) e 0 ∷ 0 ∷ 0 ∷ 0 ∷ 0 ∷ 0 ∷ 0 ∷ 0 ∷ 0 ∷ 0 ∷ 0 ∷ 0 ∷ [] in
+    let row : List ℕ = x .power .result ∷ b .power2 .result ∷ k .power3 .result ∷ d .power4 .result ∷ getD (s .args .t2) e 0 ∷ 0 ∷ 0 ∷ 0 ∷ 0 ∷ 0 ∷ 0 ∷ 0 ∷ 0 ∷ 0
+    ∷ 0 ∷ 0 ∷ [] in
     let one : (l j r : ℕ) → l ≡ getD locatorRow j 0 → r ≡ power 16 69643 l e → r ≡ power 16 69643 (getD locatorRow j 0) e =
     λ l j r p q. q ∙ ap (λ v. power 16 69643 v e) p in (
       λ i l. at-four i l (λ j. getD row j 0) (λ j. power 16 69643 (getD locatorRow (getD at j 0) 0) e)
-          (one _ _ _ (x .before .locator .ensures) (x .power .ensures .0 (omega arith))) (one _ _ _ (b .before .locator2 .ensures) (b .power2 .ensures .0 (omega arith)))
-          (one _ _ _ (k .before .locator3 .ensures) (k .power3 .ensures .0 (omega arith))) (one _ _ _ (d .before .locator4 .ensures) (d .power4 .ensures .0 (omega arith))),
+          (one _ _ _ (x .before .locator .ensures) (x .power .ensures .0 (omega arith)))
+          (one _ _ _ (b .before .locator2 .ensures) (b .power2 .ensures .0 (omega arith)))
+          (one _ _ _ (k .before .locator3 .ensures) (k .power3 .ensures .0 (omega arith)))
+          (one _ _ _ (d .before .locator4 .ensures) (d .power4 .ensures .0 (omega arith))),
       refl,
     )
 

@@ -12,12 +12,12 @@ use Rattle.fill.specs.Positions.{Inside}
 use Rattle.solve.specs.Elimination.{row}
 use Rattle.fill.specs.EquationsLaws.{EquationIn}
 use Rattle.fill.proofs.Laws.{each-set}
-use Rattle.wide_edition.specs.Edition.{wide}
+use Rattle.wide_edition.specs.Edition.{wideEdition}
 use Rattle.wide_fill.proofs.equations.Statement.{statement}
 use Rattle.wide_fill.proofs.equations.Tie as tie
 
 abbrev Inv-loop : tie.InvT-loop
-Inv-loop part at t sums rows₀ e₀ rows e = (e ≤ t) × (length rows ≡ 4) × ((k : ℕ) → k < e → EquationIn wide part at t k (row rows k))
+Inv-loop part at t sums rows₀ e₀ rows e = (e ≤ t) × (length rows ≡ 4) × ((k : ℕ) → k < e → EquationIn wideEdition part at t k (row rows k))
 
 abbrev μ-loop : tie.MeasureT-loop
 μ-loop part at t sums rows₀ e₀ rows e = t - e
@@ -45,7 +45,7 @@ loop-less c = omega arith
 
 -- what equation gives is an equation of the part
 equation-of : {part at r : List ℕ} {t e : ℕ} (sums : List ℕ) → length part ≤ 256 → Inside (length part) at t → t ≤ 4 → PowerSums part t sums → e < t
-    → ((i : ℕ) → i < 4 → getD r i 0 ≡ power 16 69643 (getD locatorRow (getD at i 0) 0) e) → getD r 4 0 ≡ getD sums e 0 → EquationIn wide part at t e r
+    → ((i : ℕ) → i < 4 → getD r i 0 ≡ power 16 69643 (getD locatorRow (getD at i 0) 0) e) → getD r 4 0 ≡ getD sums e 0 → EquationIn wideEdition part at t e r
 equation-of {e = e} sums narrow inside few P l left right = record {
   left = λ i h. left i (omega arith) ∙ ap (λ a. power 16 69643 a e) (row-at _ (let b = inside i h in omega arith));
   right = right ∙ P e l;
@@ -58,7 +58,8 @@ loop-again c =
     let a = w .before .before in (
       omega arith,
       simp length-set (omega arith),
-      each-set (EquationIn wide (a .args .part .now) (a .args .at) (a .args .t)) (s .loop .rows) (s .loop .e) (c .equation .result) [] (omega arith) (s .loop .inv .2)
+      each-set (EquationIn wideEdition (a .args .part .now) (a .args .at) (a .args .t)) (s .loop .rows) (s .loop .e) (c .equation .result) [] (omega arith)
+          (s .loop .inv .2)
           (equation-of (w .power-sums .result) (a .pre .1) (a .pre .2) (a .pre .0) (w .power-sums .ensures .0 (a .pre .1) (omega arith)) (omega arith)
           (c .equation .ensures .0) (c .equation .ensures .1)),
     )

@@ -3,7 +3,7 @@ use Prim.Native.Nat.{ℕ, min}
 use native.Mathlib.Omega.{arith}
 use lib.ListN.{length}
 use mir.Syntax.{w16}
-use Rattle.wide_edition.specs.Edition.{wide}
+use Rattle.wide_edition.specs.Edition.{wideEdition}
 use Rattle.wide_edition.specs.EditionLaws.{wide-sound}
 use Rattle.solve.proofs.Arrays.{array-system}
 use Rattle.fill.proofs.Laws.{zeros-at, unchanged, filled}
@@ -21,7 +21,7 @@ find-requires : tie.Need-find-requires
 find-requires c κs = search needs
 
 returns-3 : tie.Need-returns-3
-returns-3 c = let f = c .before .find in unchanged wide _ _ (f .result .count) (f .ensures .all) (c .if3 .taken)
+returns-3 c = let f = c .before .find in unchanged wideEdition _ _ (f .result .count) (f .ensures .all) (c .if3 .taken)
 
 place-requires : tie.Need-place-requires
 place-requires c κs = (omega arith, λ i l. let b = c .before .before .before .find .ensures .few (omega arith) .inside i (omega arith) in omega arith)
@@ -54,7 +54,7 @@ returns-4 c =
     let m : min t 4 ≡ t = omega arith in
     let w : length (a .marks .now) ≡ length (a .part .now) = omega arith in
     filled (a .marks .now) (a .part .now) (z .place .last .0) (p .place2 .last .0) (f .find .result .at) _ (q .equations .result) (x .eliminate .result) t
-    (rw w at (f .find .ensures .few (omega arith))) (z .place .ensures) (p .place2 .ensures) wide wide-sound (λ i. zeros-at 4 16 i 4) (omega arith)
+    (rw w at (f .find .ensures .few (omega arith))) (z .place .ensures) (p .place2 .ensures) wideEdition wide-sound (λ i. zeros-at 4 16 i 4) (omega arith)
     (array-system w16 16 4 (q .equations .result) _ (q .equations .ok) t (omega arith)) (q .equations .ensures) (rw m at (x .eliminate .ensures))
     w (omega arith) (rw w at (f .find .ensures .all))
 

@@ -6,8 +6,8 @@ use borrow.Author.Needs.{needs}
 use lib.ListN.{length}
 use Rattle.shape.specs.Laws.{word-of-good}
 use Rattle.code.specs.Marks.{excess}
-use Rattle.groups.specs.Lent.{LentIn}
-use Rattle.groups.specs.LentLaws.{lent-in, end-fits, part-narrow}
+use Rattle.code.specs.Lent.{LentIn}
+use Rattle.code.specs.LentLaws.{lent-in, end-fits, part-narrow}
 use Rattle.marks.specs.CountsLaws.{excess-none, excess-turn, lost-most}
 use Rattle.wide_edition.specs.Edition.{wideLimits}
 use Rattle.wide_marks.proofs.excess_of.Statement.{statement}
@@ -31,8 +31,13 @@ returns c =
 loop-holds : tie.Need-loop-holds Inv-loop μ-loop
 loop-holds c =
     let a = c .before .before .before .args in
-    let z = excess-none (a .w) (a .c) (a .marks .now) in
-    (lent-in wideLimits (a .m) (a .w) (a .c) (a .marks .now) (sym (c .before .word-refusal .ensures) ∙ c .if1 .left), omega arith, omega arith, omega arith, omega arith)
+    let z = excess-none (a .w) (a .c) (a .marks .now) in (
+      lent-in wideLimits (a .m) (a .w) (a .c) (a .marks .now) (sym (c .before .word-refusal .ensures) ∙ c .if1 .left),
+      omega arith,
+      omega arith,
+      omega arith,
+      omega arith,
+    )
 
 mul-a : tie.Need-mul-a Inv-loop μ-loop
 mul-a c = omega (arith, end-fits (c .before .loop .inv .0) (c .before .loop .g) (c .loop-test .taken))

@@ -9,7 +9,7 @@ use Rattle.wide_edition.specs.Edition.{wideLimits}
 use Rattle.marks.specs.Refusal.{marksRefusalIn}
 use Rattle.marks.specs.RefusalLaws.{good-of-marks}
 use Rattle.shape.specs.RefusalsLaws.{orElse-first}
-use Rattle.judge.specs.Answer.{judgedNumberOf, judgedNumberIn, judgedAt, judgedIn, judgedOf, judgedNumber}
+use Rattle.judge.specs.Judgement.{judgedNumberOf, judgedNumberIn, judgedAt, judgedIn, judgedOf, judgedNumber}
 use Rattle.judge.specs.Laws.{judged-refused, judged-number, number-of}
 use Rattle.judge.specs.declared.Judged.{Judged}
 use Rattle.wide_marks.proofs.judge.Statement.{statement}
@@ -44,7 +44,8 @@ answered c =
     let a = t .before .before .before .args in
     let e : marksRefusalIn wideLimits (a .m) (a .w) (a .c) (a .marks .now) ≡ 0 = sym (t .before .marks-refusal .ensures) ∙ t .if1 .left in
     let g = good-of-marks (a .m) (a .w) (a .c) (a .marks .now) e in
-    ap judgedAt (ap (λ n. refuse 8 (ltb 2 n)) (c .excess-of .ensures .0 (g .good) (g .size)) ∙ sym (number-of wideLimits (a .m) (a .w) (a .c) (a .marks .now) e))
+    ap judgedAt (ap (λ n. refuse 8 (ltb 2 n)) (c .excess-of .ensures .0 (g .good) (g .size))
+    ∙ sym (number-of wideLimits (a .m) (a .w) (a .c) (a .marks .now) e))
 
 returns-2 : tie.Need-returns-2
 returns-2 c =

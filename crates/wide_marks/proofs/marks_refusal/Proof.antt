@@ -24,7 +24,8 @@ are-marks-requires c κs = search needs
 
 answered : (c : tie.After-are-marks)
     → refuse 6 (not (c .are-marks .result))
-    ≡ marksRefusalIn wideLimits (c .before .before .before .before .args .m) (c .before .before .before .before .args .w) (c .before .before .before .before .args .c)
+    ≡ marksRefusalIn wideLimits (c .before .before .before .before .args .m) (c .before .before .before .before .args .w)
+    (c .before .before .before .before .args .c)
     (c .before .before .before .before .args .marks .now)
 unfolding marksRefusalIn
 answered c =

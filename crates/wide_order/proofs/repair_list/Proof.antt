@@ -3,16 +3,16 @@ use Prim.Native.Nat.{_-_}
 use native.Mathlib.Omega.{arith}
 use borrow.Author.Needs.{needs}
 use lib.ListN.{length, drop}
-use Rattle.wide_edition.specs.Edition.{wide}
-use Rattle.order.specs.Service.{held, heldAfterList}
-use Rattle.order.specs.ServiceLaws.{list-turn, list-end}
+use Rattle.wide_edition.specs.Edition.{wideEdition}
+use Rattle.order.specs.RepairOrder.{held, heldAfterList}
+use Rattle.order.specs.RepairOrderLaws.{list-turn, list-end}
 use Rattle.wide_order.proofs.repair_list.Statement.{statement}
 use Rattle.wide_order.proofs.repair_list.Tie as tie
 
 abbrev Inv-loop : tie.InvT-loop
 Inv-loop m w c word₀ marks₀ list i₀ word marks i =
     (length word ≡ length word₀) × (length marks ≡ length marks₀)
-    × (heldAfterList wide m w c (drop i list) (held word marks) ≡ heldAfterList wide m w c list (held word₀ marks₀))
+    × (heldAfterList wideEdition m w c (drop i list) (held word marks) ≡ heldAfterList wideEdition m w c list (held word₀ marks₀))
 
 abbrev μ-loop : tie.MeasureT-loop
 μ-loop m w c word₀ marks₀ list i₀ word marks i = length list - i
@@ -43,7 +43,8 @@ loop-again c =
     let E = t .repair .ensures in (
       c .before .before .before .word .given ∙ s .loop .inv .0,
       c .before .marks .given ∙ s .loop .inv .1,
-      list-turn wide (a .m) (a .w) (a .c) (a .list .now) (s .loop .i) (s .loop .word) (s .loop .marks) _ (s .loop .inv .2) (omega arith) _ _ (E .1 .0) (E .1 .1),
+      list-turn wideEdition (a .m) (a .w) (a .c) (a .list .now) (s .loop .i) (s .loop .word) (s .loop .marks) _ (s .loop .inv .2) (omega arith) _ _ (E .1 .0)
+          (E .1 .1),
     )
 
 same-length : tie.Need-same-length Inv-loop μ-loop
@@ -56,7 +57,7 @@ returns : tie.Need-returns Inv-loop μ-loop
 returns c =
     let s = c .before in
     let a = s .before .before .before .before .args in
-    list-end wide (a .m) (a .w) (a .c) (a .list .now) (s .loop .i) (s .loop .word) (s .loop .marks) _ (s .loop .inv .2) (omega arith)
+    list-end wideEdition (a .m) (a .w) (a .c) (a .list .now) (s .loop .i) (s .loop .word) (s .loop .marks) _ (s .loop .inv .2) (omega arith)
 
 pub repair-list-spec : {M : Type 1} → statement M
 repair-list-spec =

@@ -1,5 +1,5 @@
 use Rattle.wide_edition.specs.EditionLaws.{wide-sound}
-use Rattle.order.specs.ServiceLaws.{contract}
+use Rattle.order.specs.RepairOrderLaws.{contract}
 use borrow.Author.Needs.{needs}
 use Rattle.wide_order.proofs.repair_then_recover.Statement.{statement}
 use Rattle.wide_order.proofs.repair_then_recover.Tie as tie

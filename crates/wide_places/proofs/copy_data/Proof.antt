@@ -9,18 +9,18 @@ use borrow.Author.Tests.{not-true, not-false}
 use Rattle.shape.specs.Shapes.{dataCount}
 use Rattle.places.specs.Places.{isCheck, othersFrom, bytesAt, extractOf}
 use Rattle.places.proofs.Steps.{others-start, copy-start, others-check, others-data, copy-step, others-end, copy-end}
-use Rattle.wide_edition.specs.Edition.{wide}
+use Rattle.wide_edition.specs.Edition.{wideEdition}
 use Rattle.wide_places.proofs.copy_data.Statement.{statement}
 use Rattle.wide_places.proofs.copy_data.Tie as tie
 
 abbrev Inv-loop : tie.InvT-loop
-Inv-loop m w c word bytes₀ i₀ p₀ wide i p =
-    (p ≤ length word) × (length wide ≡ length bytes₀)
+Inv-loop m w c word bytes₀ i₀ p₀ wideEdition i p =
+    (p ≤ length word) × (length wideEdition ≡ length bytes₀)
     × (i + length (othersFrom (isCheck m w c) p (length word - p)) ≡ dataCount m w c)
-    × (take i wide ++ bytesAt word (othersFrom (isCheck m w c) p (length word - p)) ≡ extractOf m w c word)
+    × (take i wideEdition ++ bytesAt word (othersFrom (isCheck m w c) p (length word - p)) ≡ extractOf m w c word)
 
 abbrev μ-loop : tie.MeasureT-loop
-μ-loop m w c word bytes₀ i₀ p₀ wide i p = length word - p
+μ-loop m w c word bytes₀ i₀ p₀ wideEdition i p = length word - p
 
 loop-holds : tie.Need-loop-holds Inv-loop μ-loop
 loop-holds c =
@@ -47,7 +47,8 @@ slice-write-symbols c =
     let s = c .before .before .before .before in
     let a = s .before .before .before .args in
     let k = c .before .before .is-check in
-    let o = ap length (others-data (isCheck (a .m) (a .w) (a .c)) (s .loop .p) (length (a .word .now)) (omega arith) (sym (k .ensures) ∙ not-true (k .result) (c .before .if1 .taken))) in
+    let o = ap length (others-data (isCheck (a .m) (a .w) (a .c)) (s .loop .p) (length (a .word .now)) (omega arith)
+    (sym (k .ensures) ∙ not-true (k .result) (c .before .if1 .taken))) in
     omega arith
 
 add-i : tie.Need-add-i Inv-loop μ-loop

@@ -8,18 +8,18 @@ use lib.ListN.{length, getD, take, drop, length-set}
 use Rattle.places.specs.Places.{isCheck, othersFrom, spreadFrom, placedOf}
 use Rattle.places.proofs.Steps.{others-start, others-check, others-data}
 use Rattle.wide_places.proofs.Steps.{spread-start, spread-check, spread-data, spread-end}
-use Rattle.wide_edition.specs.Edition.{wide}
+use Rattle.wide_edition.specs.Edition.{wideEdition}
 use Rattle.wide_places.proofs.spread_data.Statement.{statement}
 use Rattle.wide_places.proofs.spread_data.Tie as tie
 
 abbrev Inv-loop : tie.InvT-loop
-Inv-loop m w c wide word₀ i₀ p₀ word i p =
+Inv-loop m w c wideEdition word₀ i₀ p₀ word i p =
     (p ≤ length word₀) × (length word ≡ length word₀)
-    × (i + length (othersFrom (isCheck m w c) p (length word₀ - p)) ≡ length wide)
-    × (take p word ++ spreadFrom (isCheck m w c) p (length word₀ - p) (drop i wide) ≡ placedOf m w c wide)
+    × (i + length (othersFrom (isCheck m w c) p (length word₀ - p)) ≡ length wideEdition)
+    × (take p word ++ spreadFrom (isCheck m w c) p (length word₀ - p) (drop i wideEdition) ≡ placedOf m w c wideEdition)
 
 abbrev μ-loop : tie.MeasureT-loop
-μ-loop m w c wide word₀ i₀ p₀ word i p = length word₀ - p
+μ-loop m w c wideEdition word₀ i₀ p₀ word i p = length word₀ - p
 
 loop-holds : tie.Need-loop-holds Inv-loop μ-loop
 loop-holds c =
@@ -46,7 +46,8 @@ shared-slice-read-word c =
     let s = c .before .before .before .before in
     let a = s .before .before .before .args in
     let k = c .before .before .is-check in
-    let o = ap length (others-data (isCheck (a .m) (a .w) (a .c)) (s .loop .p) (length (a .word .now)) (omega arith) (sym (k .ensures) ∙ c .before .if1 .left)) in
+    let o = ap length (others-data (isCheck (a .m) (a .w) (a .c)) (s .loop .p) (length (a .word .now)) (omega arith)
+    (sym (k .ensures) ∙ c .before .if1 .left)) in
     omega arith
 
 mul-word-3 : tie.Need-mul-word-3 Inv-loop μ-loop
@@ -100,7 +101,8 @@ returns : tie.Need-returns Inv-loop μ-loop
 returns c =
     let s = c .before in
     let a = s .before .before .before .args in
-    cc (spread-end (isCheck (a .m) (a .w) (a .c)) (s .loop .p) (length (a .word .now)) (omega arith) (s .loop .word) (drop (s .loop .i) (a .symbols .now)) (omega arith))
+    cc (spread-end (isCheck (a .m) (a .w) (a .c)) (s .loop .p) (length (a .word .now)) (omega arith) (s .loop .word) (drop (s .loop .i) (a .symbols .now))
+    (omega arith))
 
 pub spread-data-spec : {M : Type 1} → statement M
 spread-data-spec =

@@ -7,13 +7,13 @@ use lib.ListN.{length, take, drop, drop-of-length-le}
 use lib.Seq.{take-all, length-take-le}
 use borrow.Author.Tests.{not-true, not-false}
 use Rattle.shape.specs.Shapes.{GoodIn}
-use Rattle.groups.specs.LentLaws.{end-fits}
+use Rattle.code.specs.LentLaws.{end-fits}
 use Rattle.syndrome.specs.declared.Tested.{Tested}
 use Rattle.recover.specs.Attempt.{AttemptIn}
 use Rattle.recover.specs.AttemptLaws.{attempt-done, attempt-failed}
 use borrow.Author.Needs.{needs}
 use Rattle.wide_edition.specs.Edition.{wideLimits}
-use Rattle.wide_edition.specs.Edition.{wide}
+use Rattle.wide_edition.specs.Edition.{wideEdition}
 use Rattle.wide_recover.proofs.attempt.Statement.{statement}
 use Rattle.wide_recover.proofs.attempt.Tie as tie
 
@@ -52,7 +52,7 @@ returns c =
     let C = cand .candidate .ensures .0 (a .pre .0) (a .pre .1 .0) (a .pre .1 .1 .0) (a .pre .1 .1 .1) in
     let t = c .before .before .test .ensures .0 (a .pre .0) (C .size) in
     let n = not-true _ (c .if1 .taken) in
-    subst (AttemptIn wide (a .args .m) (a .args .w) (a .args .c) (a .args .marks .now) (a .args .word .now) (a .args .word .now))
+    subst (AttemptIn wideEdition (a .args .m) (a .args .w) (a .args .c) (a .args .marks .now) (a .args .word .now) (a .args .word .now))
     (sym (as-tested _ _ _ _ t n))
     (attempt-failed (a .args .m) (a .args .w) (a .args .c) (a .args .marks .now) (a .args .word .now) _ (a .pre .1 .0)
     (λ p. c .before .before .before .before .slice-known3 .given p .fits) C (sym (ap (λ (x : Tested). x .codeword) t) ∙ n))
@@ -95,9 +95,9 @@ returns-2 c =
     let same = sym (slice-aggregate-copy (copied .before .before)) ∙ slice-aggregate-copy-2 (copied .before) in
     let t = e .before .before .test .ensures .0 (a .pre .0) (C .size) in
     let y = not-false _ (e .if1 .left) in
-    subst (λ z. AttemptIn wide (a .args .m) (a .args .w) (a .args .c) (a .args .marks .now) (a .args .word .now) z (e .before .before .test .result))
+    subst (λ z. AttemptIn wideEdition (a .args .m) (a .args .w) (a .args .c) (a .args .marks .now) (a .args .word .now) z (e .before .before .test .result))
     (sym (whole _ (a .args .word .now) _ (C .size ∙ sym (a .pre .1 .0)) (copied .copy .ensures .0 same)))
-    (subst (AttemptIn wide (a .args .m) (a .args .w) (a .args .c) (a .args .marks .now) (a .args .word .now) _)
+    (subst (AttemptIn wideEdition (a .args .m) (a .args .w) (a .args .c) (a .args .marks .now) (a .args .word .now) _)
     (sym (as-tested _ _ _ _ t y))
     (attempt-done (a .args .m) (a .args .w) (a .args .c) (a .args .marks .now) (a .args .word .now) _ (a .pre .1 .0)
     (λ p. known .slice-known3 .given p .fits) C (sym (ap (λ (x : Tested). x .codeword) t) ∙ y)))

@@ -11,7 +11,7 @@ use Rattle.wide_recover.specs.RefusalLaws.{not-nine}
 use Rattle.wide_recover.proofs.recover.Statement.{statement}
 use Rattle.wide_edition.specs.EditionLaws.{wide-sound}
 use Rattle.wide_edition.specs.Edition.{wideLimits}
-use Rattle.wide_edition.specs.Edition.{wide}
+use Rattle.wide_edition.specs.Edition.{wideEdition}
 use Rattle.wide_recover.proofs.recover.Tie as tie
 
 refusal-requires : tie.Need-refusal-requires
@@ -27,13 +27,17 @@ returns : tie.Need-returns
 returns c =
     let r = c .before in
     let a = r .before .before .before .before .before in
-    let e = service-refused wide (a .args .m) (a .args .w) (a .args .c) (a .args .word .now) (a .args .marks .now) (r .refusal .result) (r .refusal .ensures) (c .if1 .taken) in
+    let e = service-refused wideEdition (a .args .m) (a .args .w) (a .args .c) (a .args .word .now) (a .args .marks .now) (r .refusal .result)
+    (r .refusal .ensures) (c .if1 .taken) in
     let n : r .refusal .result ≡ 9 → ⊥ =
-    λ z. not-nine wideLimits (a .args .m) (a .args .w) (a .args .c) (a .args .word .now) (a .args .marks .now) (sym (r .refusal .ensures) ∙ z) in
-    (sym (mending-refused (r .refusal .result) 0 (c .if1 .taken) n) ∙ ap (λ o. mendingAt (o .number) (o .group)) (sym e), (ap (λ o. o .word) (sym e), ap (λ o. o .marks) (sym e)))
+    λ z. not-nine wideLimits (a .args .m) (a .args .w) (a .args .c) (a .args .word .now) (a .args .marks .now) (sym (r .refusal .ensures) ∙ z) in (
+      sym (mending-refused (r .refusal .result) 0 (c .if1 .taken) n) ∙ ap (λ o. mendingAt (o .number) (o .group)) (sym e),
+      (ap (λ o. o .word) (sym e), ap (λ o. o .marks) (sym e)),
+    )
 
 -- past the first test the shape is good, and word and marks have its length
-fair : (t : tie.Else1) → let a = t .before .before .before .before .before .before .args in AcceptedIn wideLimits (a .m) (a .w) (a .c) (a .word .now) (a .marks .now)
+fair : (t : tie.Else1) → let a = t .before .before .before .before .before .before .args in AcceptedIn wideLimits (a .m) (a .w) (a .c) (a .word .now)
+    (a .marks .now)
 fair t =
     let r = t .before in
     let a = r .before .before .before .before .before .args in
@@ -55,11 +59,13 @@ returns-2 c =
     let k = t .before .before .before .before .before in
     let a = k .before .args in
     let h = x .excess-of .ensures .0 (fair t .good) (fair t .marks-size) in
-    let e = service-eight wide-sound (a .m) (a .w) (a .c) (a .word .now) (a .marks .now) (fair t) (λ p. k .slice-known .given p .fits) (rw (← h) (c .if2 .taken)) in
+    let e = service-eight wide-sound (a .m) (a .w) (a .c) (a .word .now) (a .marks .now) (fair t) (λ p. k .slice-known .given p .fits)
+    (rw (← h) (c .if2 .taken)) in
     (ap (λ o. mendingAt (o .number) (o .group)) (sym e), (ap (λ o. o .word) (sym e), ap (λ o. o .marks) (sym e)))
 
 -- past the second test the excess is at most two
-low : (t : tie.Else2) → let a = t .before .before .before .before .before .before .before .before .before .args in excess (a .m) (a .w) (a .c) (a .marks .now) ≤ 2
+low : (t : tie.Else2) → let a = t .before .before .before .before .before .before .before .before .before .args in
+    excess (a .m) (a .w) (a .c) (a .marks .now) ≤ 2
 low t =
     let A = fair (t .before .before .before) in
     let h = t .before .excess-of .ensures .0 (A .good) (A .marks-size) in

@@ -4,12 +4,12 @@ use native.Mathlib.Omega.{arith}
 use borrow.Author.Tests.{not-true, not-false}
 use Prim.Native.Nat.{_≤_}
 use lib.ListN.{length}
-use Rattle.wide_edition.specs.Edition.{wide}
+use Rattle.wide_edition.specs.Edition.{wideEdition}
 use Rattle.code.specs.Word.{isLocal}
 use Rattle.fill.specs.Filled.{FilledIn}
-use Rattle.repair.specs.Service.{PartAttemptIn}
+use Rattle.repair.specs.Repair.{PartAttemptIn}
 use Rattle.wide_edition.specs.EditionLaws.{wide-sound}
-use Rattle.repair.specs.ServiceLaws.{part-done, part-failed}
+use Rattle.repair.specs.RepairLaws.{part-done, part-failed}
 use borrow.Author.Needs.{needs}
 use Rattle.wide_repair.proofs.attempt.Statement.{statement}
 use Rattle.wide_repair.proofs.attempt.Tie as tie
@@ -38,7 +38,8 @@ returns c =
     let s = cp .before .before .before .before .before in
     let a = s .before in
     let p = a .pre in
-    part-failed wide-sound (length (a .args .part .now)) (a .args .c) (p .0) (p .1 .0) (p .1 .1 .0) (a .args .marks .now) (a .args .part .now) _ _ refl (p .1 .1 .1 .0)
+    part-failed wide-sound (length (a .args .part .now)) (a .args .c) (p .0) (p .1 .0) (p .1 .1 .0) (a .args .marks .now) (a .args .part .now) _ _ refl
+    (p .1 .1 .1 .0)
     (λ i. s .slice-known .given i .fits) (λ i. k .slice-known4 .given i .fits) (p .1 .1 .1 .1 .1)
     (cp .copy .ensures .0 (sym (p .1 .1 .1 .1 .0))) (f .fill .ensures) _ (z .local-zero .ensures .0) (not-true _ (c .if1 .taken))
 
@@ -62,7 +63,8 @@ returns-2 c =
     let s = cp .before .before .before .before .before in
     let a = s .before in
     let p = a .pre in
-    part-done wide-sound (length (a .args .part .now)) (a .args .c) (p .0) (p .1 .0) (p .1 .1 .0) (a .args .marks .now) (a .args .part .now) _ _ refl (p .1 .1 .1 .0)
+    part-done wide-sound (length (a .args .part .now)) (a .args .c) (p .0) (p .1 .0) (p .1 .1 .0) (a .args .marks .now) (a .args .part .now) _ _ refl
+    (p .1 .1 .1 .0)
     (λ i. s .slice-known .given i .fits) (λ i. k .slice-known4 .given i .fits) (p .1 .1 .1 .1 .1)
     (cp .copy .ensures .0 (sym (p .1 .1 .1 .1 .0))) (f .fill .ensures) _ (z .local-zero .ensures .0) _ (not-false _ (e .if1 .left)) (cp2 .copy2 .ensures .0)
 

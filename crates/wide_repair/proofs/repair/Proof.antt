@@ -5,12 +5,12 @@ use lib.ListN.{length}
 use Rattle.shape.specs.Answers.{mendingAt}
 use Rattle.shape.specs.AnswersLaws.{mending-refused}
 use Rattle.shape.specs.Laws.{places-most}
-use Rattle.wide_edition.specs.Edition.{wide}
-use Rattle.groups.specs.Lent.{LentIn}
-use Rattle.groups.specs.LentLaws.{end-fits, part-length, part-narrow}
+use Rattle.wide_edition.specs.Edition.{wideEdition}
+use Rattle.code.specs.Lent.{LentIn}
+use Rattle.code.specs.LentLaws.{end-fits, part-length, part-narrow}
 use Rattle.recover.specs.Attempt.{AcceptedIn}
 use Rattle.recover.specs.AttemptLaws.{accepted}
-use Rattle.repair.specs.ServiceLaws.{service-refused, refused-early, refused-seven, service-lent}
+use Rattle.repair.specs.RepairLaws.{service-refused, refused-early, refused-seven, service-lent}
 use borrow.Author.Needs.{needs}
 use Rattle.wide_edition.specs.Edition.{wideLimits}
 use Rattle.wide_recover.specs.RefusalLaws.{not-nine}
@@ -31,13 +31,14 @@ returns c =
     let r = c .before in
     let a = r .before .before .before .before .before .args in
     let n = r .refusal .result in
-    let e = service-refused wide (a .m) (a .w) (a .c) (a .g) (a .word .now) (a .marks .now) n
+    let e = service-refused wideEdition (a .m) (a .w) (a .c) (a .g) (a .word .now) (a .marks .now) n
     (refused-early wideLimits (a .m) (a .w) (a .c) (a .g) (a .word .now) (a .marks .now) n (r .refusal .ensures) (c .if1 .taken)) (c .if1 .taken) in
     let k : n ≡ 9 → ⊥ = λ z. not-nine wideLimits (a .m) (a .w) (a .c) (a .word .now) (a .marks .now) (sym (r .refusal .ensures) ∙ z) in
     (sym (mending-refused n 0 (c .if1 .taken) k) ∙ ap (λ o. mendingAt (o .number) (o .group)) (sym e), (ap (λ o. o .word) (sym e), ap (λ o. o .marks) (sym e)))
 
 -- past the first test the shape is good, and word and marks have its length
-fair : (t : tie.Else1) → let a = t .before .before .before .before .before .before .args in AcceptedIn wideLimits (a .m) (a .w) (a .c) (a .word .now) (a .marks .now)
+fair : (t : tie.Else1) → let a = t .before .before .before .before .before .before .args in AcceptedIn wideLimits (a .m) (a .w) (a .c) (a .word .now)
+    (a .marks .now)
 fair t =
     let r = t .before in
     let a = r .before .before .before .before .before .args in
@@ -53,16 +54,20 @@ returns-2 : tie.Need-returns-2
 returns-2 c =
     let t = c .before in
     let a = t .before .before .before .before .before .before .args in
-    let e = service-refused wide (a .m) (a .w) (a .c) (a .g) (a .word .now) (a .marks .now) 7
+    let e = service-refused wideEdition (a .m) (a .w) (a .c) (a .g) (a .word .now) (a .marks .now) 7
     (refused-seven wideLimits (a .m) (a .w) (a .c) (a .g) (a .word .now) (a .marks .now) (fair t .refusal) (c .if2 .taken)) (λ z. omega arith) in
     (ap (λ o. mendingAt (o .number) (o .group)) (sym e), (ap (λ o. o .word) (sym e), ap (λ o. o .marks) (sym e)))
 
 -- past the second test the group's part lies within the word, and within the marks
-fits : (t : tie.Else2) → let a = t .before .before .before .before .before .before .before .args in (a .g * a .w + a .w ≤ length (a .word .now)) × (a .g * a .w + a .w ≤ length (a .marks .now))
+fits : (t : tie.Else2) → let a = t .before .before .before .before .before .before .before .args in (a .g * a .w + a .w ≤ length (a .word .now))
+    × (a .g * a .w + a .w ≤ length (a .marks .now))
 fits t =
     let a = t .before .before .before .before .before .before .before .args in
-    let A = fair (t .before) in
-    (end-fits {xs = a .word .now} (record { good = A .good; size = A .word-size }) (a .g) (omega arith), end-fits {xs = a .marks .now} (record { good = A .good; size = A .marks-size }) (a .g) (omega arith))
+    let A = fair (t .before) in (
+      end-fits {xs = a .word .now} (record { good = A .good; size = A .word-size }) (a .g) (omega arith),
+      end-fits {xs = a .marks .now}
+          (record { good = A .good; size = A .marks-size }) (a .g) (omega arith),
+    )
 
 mul-a : tie.Need-mul-a
 mul-a c = omega (arith, places-most (fair (c .before) .good), fair (c .before) .word-size, fits c .0)
@@ -116,7 +121,7 @@ returns-3 c =
     let u = t .before .before .before .before in
     let a = u .before .before .before .before .before .before .args in
     let E = t .repair-part .ensures in
-    service-lent wide (a .m) (a .w) (a .c) (a .g) (a .word .now) (a .marks .now) (fair u) (omega arith) _ _ _ (E .0) (E .1 .0) (E .1 .1)
+    service-lent wideEdition (a .m) (a .w) (a .c) (a .g) (a .word .now) (a .marks .now) (fair u) (omega arith) _ _ _ (E .0) (E .1 .0) (E .1 .1)
 
 pub repair-spec : {M : Type 1} → statement M
 repair-spec =

@@ -4,7 +4,7 @@ use borrow.Author.Tests.{not-true, not-false}
 use lib.ListN.{length}
 use lib.Seq.{length-take-le}
 use Rattle.shape.specs.Answers.{mendingAt}
-use Rattle.wide_edition.specs.Edition.{wide}
+use Rattle.wide_edition.specs.Edition.{wideEdition}
 use Rattle.wide_edition.specs.EditionLaws.{wide-sound}
 use Rattle.code.specs.Marks.{lostIn}
 use Rattle.code.specs.RepairLaws.{repaired-eight, repaired-nine, repaired-done}
@@ -24,7 +24,7 @@ returns c =
     let k = x .before .before .before in
     let a = k .before in
     let w : ℕ = length (a .args .part .now) in
-    let e = repaired-eight wide wide-sound w (a .args .c) (a .pre .0) (a .pre .1 .0) (a .args .part .now) (a .args .marks .now)
+    let e = repaired-eight wideEdition wide-sound w (a .args .c) (a .pre .0) (a .pre .1 .0) (a .args .part .now) (a .args .marks .now)
     (record { size = refl; each = λ p. k .slice-known .given p .fits }) (a .args .g)
     (subst (λ n. a .args .c < n) (x .lost-in .ensures ∙ ap (λ n. lostIn n (a .args .marks .now) 0) (a .pre .1 .1 .1 .0)) (c .if1 .taken)) in
     (ap (λ o. mendingAt (o .number) (o .group)) (sym e), (ap (λ o. o .word) (sym e), ap (λ o. o .marks) (sym e)))
@@ -40,7 +40,8 @@ attempt-requires c κs =
     let x = c .before .before .before .before in
     let a = x .before .before .before .before in
     let few : lostIn (length (a .args .part .now)) (a .args .marks .now) 0 ≤ a .args .c =
-    subst (λ n. n ≤ a .args .c) (x .lost-in .ensures ∙ ap (λ n. lostIn n (a .args .marks .now) 0) (a .pre .1 .1 .1 .0)) (c .before .before .before .if1 .left) in
+    subst (λ n. n ≤ a .args .c) (x .lost-in .ensures ∙ ap (λ n. lostIn n (a .args .marks .now) 0) (a .pre .1 .1 .1 .0))
+    (c .before .before .before .if1 .left) in
     (a .pre .0, (a .pre .1 .0, (a .pre .1 .1 .0, (a .pre .1 .1 .1 .0, (sym (slice-aggregate-attempt c), few)))))
 
 clear-if-requires : tie.Need-clear-if-requires
@@ -68,7 +69,7 @@ returns-2 c =
     (t .before .before .before .before .if1 .left) in
     let n = not-true _ (c .if2 .taken) in
     let F = t .attempt .ensures .failed n in
-    let e = repaired-nine wide wide-sound w (a .args .c) (a .pre .0) (a .pre .1 .0) (a .args .part .now) (a .args .marks .now)
+    let e = repaired-nine wideEdition wide-sound w (a .args .c) (a .pre .0) (a .pre .1 .0) (a .args .part .now) (a .args .marks .now)
     (record { size = refl; each = λ p. k .slice-known .given p .fits }) (a .args .g) few (F .1) in
     (ap (λ o. mendingAt (o .number) (o .group)) (sym e), (F .0 ∙ ap (λ o. o .word) (sym e), cl .clear-if .ensures .1 n ∙ ap (λ o. o .marks) (sym e)))
 
@@ -90,7 +91,7 @@ returns-3 c =
     subst (λ n. n ≤ a .args .c) (x .lost-in .ensures ∙ ap (λ n. lostIn n (a .args .marks .now) 0) (a .pre .1 .1 .1 .0))
     (t .before .before .before .before .if1 .left) in
     let y = not-false _ (c .if2 .left) in
-    let e = repaired-done wide wide-sound w (a .args .c) (a .pre .0) (a .pre .1 .0) (a .args .part .now) (a .args .marks .now)
+    let e = repaired-done wideEdition wide-sound w (a .args .c) (a .pre .0) (a .pre .1 .0) (a .args .part .now) (a .args .marks .now)
     (record { size = refl; each = λ p. k .slice-known .given p .fits }) (a .args .g) _ few (t .attempt .ensures .done y) in
     (ap (λ o. mendingAt (o .number) (o .group)) (sym e), (ap (λ o. o .word) (sym e), cl .clear-if .ensures .0 y ∙ ap (λ o. o .marks) (sym e)))
 

@@ -28,8 +28,11 @@ clear-row-requires : tie.Need-clear-row-requires Inv-loop μ-loop
 clear-row-requires c κs =
     let s = c .before .before .before in
     let r = s .before in
-    let a = r .before .before .before in
-    ((omega arith, omega arith, omega arith), r .row-at .ensures ∙ clear-pivot 16 69643 (rowsOf (a .args .x .now)) (a .args .j) (rowsOf (s .loop .x)) (s .loop .i) (s .loop .inv .2))
+    let a = r .before .before .before in (
+      (omega arith, omega arith, omega arith),
+      r .row-at .ensures ∙ clear-pivot 16 69643 (rowsOf (a .args .x .now)) (a .args .j) (rowsOf (s .loop .x))
+          (s .loop .i) (s .loop .inv .2),
+    )
 
 add-i : tie.Need-add-i Inv-loop μ-loop
 add-i c = omega arith

@@ -4,7 +4,7 @@ use Prim.Native.Nat.{ℕ}
 use native.Mathlib.Omega.{arith}
 use lib.ListN.{length}
 use Rattle.code.specs.StretchLaws.{stretch-length}
-use Rattle.groups.specs.LentLaws.{stretch-lent, with-lent}
+use Rattle.code.specs.LentLaws.{stretch-lent, with-lent}
 use Rattle.solve.specs.Flat.{rowsOf}
 use Rattle.solve.specs.FlatLaws.{row-long}
 use Rattle.solve.proofs.Laws.{row-skip, clear-part}
@@ -46,7 +46,8 @@ add-requires : tie.Need-add-requires
 add-requires c κs =
     let a = c .before .before .before .before .before in
     let x : List ℕ = a .args .x .now in
-    ap length (a .pre .1) ∙ row-long x (omega arith) (a .args .j) (omega arith) ∙ sym (ap length (stretch-lent 16 (a .args .i) x) ∙ stretch-length 16 (a .args .i) x (omega arith))
+    ap length (a .pre .1) ∙ row-long x (omega arith) (a .args .j) (omega arith)
+    ∙ sym (ap length (stretch-lent 16 (a .args .i) x) ∙ stretch-length 16 (a .args .i) x (omega arith))
 
 same-length : tie.Need-same-length
 same-length c = search needs

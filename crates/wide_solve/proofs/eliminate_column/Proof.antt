@@ -28,7 +28,8 @@ normalize-requires c κs =
 
 clear-requires : tie.Need-clear-requires
 clear-requires c κs =
-    let a = c .before .before .before .before .before .before .before .before .before .before .before .before .before in (search needs, omega arith, omega arith)
+    let a = c .before .before .before .before .before .before .before .before .before .before .before .before .before in
+    (search needs, omega arith, omega arith)
 
 same-length-2 : tie.Need-same-length-2
 same-length-2 c = search needs

@@ -7,7 +7,7 @@ use lib.ListN.{length, getD, replicate, length-set}
 use borrow.Author.Needs.{needs}
 use Rattle.code.specs.Word.{localSum}
 use Rattle.buffers.proofs.Laws.{passed-set}
-use Rattle.wide_edition.specs.Edition.{wide}
+use Rattle.wide_edition.specs.Edition.{wideEdition}
 use Rattle.wide_sums.specs.PowerSums.{Raised}
 use Rattle.wide_sums.specs.PowerSumsLaws.{raised-none, raised-next, raised-sum}
 use Rattle.wide_sums.proofs.gather.Statement.{statement}
@@ -15,7 +15,7 @@ use Rattle.wide_sums.proofs.gather.Tie as tie
 
 abbrev Inv-loop : tie.InvT-loop
 Inv-loop x₀ row n sums₀ s e₀ x sums e =
-    (1 ≤ e) × (length sums ≡ 6) × Raised (e - 1) x₀ x × ((k : ℕ) → k < e → getD sums k 0 ≡ localSum wide (length x₀) x₀ 0 k)
+    (1 ≤ e) × (length sums ≡ 6) × Raised (e - 1) x₀ x × ((k : ℕ) → k < e → getD sums k 0 ≡ localSum wideEdition (length x₀) x₀ 0 k)
 
 abbrev μ-loop : tie.MeasureT-loop
 μ-loop x₀ row n sums₀ s e₀ x sums e = n - e
@@ -29,8 +29,13 @@ array-write-sums c = omega arith
 loop-holds : tie.Need-loop-holds Inv-loop μ-loop
 loop-holds c =
     let x : List ℕ = c .before .before .before .before .args .x .now in
-    let R : Raised 0 x x = raised-none x (λ p. c .before .before .before .slice-known .given p .fits) in
-    (omega arith, refl, R, passed-set (λ k. localSum wide (length x) x 0 k) (replicate 6 0) 0 _ (lit< tt) (c .sum .ensures ∙ raised-sum R) (λ k l. absurd (omega arith)))
+    let R : Raised 0 x x = raised-none x (λ p. c .before .before .before .slice-known .given p .fits) in (
+      omega arith,
+      refl,
+      R,
+      passed-set (λ k. localSum wideEdition (length x) x 0 k) (replicate 6 0) 0 _ (lit< tt) (c .sum .ensures ∙ raised-sum R)
+          (λ k l. absurd (omega arith)),
+    )
 
 multiply-requires : tie.Need-multiply-requires Inv-loop μ-loop
 multiply-requires c κs =
@@ -65,7 +70,7 @@ loop-again c =
       omega arith,
       simp length-set (s .loop .inv .1),
       subst (λ n. Raised n x y) (sym z) R,
-      passed-set (λ k. localSum wide (length x) x 0 k) (s .loop .sums) e _ (omega arith) (c .sum2 .ensures ∙ raised-sum R) (s .loop .inv .3),
+      passed-set (λ k. localSum wideEdition (length x) x 0 k) (s .loop .sums) e _ (omega arith) (c .sum2 .ensures ∙ raised-sum R) (s .loop .inv .3),
     )
 
 same-length : tie.Need-same-length Inv-loop μ-loop

@@ -28,10 +28,12 @@ returns-3 c =
     let p = c .before in
     let w = p .before in
     let a = w .before .before .before .before .args in (
-      λ narrow few. c .share .ensures .0 ∙ sums-first (a .part .now) (p .power-sums .result) (a .c) _ (p .power-sums .ensures .0 narrow (omega arith)) narrow (omega arith),
+      λ narrow few. c .share .ensures .0 ∙ sums-first (a .part .now) (p .power-sums .result) (a .c) _ (p .power-sums .ensures .0 narrow (omega arith)) narrow
+          (omega arith),
       (
         λ narrow few. c .share .ensures .1
-            ∙ sums-second (a .part .now) (p .power-sums .result) (a .c) _ (p .power-sums .ensures .0 narrow (omega arith)) narrow (omega arith) (a .g) _ (w .power-of-two .ensures),
+            ∙ sums-second (a .part .now) (p .power-sums .result) (a .c) _ (p .power-sums .ensures .0 narrow (omega arith)) narrow (omega arith) (a .g) _
+            (w .power-of-two .ensures),
         λ n. absurd (n (omega arith) (omega arith)),
       ),
     )

@@ -21,7 +21,8 @@ returns-3 : tie.Need-returns-3
 returns-3 c =
     let p = c .before in
     let a = p .before .before .before .before .args in (
-      λ narrow few. c .all-zero .ensures ∙ sums-local (a .part .now) (p .power-sums .result) (a .c) (a .c) (p .power-sums .ensures .0 narrow (omega arith)) (omega arith),
+      λ narrow few. c .all-zero .ensures ∙ sums-local (a .part .now) (p .power-sums .result) (a .c) (a .c) (p .power-sums .ensures .0 narrow (omega arith))
+          (omega arith),
       λ n. absurd (n (omega arith) (omega arith)),
     )
 

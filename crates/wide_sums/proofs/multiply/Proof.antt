@@ -7,13 +7,13 @@ use borrow.Author.Needs.{needs}
 use Rattle.code.specs.Edition.{times}
 use Rattle.buffers.proofs.Laws.{passed-set}
 use Rattle.candidate.proofs.Laws.{rest-set}
-use Rattle.wide_edition.specs.Edition.{wide}
+use Rattle.wide_edition.specs.Edition.{wideEdition}
 use Rattle.wide_sums.proofs.multiply.Statement.{statement}
 use Rattle.wide_sums.proofs.multiply.Tie as tie
 
 abbrev Inv-loop : tie.InvT-loop
 Inv-loop x₀ row i₀ x i =
-    (i ≤ length x₀) × (length x ≡ length x₀) × ((k : ℕ) → k < i → getD x k 0 ≡ times wide (getD x₀ k 0) (getD row k 0))
+    (i ≤ length x₀) × (length x ≡ length x₀) × ((k : ℕ) → k < i → getD x k 0 ≡ times wideEdition (getD x₀ k 0) (getD row k 0))
     × ((k : ℕ) → i ≤ k → getD x k 0 ≡ getD x₀ k 0)
 
 abbrev μ-loop : tie.MeasureT-loop
@@ -58,8 +58,8 @@ loop-again c =
     let x₀ : List ℕ = a .x .now in (
       omega arith,
       simp length-set (omega arith),
-      passed-set (λ k. times wide (getD x₀ k 0) (getD (a .row .now) k 0)) x i _ (omega arith)
-          (c .product .ensures ∙ ap (λ v. times wide v (getD (a .row .now) i 0)) (s .loop .inv .3 i (omega arith))) (s .loop .inv .2),
+      passed-set (λ k. times wideEdition (getD x₀ k 0) (getD (a .row .now) k 0)) x i _ (omega arith)
+          (c .product .ensures ∙ ap (λ v. times wideEdition v (getD (a .row .now) i 0)) (s .loop .inv .3 i (omega arith))) (s .loop .inv .2),
       rest-set (λ k. getD x₀ k 0) x i _ 0 (s .loop .inv .3),
     )
 

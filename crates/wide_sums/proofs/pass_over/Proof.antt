@@ -7,12 +7,12 @@ use lib.ListN.{length, take, drop}
 use Rattle.shape.specs.Laws.{word-of-good}
 use Rattle.binary_field.specs.PowerLaws.{power-zero}
 use Rattle.code.specs.Edition.{raised}
-use Rattle.code.specs.Word.{coefficient, twisted, firstAcross, secondAcross}
-use Rattle.groups.specs.Lent.{LentIn}
-use Rattle.groups.specs.LentLaws.{lent-in, end-fits, part-narrow}
+use Rattle.code.specs.Word.{coefficient, secondCoefficient, firstAcross, secondAcross}
+use Rattle.code.specs.Lent.{LentIn}
+use Rattle.code.specs.LentLaws.{lent-in, end-fits, part-narrow}
 use Rattle.syndrome.specs.Tests.{brokenGroupIn}
 use Rattle.syndrome.specs.PartsLaws.{word-none, sum-turn, part-local}
-use Rattle.wide_edition.specs.Edition.{wideLimits, wide}
+use Rattle.wide_edition.specs.Edition.{wideLimits, wideEdition}
 use Rattle.wide_sums.specs.declared.Sums.{Sums}
 use Rattle.wide_sums.specs.PowerSums.{PowerSums}
 use Rattle.wide_sums.specs.Survey.{surveyOf}
@@ -23,8 +23,8 @@ use Rattle.wide_sums.proofs.pass_over.Tie as tie
 
 abbrev Inv-loop : tie.InvT-loop
 Inv-loop m w c word group₀ first₀ second₀ weight₀ g₀ group first second weight g =
-    LentIn wideLimits m w c word × (g ≤ m) × (group ≡ brokenGroupIn wide g w c word) × (first ≡ firstAcross wide g w c word)
-    × (second ≡ secondAcross wide g w c word) × (weight ≡ raised wide 2 g)
+    LentIn wideLimits m w c word × (g ≤ m) × (group ≡ brokenGroupIn wideEdition g w c word) × (first ≡ firstAcross wideEdition g w c word)
+    × (second ≡ secondAcross wideEdition g w c word) × (weight ≡ raised wideEdition 2 g)
 
 abbrev μ-loop : tie.MeasureT-loop
 μ-loop m w c word group₀ first₀ second₀ weight₀ g₀ group first second weight g = m - g
@@ -43,8 +43,8 @@ loop-holds c =
       lent-in wideLimits (a .m) (a .w) (a .c) (a .word .now) (sym (c .before .word-refusal .ensures) ∙ c .if1 .left),
       omega arith,
       sym (broken-start (a .w) (a .c) (a .word .now)),
-      sym (word-none wide (a .w) (a .word .now) (λ _. coefficient wide (a .c))),
-      sym (word-none wide (a .w) (a .word .now) (twisted wide (a .c))),
+      sym (word-none wideEdition (a .w) (a .word .now) (λ _. coefficient wideEdition (a .c))),
+      sym (word-none wideEdition (a .w) (a .word .now) (secondCoefficient wideEdition (a .c))),
       sym (power-zero 16 69643 2),
     )
 
@@ -55,7 +55,12 @@ add-e : tie.Need-add-e Inv-loop μ-loop
 add-e c = omega (arith, end-fits (c .before .loop .inv .0) (c .before .loop .g) (c .loop-test .taken))
 
 mul-power-sums : tie.Need-mul-power-sums Inv-loop μ-loop
-mul-power-sums c = omega (arith, end-fits (c .before .loop .inv .0) (c .before .loop .g) (c .loop-test .taken), c .before .loop .inv .0 .size, c .before .loop .inv .0 .good .fits)
+mul-power-sums c = omega (
+  arith,
+  end-fits (c .before .loop .inv .0) (c .before .loop .g) (c .loop-test .taken),
+  c .before .loop .inv .0 .size,
+  c .before .loop .inv .0 .good .fits,
+)
 
 sub-power-sums : tie.Need-sub-power-sums Inv-loop μ-loop
 sub-power-sums c = search needs
@@ -76,7 +81,8 @@ all-zero-requires : tie.Need-all-zero-requires Inv-loop μ-loop
 all-zero-requires c κs = c .before .before .before .loop .inv .0 .good .few-checks
 
 passed-requires : tie.Need-passed-requires Inv-loop μ-loop
-passed-requires c κs = let s = c .before .before .before .before in let L = s .loop .inv .0 in omega (arith, L .good .few, c .before .before .before .loop-test .taken)
+passed-requires c κs = let s = c .before .before .before .before in let L = s .loop .inv .0 in
+    omega (arith, L .good .few, c .before .before .before .loop-test .taken)
 
 share-requires : tie.Need-share-requires Inv-loop μ-loop
 share-requires c κs = c .before .before .before .before .before .loop .inv .0 .good .few-checks
@@ -110,9 +116,10 @@ loop-again c =
       omega arith,
       p .passed .ensures
           ∙ broken-next (a .w) (a .c) (a .word .now) g (s .loop .group) (z .all-zero .result) (s .loop .inv .2)
-          (z .all-zero .ensures ∙ sums-local part sums (a .c) (a .c + 2) P (omega arith) ∙ part-local wide L g l refl),
-      sum-turn wide L g l refl (λ _. coefficient wide (a .c)) _ _ (s .loop .inv .3) (h .share .ensures .0 ∙ sums-first part sums (a .c) (a .c + 2) P n (omega arith)),
-      sum-turn wide L g l refl (twisted wide (a .c)) _ _ (s .loop .inv .4)
+          (z .all-zero .ensures ∙ sums-local part sums (a .c) (a .c + 2) P (omega arith) ∙ part-local wideEdition L g l refl),
+      sum-turn wideEdition L g l refl (λ _. coefficient wideEdition (a .c)) _ _ (s .loop .inv .3)
+          (h .share .ensures .0 ∙ sums-first part sums (a .c) (a .c + 2) P n (omega arith)),
+      sum-turn wideEdition L g l refl (secondCoefficient wideEdition (a .c)) _ _ (s .loop .inv .4)
           (h .share .ensures .1 ∙ sums-second part sums (a .c) (a .c + 2) P n (omega arith) g _ (s .loop .inv .5)),
       c .double .ensures ∙ weight-next g (s .loop .weight) (s .loop .inv .5),
     )

@@ -6,12 +6,12 @@ use borrow.Author.Needs.{needs}
 use lib.ListN.{length, getD}
 use Rattle.shape.specs.Laws.{good-of-word}
 use Rattle.shape.specs.Shapes.{wordRefusal}
-use Rattle.byte_edition.specs.Edition.{bytes}
+use Rattle.byte_edition.specs.Edition.{byteEdition}
 use Rattle.code.specs.ContradictionLaws.{whole-groups}
 use Rattle.syndrome.specs.declared.Tested.{Tested}
 use Rattle.syndrome.specs.Tests.{brokenGroupIn, brokenGroup}
 use Rattle.syndrome.specs.TestsLaws.{broken-most}
-use Rattle.word_check.specs.Answer.{checkedAt, wholeGroup, checkedIn, checkedOf, checkedNumber, checkedFigures, figuresOf}
+use Rattle.word_check.specs.Checked.{checkedAt, wholeGroup, checkedIn, checkedOf, checkedNumber, checkedFigures, checkFiguresOf}
 use Rattle.word_check.specs.Laws.{checked-number, checked-figures, checked-refused}
 use Rattle.word_check.specs.declared.Checked.{Checked}
 use Rattle.word_check.proofs.check.Statement.{statement}
@@ -19,13 +19,13 @@ use Rattle.word_check.proofs.check.Tie as tie
 
 -- number and figures follow from the answer
 whole : (m w c : ℕ) (word : List ℕ) (r : Checked) → r ≡ checkedOf m w c word
-    → (r ≡ checkedOf m w c word) × ((checkedNumber r ≡ wordRefusal m w c (length word)) × (checkedFigures r ≡ figuresOf m w c word))
-whole m w c word r e = (e, (ap checkedNumber e ∙ checked-number bytes m w c word, ap checkedFigures e ∙ checked-figures bytes m w c word))
+    → (r ≡ checkedOf m w c word) × ((checkedNumber r ≡ wordRefusal m w c (length word)) × (checkedFigures r ≡ checkFiguresOf m w c word))
+whole m w c word r e = (e, (ap checkedNumber e ∙ checked-number byteEdition m w c word, ap checkedFigures e ∙ checked-figures byteEdition m w c word))
 
 -- the lowest broken group is the one that contradicts
 named : (m w c : ℕ) (word : List ℕ) → length word ≡ m * w → ((p : ℕ) → getD word p 0 < 256) → brokenGroup m w c word ≡ wholeGroup m w c word
 unfolding brokenGroupIn
-named m w c word size small = whole-groups bytes m w c word size small
+named m w c word size small = whole-groups byteEdition m w c word size small
 
 word-refusal-requires : tie.Need-word-refusal-requires
 word-refusal-requires c κs = search needs
@@ -68,7 +68,7 @@ cast-t10 c =
     let e : wordRefusal (a .m) (a .w) (a .c) (length (a .word .now)) ≡ 0 = sym (t .before .word-refusal .ensures) ∙ t .if1 .left in
     let g = good-of-word (a .m) (a .w) (a .c) (length (a .word .now)) e in
     let v = ap (λ (x : Tested). x .group) (s .test .ensures .0 (g .0) (g .1)) in
-    omega (arith, v, broken-most bytes (a .m) (a .w) (a .c) (a .word .now), g .0 .few)
+    omega (arith, v, broken-most byteEdition (a .m) (a .w) (a .c) (a .word .now), g .0 .few)
 
 returns-3 : tie.Need-returns-3
 returns-3 c =

@@ -20,18 +20,39 @@ returns-3 c = simp (ne-eqb _ _ (c .before .before .if1 .left), le-ltb _ _ (c .be
 
 returns-4 : tie.Need-returns-4
 unfolding madeOf shapeRefusalIn
-returns-4 c = simp (ne-eqb _ _ (c .before .before .before .if1 .left), le-ltb _ _ (c .before .before .if2 .left), ne-eqb _ _ (c .before .if3 .left), lt-ltb _ _ (c .if4 .taken))
+returns-4 c = simp (
+  ne-eqb _ _ (c .before .before .before .if1 .left),
+  le-ltb _ _ (c .before .before .if2 .left),
+  ne-eqb _ _ (c .before .if3 .left),
+  lt-ltb _ _
+      (c .if4 .taken),
+)
 
 add-if5 : tie.Need-add-if5
 add-if5 c = search needs
 
 returns-5 : tie.Need-returns-5
 unfolding madeOf shapeRefusalIn
-returns-5 c = simp (ne-eqb _ _ (c .before .before .before .before .if1 .left), le-ltb _ _ (c .before .before .before .if2 .left), ne-eqb _ _ (c .before .before .if3 .left), le-ltb _ _ (c .before .if4 .left), lt-ltb _ _ (c .if5 .taken))
+returns-5 c = simp (
+  ne-eqb _ _ (c .before .before .before .before .if1 .left),
+  le-ltb _ _ (c .before .before .before .if2 .left),
+  ne-eqb _ _
+      (c .before .before .if3 .left),
+  le-ltb _ _ (c .before .if4 .left),
+  lt-ltb _ _ (c .if5 .taken),
+)
 
 returns-6 : tie.Need-returns-6
 unfolding madeOf shapeRefusalIn
-returns-6 c = simp (ne-eqb _ _ (c .before .before .before .before .before .if1 .left), le-ltb _ _ (c .before .before .before .before .if2 .left), ne-eqb _ _ (c .before .before .before .if3 .left), le-ltb _ _ (c .before .before .if4 .left), le-ltb _ _ (c .before .if5 .left), lt-ltb _ _ (c .if6 .taken))
+returns-6 c = simp (
+  ne-eqb _ _ (c .before .before .before .before .before .if1 .left),
+  le-ltb _ _ (c .before .before .before .before .if2 .left),
+  ne-eqb _ _
+      (c .before .before .before .if3 .left),
+  le-ltb _ _ (c .before .before .if4 .left),
+  le-ltb _ _ (c .before .if5 .left),
+  lt-ltb _ _ (c .if6 .taken),
+)
 
 cast-t7 : tie.Need-cast-t7
 cast-t7 c = search needs
@@ -47,11 +68,35 @@ k-requires c κs = search needs
 
 returns-7 : tie.Need-returns-7
 unfolding madeOf shapeRefusalIn
-returns-7 c = simp (ne-eqb _ _ (c .before .before .before .before .before .before .before .if1 .left), le-ltb _ _ (c .before .before .before .before .before .before .if2 .left), ne-eqb _ _ (c .before .before .before .before .before .if3 .left), le-ltb _ _ (c .before .before .before .before .if4 .left), le-ltb _ _ (c .before .before .before .if5 .left), le-ltb _ _ (c .before .before .if6 .left), eq-eqb _ _ (sym (c .before .k .ensures) ∙ c .if7 .taken))
+returns-7 c = simp (
+  ne-eqb _ _ (c .before .before .before .before .before .before .before .if1 .left),
+  le-ltb _ _
+      (c .before .before .before .before .before .before .if2 .left),
+  ne-eqb _ _ (c .before .before .before .before .before .if3 .left),
+  le-ltb _ _
+      (c .before .before .before .before .if4 .left),
+  le-ltb _ _ (c .before .before .before .if5 .left),
+  le-ltb _ _ (c .before .before .if6 .left),
+  eq-eqb _ _
+      (sym (c .before .k .ensures) ∙ c .if7 .taken),
+)
 
 returns-8 : tie.Need-returns-8
 unfolding madeOf shapeRefusalIn
-returns-8 c = simp (ne-eqb _ _ (c .before .before .before .before .before .before .before .if1 .left), le-ltb _ _ (c .before .before .before .before .before .before .if2 .left), ne-eqb _ _ (c .before .before .before .before .before .if3 .left), le-ltb _ _ (c .before .before .before .before .if4 .left), le-ltb _ _ (c .before .before .before .if5 .left), le-ltb _ _ (c .before .before .if6 .left), ne-eqb _ _ (λ e. c .if7 .left (c .before .k .ensures ∙ e)), le-ltb _ _ (places-fit (c .before .before .before .before .before .before .if2 .left) (c .before .before .if6 .left)))
+returns-8 c = simp (
+  ne-eqb _ _ (c .before .before .before .before .before .before .before .if1 .left),
+  le-ltb _ _
+      (c .before .before .before .before .before .before .if2 .left),
+  ne-eqb _ _ (c .before .before .before .before .before .if3 .left),
+  le-ltb _ _
+      (c .before .before .before .before .if4 .left),
+  le-ltb _ _ (c .before .before .before .if5 .left),
+  le-ltb _ _ (c .before .before .if6 .left),
+  ne-eqb _ _
+      (λ e. c .if7 .left (c .before .k .ensures ∙ e)),
+  le-ltb _ _ (places-fit (c .before .before .before .before .before .before .if2 .left)
+      (c .before .before .if6 .left)),
+)
 
 pub new-spec : {M : Type 1} → statement M
 new-spec =

@@ -29,18 +29,39 @@ returns-3 c = simp (ne-eqb _ _ (c .before .before .if1 .left), le-ltb _ _ (c .be
 
 returns-4 : tie.Need-returns-4
 unfolding shapeRefusalIn
-returns-4 c = simp (ne-eqb _ _ (c .before .before .before .if1 .left), le-ltb _ _ (c .before .before .if2 .left), ne-eqb _ _ (c .before .if3 .left), lt-ltb _ _ (c .if4 .taken))
+returns-4 c = simp (
+  ne-eqb _ _ (c .before .before .before .if1 .left),
+  le-ltb _ _ (c .before .before .if2 .left),
+  ne-eqb _ _ (c .before .if3 .left),
+  lt-ltb _ _
+      (c .if4 .taken),
+)
 
 add-if5 : tie.Need-add-if5
 add-if5 c = search needs
 
 returns-5 : tie.Need-returns-5
 unfolding shapeRefusalIn
-returns-5 c = simp (ne-eqb _ _ (c .before .before .before .before .if1 .left), le-ltb _ _ (c .before .before .before .if2 .left), ne-eqb _ _ (c .before .before .if3 .left), le-ltb _ _ (c .before .if4 .left), lt-ltb _ _ (c .if5 .taken))
+returns-5 c = simp (
+  ne-eqb _ _ (c .before .before .before .before .if1 .left),
+  le-ltb _ _ (c .before .before .before .if2 .left),
+  ne-eqb _ _
+      (c .before .before .if3 .left),
+  le-ltb _ _ (c .before .if4 .left),
+  lt-ltb _ _ (c .if5 .taken),
+)
 
 returns-6 : tie.Need-returns-6
 unfolding shapeRefusalIn
-returns-6 c = simp (ne-eqb _ _ (c .before .before .before .before .before .if1 .left), le-ltb _ _ (c .before .before .before .before .if2 .left), ne-eqb _ _ (c .before .before .before .if3 .left), le-ltb _ _ (c .before .before .if4 .left), le-ltb _ _ (c .before .if5 .left), lt-ltb _ _ (c .if6 .taken))
+returns-6 c = simp (
+  ne-eqb _ _ (c .before .before .before .before .before .if1 .left),
+  le-ltb _ _ (c .before .before .before .before .if2 .left),
+  ne-eqb _ _
+      (c .before .before .before .if3 .left),
+  le-ltb _ _ (c .before .before .if4 .left),
+  le-ltb _ _ (c .before .if5 .left),
+  lt-ltb _ _ (c .if6 .taken),
+)
 
 sub-if7 : tie.Need-sub-if7
 sub-if7 c = search needs
@@ -53,7 +74,18 @@ mul-if7 c =
 
 returns-7 : tie.Need-returns-7
 unfolding shapeRefusalIn
-returns-7 c = simp (ne-eqb _ _ (c .before .before .before .before .before .before .if1 .left), le-ltb _ _ (c .before .before .before .before .before .if2 .left), ne-eqb _ _ (c .before .before .before .before .if3 .left), le-ltb _ _ (c .before .before .before .if4 .left), le-ltb _ _ (c .before .before .if5 .left), le-ltb _ _ (c .before .if6 .left), eq-eqb _ 0 (few-left _ (c .if7 .taken)))
+returns-7 c = simp (
+  ne-eqb _ _ (c .before .before .before .before .before .before .if1 .left),
+  le-ltb _ _
+      (c .before .before .before .before .before .if2 .left),
+  ne-eqb _ _ (c .before .before .before .before .if3 .left),
+  le-ltb _ _
+      (c .before .before .before .if4 .left),
+  le-ltb _ _ (c .before .before .if5 .left),
+  le-ltb _ _ (c .before .if6 .left),
+  eq-eqb _ 0
+      (few-left _ (c .if7 .taken)),
+)
 
 mul-if8 : tie.Need-mul-if8
 mul-if8 c =
@@ -63,11 +95,35 @@ mul-if8 c =
 
 returns-8 : tie.Need-returns-8
 unfolding shapeRefusalIn
-returns-8 c = simp (ne-eqb _ _ (c .before .before .before .before .before .before .before .if1 .left), le-ltb _ _ (c .before .before .before .before .before .before .if2 .left), ne-eqb _ _ (c .before .before .before .before .before .if3 .left), le-ltb _ _ (c .before .before .before .before .if4 .left), le-ltb _ _ (c .before .before .before .if5 .left), le-ltb _ _ (c .before .before .if6 .left), ne-eqb _ 0 (more-left _ (c .before .if7 .left)), lt-ltb _ _ (c .if8 .taken))
+returns-8 c = simp (
+  ne-eqb _ _ (c .before .before .before .before .before .before .before .if1 .left),
+  le-ltb _ _
+      (c .before .before .before .before .before .before .if2 .left),
+  ne-eqb _ _ (c .before .before .before .before .before .if3 .left),
+  le-ltb _ _
+      (c .before .before .before .before .if4 .left),
+  le-ltb _ _ (c .before .before .before .if5 .left),
+  le-ltb _ _ (c .before .before .if6 .left),
+  ne-eqb _ 0
+      (more-left _ (c .before .if7 .left)),
+  lt-ltb _ _ (c .if8 .taken),
+)
 
 returns-9 : tie.Need-returns-9
 unfolding shapeRefusalIn
-returns-9 c = simp (ne-eqb _ _ (c .before .before .before .before .before .before .before .if1 .left), le-ltb _ _ (c .before .before .before .before .before .before .if2 .left), ne-eqb _ _ (c .before .before .before .before .before .if3 .left), le-ltb _ _ (c .before .before .before .before .if4 .left), le-ltb _ _ (c .before .before .before .if5 .left), le-ltb _ _ (c .before .before .if6 .left), ne-eqb _ 0 (more-left _ (c .before .if7 .left)), le-ltb _ _ (c .if8 .left))
+returns-9 c = simp (
+  ne-eqb _ _ (c .before .before .before .before .before .before .before .if1 .left),
+  le-ltb _ _
+      (c .before .before .before .before .before .before .if2 .left),
+  ne-eqb _ _ (c .before .before .before .before .before .if3 .left),
+  le-ltb _ _
+      (c .before .before .before .before .if4 .left),
+  le-ltb _ _ (c .before .before .before .if5 .left),
+  le-ltb _ _ (c .before .before .if6 .left),
+  ne-eqb _ 0
+      (more-left _ (c .before .if7 .left)),
+  le-ltb _ _ (c .if8 .left),
+)
 
 pub refusal-spec : {M : Type 1} → statement M
 refusal-spec =
