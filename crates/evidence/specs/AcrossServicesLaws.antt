@@ -3,24 +3,25 @@ use mathlib.Core.Path.{_≡_, refl, sym, ap, ap₂, _∙_, subst}
 use mathlib.Core.Logic.{_↔_}
 use mathlib.Core.Bool.{Bool, true, false, not}
 use mathlib.Core.List.{List}
-use Prim.Native.Nat.{ℕ, zero, suc, _*_, _<_}
+use Prim.Native.Nat.{ℕ, zero, suc, _*_, _^_, _<_}
 use native.Mathlib.Omega.{arith}
 use lib.Dec.{T, eqb}
 use lib.ListN.{length, getD}
 use Rattle.shape.specs.Refusals.{refuse, _orElse_}
 use Rattle.shape.specs.RefusalsLaws.{orElse-zero}
-use Rattle.shape.specs.Shapes.{byteLimits, Good, placeCount}
+use Rattle.shape.specs.Shapes.{Good, GoodIn, placeCount}
 use Rattle.shape.specs.Laws.{word-of-good}
 use Rattle.byte_edition.specs.Edition.{byteEdition}
 use Rattle.byte_edition.specs.EditionLaws.{bytes-sound}
+use Rattle.code.specs.Edition.{Edition, Sound}
 use Rattle.code.specs.Word.{isCodeword, Symbols, Codeword}
 use Rattle.code.specs.Marks.{Agree}
 use Rattle.code.specs.Outcome.{SameEnd}
-use Rattle.marks.specs.Refusal.{Marked}
+use Rattle.marks.specs.Refusal.{MarkedIn}
 use Rattle.marks.specs.RefusalLaws.{marks-of-good}
-use Rattle.judge.specs.Judgement.{judgedNumberOf}
+use Rattle.judge.specs.Judgement.{judgedNumberIn, judgedNumberOf}
 use Rattle.judge.specs.Laws.{eight-excess}
-use Rattle.recover.specs.Recover.{recoverOf}
+use Rattle.recover.specs.Recover.{recoverIn, recoverOf}
 use Rattle.recover.specs.AttemptLaws.{accepted, eight-exactly}
 use Rattle.recover.specs.DemandTwo.{Named}
 use Rattle.recover.specs.DemandTwoLaws.{good-start, demand-two, lost-bytes}
@@ -37,14 +38,20 @@ use Rattle.desk_record.specs.Refusal.{handleRefusal}
 use Rattle.desk_serve.specs.Serve.{recoveryOf, jobNumber, serveNumber, groupOfNine, serveBy, serveOf}
 use Rattle.evidence.specs.AcrossServices.{CheckedAsRecovered, SameServing}
 
--- "Recover: 8 exactly if judge says 8", for a good shape, n bytes and n marks of 0 or 1.
+-- "Recover: 8 exactly if judge says 8", in every sound edition, for a good shape, n symbols and n marks of 0 or 1
+pub recover-as-judge-in : {E : Edition} (S : Sound E) (m w c : ℕ) (word marks : List ℕ) → GoodIn (E .limits) m w c → length word ≡ m * w
+    → ((p : ℕ) → getD word p 0 < 2 ^ E .bits) → length marks ≡ m * w → ((p : ℕ) → getD marks p 0 < 2)
+    → ((recoverIn E m w c word marks) .number ≡ 8) ↔ (judgedNumberIn (E .limits) m w c marks ≡ 8)
+recover-as-judge-in {E} S m w c word marks good size small marks-size each =
+    let M : MarkedIn (E .limits) m w c marks = record { good = good; size = marks-size; each = each } in
+    let R = eight-exactly S m w c word marks (accepted m w c word marks 0 (sym (good-start m w c word marks M size)) refl) small in
+    let J = eight-excess (E .limits) m w c marks (marks-of-good m w c marks M) in
+    ((λ e. J .1 (R .0 e)), (λ e. R .1 (J .0 e)))
+
+-- of bytes
 pub recover-as-judge : (m w c : ℕ) (word marks : List ℕ) → Good m w c → length word ≡ m * w → ((p : ℕ) → getD word p 0 < 256)
     → length marks ≡ m * w → ((p : ℕ) → getD marks p 0 < 2) → ((recoverOf m w c word marks) .number ≡ 8) ↔ (judgedNumberOf m w c marks ≡ 8)
-recover-as-judge m w c word marks good size small marks-size each =
-    let M : Marked m w c marks = record { good = good; size = marks-size; each = each } in
-    let R = eight-exactly bytes-sound m w c word marks (accepted m w c word marks 0 (sym (good-start m w c word marks M size)) refl) small in
-    let J = eight-excess byteLimits m w c marks (marks-of-good m w c marks M) in
-    ((λ e. J .1 (R .0 e)), (λ e. R .1 (J .0 e)))
+recover-as-judge m w c word marks good size small marks-size each = recover-as-judge-in bytes-sound m w c word marks good size small marks-size each
 
 module _ (m w c : ℕ) (word : List ℕ) (good : Good m w c) (s : Symbols byteEdition (m * w) word) where
   -- of a codeword

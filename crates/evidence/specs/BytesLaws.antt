@@ -1,13 +1,16 @@
 -- Demands 2 and 3 in the edition of bytes, of the definitions that the contracts cite.
 use mathlib.Core.Path.{_≡_}
 use mathlib.Core.List.{List}
-use Prim.Native.Nat.{ℕ, _*_, _<_}
+use Prim.Native.Nat.{ℕ, _*_, _<_, _≤_}
 use lib.ListN.{length, getD}
 use Rattle.shape.specs.declared.Answer.{Answer}
 use Rattle.shape.specs.Shapes.{Good, Sold, placeCount, dataCount}
+use Rattle.code.specs.Marks.{excess}
 use Rattle.code.specs.Outcome.{SameEnd}
 use Rattle.byte_edition.specs.Edition.{byteEdition}
 use Rattle.byte_edition.specs.EditionLaws.{bytes-sound}
+use Rattle.candidate.specs.Columns.{ColumnsIndependent}
+use Rattle.candidate.specs.ColumnsLaws as ColumnsLaws
 use Rattle.recover.specs.Recover.{recoverOf}
 use Rattle.recover.specs.DemandTwo as Recover
 use Rattle.recover.specs.DemandTwoLaws as RecoverLaws
@@ -45,3 +48,8 @@ module _ (m w c : ℕ) (word marks : List ℕ) (good : Good m w c) (size : lengt
 pub order-any : (m w c : ℕ) (list word marks : List ℕ) → ((p : ℕ) → getD word p 0 < 256)
     → SameEnd (recoverAfter byteEdition m w c list word marks) (recoverOf m w c word marks)
 order-any m w c list word marks small = same-recovery bytes-sound m w c list word marks small
+
+-- "for every good shape and such marks the one or two columns left for the equations across are independent"
+pub columns-independent : (m w c : ℕ) (marks : List ℕ) → Good m w c → length marks ≡ m * w → excess m w c marks ≤ 2
+    → ColumnsIndependent byteEdition m w c marks
+columns-independent m w c marks good size low = ColumnsLaws.columns-independent bytes-sound m w c good marks size low

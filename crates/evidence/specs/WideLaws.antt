@@ -11,6 +11,8 @@ use Rattle.code.specs.Outcome.{SameEnd}
 use Rattle.code.specs.Determined.{Ambiguous, Undetermined}
 use Rattle.wide_edition.specs.Edition.{wideLimits, wideEdition}
 use Rattle.wide_edition.specs.EditionLaws.{wide-sound}
+use Rattle.candidate.specs.Columns.{ColumnsIndependent}
+use Rattle.candidate.specs.ColumnsLaws as ColumnsLaws
 use Rattle.judge.specs.Judgement.{judgedNumberIn}
 use Rattle.judge.specs.SureCount.{IsSureIn}
 use Rattle.judge.specs.Laws as JudgeLaws
@@ -24,6 +26,7 @@ use Rattle.encode.specs.DemandTwo as Encode
 use Rattle.encode.specs.Laws as EncodeLaws
 use Rattle.order.specs.RepairOrder.{recoverAfter, OrderHolds}
 use Rattle.order.specs.RepairOrderLaws.{order-theorem, same-recovery}
+use Rattle.evidence.specs.AcrossServicesLaws.{recover-as-judge-in}
 
 -- "Encoding gives the one codeword that carries the data, and the data come out again", for c up to 3
 pub encode-demand : (m w c : ℕ) (carried word : List ℕ) → SoldIn wideLimits m w c → length carried ≡ dataCount m w c → ((i : ℕ) → getD carried i 0 < 65536)
@@ -40,6 +43,10 @@ module _ (m w c : ℕ) (word marks : List ℕ) (good : GoodIn wideLimits m w c) 
   -- Recover
   pub recover-demand : Recover.DemandTwo wideEdition m w c word marks
   recover-demand = RecoverLaws.demand-two wide-sound m w c word marks good size small marks-size each
+
+  -- "8 exactly if judge says 8"
+  pub recover-as-judge : ((recoverIn wideEdition m w c word marks) .number ≡ 8) ↔ (judgedNumberIn wideLimits m w c marks ≡ 8)
+  recover-as-judge = recover-as-judge-in wide-sound m w c word marks good size small marks-size each
 
   -- Repair
   pub repair-demand : (g : ℕ) → g < m → Repair.DemandTwo wideEdition m w c g word marks
@@ -67,6 +74,11 @@ module _ (m w c : ℕ) (marks : List ℕ) (accepted : marksRefusalIn wideLimits 
   -- no other two sums across would determine more
   pub any-two : (h₁ h₂ : ℕ → ℕ → ℕ) → 2 < excess m w c marks → Ambiguous wideEdition m w c marks h₁ h₂
   any-two h₁ h₂ = AnyTwoLaws.any-two wide-sound m w c marks accepted h₁ h₂
+
+-- "for every good shape and such marks the one or two columns left for the equations across are independent"
+pub columns-independent : (m w c : ℕ) (marks : List ℕ) → GoodIn wideLimits m w c → length marks ≡ m * w → excess m w c marks ≤ 2
+    → ColumnsIndependent wideEdition m w c marks
+columns-independent m w c marks good size low = ColumnsLaws.columns-independent wide-sound m w c good marks size low
 
 -- the sure count is "the largest number such that every pattern of that many losses or fewer is judged 0"
 pub sure-largest : (m w c : ℕ) → GoodIn wideLimits m w c

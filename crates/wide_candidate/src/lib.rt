@@ -10,6 +10,7 @@ ghost use Rattle.code.specs.Combined.{combined};
 ghost use Rattle.code.specs.Lone.{lone};
 ghost use Rattle.code.specs.Stretch.{stretch};
 ghost use Rattle.wide_sums.specs.Survey.{acrossOf};
+ghost use Rattle.wide_sums.specs.Rows.{IsRows};
 ghost use Rattle.erasures.specs.Whole.{BoundAll};
 ghost use Rattle.candidate.specs.Steps.{Blanked, GroupsFilledIn, DirectionIn, AddedIn};
 ghost use Rattle.candidate.specs.Solved.{SolvedIn, SolvedOneIn};
@@ -32,20 +33,93 @@ fn blank_lost(word: &[u16], marks: &[u8], base: &mut [u16])
     }
 }
 
-// Fills the bound places of every group by its own equations.
-fn fill_groups(m: usize, w: usize, c: usize, bound: &[u8], base: &mut [u16])
+// Fills the bound places of every group by its own equations, each worked in x by sixteen rows of its places.
+fn fill_groups(
+    m: usize,
+    w: usize,
+    c: usize,
+    bound: &[u8],
+    base: &mut [u16],
+    x: &mut [u16],
+    rows: &[u16],
+)
     requires { ⌜ GoodIn wideLimits m w c ⌝ }
     requires { ⌜ length (now base) ≡ m * w ⌝ }
     requires { ⌜ length (now bound) ≡ m * w ⌝ }
     requires { ⌜ ((g : ℕ) → g < m → lostIn w (now bound) g ≤ c) ⌝ }
+    requires { ⌜ (length (now x) ≡ w) × (length (now rows) ≡ 16 * w) × IsRows w (now rows) ⌝ }
     ensures { λ _. ⌜ GroupsFilledIn wideEdition m w (now (bound .entry)) (now (base .entry)) (now (base .exit)) ⌝ }
 {
     let mut g: usize = 0;
     while g < m {
         let a = g * w;
         let e = a + w;
-        wide_fill::fill(&mut base[a..e], &bound[a..e]);
+        wide_fill::fill_by(&mut base[a..e], &bound[a..e], x, rows);
         g += 1;
+    }
+}
+
+// The same; x and rows are lent to be worked in.
+fn fill_in(
+    m: usize,
+    w: usize,
+    c: usize,
+    bound: &[u8],
+    base: &mut [u16],
+    x: &mut [u16],
+    rows: &mut [u16],
+)
+    requires { ⌜ GoodIn wideLimits m w c ⌝ }
+    requires { ⌜ length (now base) ≡ m * w ⌝ }
+    requires { ⌜ length (now bound) ≡ m * w ⌝ }
+    requires { ⌜ ((g : ℕ) → g < m → lostIn w (now bound) g ≤ c) ⌝ }
+    requires { ⌜ (length (now x) ≡ w) × (length (now rows) ≡ 16 * w) ⌝ }
+    ensures { λ _. ⌜ GroupsFilledIn wideEdition m w (now (bound .entry)) (now (base .entry)) (now (base .exit)) ⌝ }
+{
+    wide_sums::make_rows(x, rows);
+    fill_groups(m, w, c, bound, base, x, rows);
+}
+
+// The same for groups of at most 16 places.
+fn fill_narrow(m: usize, w: usize, c: usize, bound: &[u8], base: &mut [u16])
+    requires { ⌜ GoodIn wideLimits m w c × (w ≤ 16) ⌝ }
+    requires { ⌜ length (now base) ≡ m * w ⌝ }
+    requires { ⌜ length (now bound) ≡ m * w ⌝ }
+    requires { ⌜ ((g : ℕ) → g < m → lostIn w (now bound) g ≤ c) ⌝ }
+    ensures { λ _. ⌜ GroupsFilledIn wideEdition m w (now (bound .entry)) (now (base .entry)) (now (base .exit)) ⌝ }
+{
+    let mut x = [0u16; 16];
+    let mut rows = [0u16; 256];
+    let e = 16 * w;
+    fill_in(m, w, c, bound, base, &mut x[..w], &mut rows[..e]);
+}
+
+// The same for groups of any width.
+fn fill_broad(m: usize, w: usize, c: usize, bound: &[u8], base: &mut [u16])
+    requires { ⌜ GoodIn wideLimits m w c × (w ≤ 256) ⌝ }
+    requires { ⌜ length (now base) ≡ m * w ⌝ }
+    requires { ⌜ length (now bound) ≡ m * w ⌝ }
+    requires { ⌜ ((g : ℕ) → g < m → lostIn w (now bound) g ≤ c) ⌝ }
+    ensures { λ _. ⌜ GroupsFilledIn wideEdition m w (now (bound .entry)) (now (base .entry)) (now (base .exit)) ⌝ }
+{
+    let mut x = [0u16; 256];
+    let mut rows = [0u16; 4096];
+    let e = 16 * w;
+    fill_in(m, w, c, bound, base, &mut x[..w], &mut rows[..e]);
+}
+
+// Fills the bound places of every group by its own equations.
+fn fill_all(m: usize, w: usize, c: usize, bound: &[u8], base: &mut [u16])
+    requires { ⌜ GoodIn wideLimits m w c ⌝ }
+    requires { ⌜ length (now base) ≡ m * w ⌝ }
+    requires { ⌜ length (now bound) ≡ m * w ⌝ }
+    requires { ⌜ ((g : ℕ) → g < m → lostIn w (now bound) g ≤ c) ⌝ }
+    ensures { λ _. ⌜ GroupsFilledIn wideEdition m w (now (bound .entry)) (now (base .entry)) (now (base .exit)) ⌝ }
+{
+    if w <= 16 {
+        fill_narrow(m, w, c, bound, base);
+    } else {
+        fill_broad(m, w, c, bound, base);
     }
 }
 
@@ -97,17 +171,11 @@ struct Unknowns {
 fn two_unknowns(a1: u16, a2: u16, b1: u16, b2: u16, s: u16, t: u16) -> Unknowns
     ensures { λ r. ⌜ SolvedIn wideEdition a1 a2 b1 b2 s t (r .first) (r .second) ⌝ }
 {
-    let rows = [
-        [a1, a2, 0, 0, s, 0, 0, 0, 0, 0, 0, 0, 0, 0, 0, 0],
-        [b1, b2, 0, 0, t, 0, 0, 0, 0, 0, 0, 0, 0, 0, 0, 0],
-        [0; 16],
-        [0; 16],
-    ];
-    let r = wide_solve::eliminate(rows, 2);
-    Unknowns {
-        first: r[0][4],
-        second: r[1][4],
-    }
+    let d = wide_field::product(a1, b2) ^ wide_field::product(a2, b1);
+    let i = wide_field::inverse(d);
+    let first = wide_field::product(i, wide_field::product(s, b2) ^ wide_field::product(t, a2));
+    let second = wide_field::product(i, wide_field::product(a1, t) ^ wide_field::product(b1, s));
+    Unknowns { first, second }
 }
 
 // Adds u times the direction h to group g of the word.
@@ -220,7 +288,7 @@ fn rebuild(
     buffers::copy(marks, bound);
     wide_marks::clear_free(m, w, c, bound);
     blank_lost(word, marks, out);
-    fill_groups(m, w, c, bound, out);
+    fill_all(m, w, c, bound, out);
     mend(m, w, c, marks, bound, out);
 }
 

@@ -1,14 +1,14 @@
 // Fills the lost places of one group of the sixteen-bit edition from the group's own local equations, of which t lost places take the first t.
 ghost use mathlib.Core.Path.{_≡_};
-ghost use Prim.Native.Nat.{ℕ, _≤_, _<_};
+ghost use Prim.Native.Nat.{ℕ, _*_, _≤_, _<_};
 ghost use lib.ListN.{length, getD};
 ghost use Rattle.fill.specs.Filled.{FilledIn};
 ghost use Rattle.fill.specs.Positions.{Inside, Found};
 ghost use Rattle.fill.specs.Placed.{placed};
-ghost use Rattle.fill.specs.EquationsLaws.{EquationsIn};
-ghost use Rattle.binary_field.specs.Power.{power};
 ghost use Rattle.wide_field.specs.LocatorRow.{locatorRow};
 ghost use Rattle.wide_edition.specs.Edition.{wideEdition};
+ghost use Rattle.wide_sums.specs.Rows.{IsRows};
+ghost use Rattle.wide_fill.specs.Column.{columnOf};
 
 // The positions of the first four lost places, in order, and how many places are lost.
 struct Erasures {
@@ -34,72 +34,66 @@ fn find(marks: &[u8]) -> Erasures
     Erasures { at, count: n }
 }
 
-// Writes the right side of row i at position at[i], for each i below t.
-fn place(part: &mut [u16], at: [usize; 4], rows: [[u16; 16]; 4], t: usize)
+// Writes the symbol i of u at position at[i], for each i below t.
+fn place(part: &mut [u16], at: [usize; 4], u: [u16; 4], t: usize)
     requires { ⌜ (t ≤ 4) × Inside (length (now part)) at t ⌝ }
-    ensures { λ _. ⌜ now (part .exit) ≡ placed (now (part .entry)) at rows t ⌝ }
+    ensures { λ _. ⌜ now (part .exit) ≡ placed (now (part .entry)) at (columnOf u) t ⌝ }
 {
     let mut i: usize = 0;
     while i < t {
         let p = at[i];
-        part[p] = rows[i][4];
+        part[p] = u[i];
         i += 1;
     }
 }
 
-// a to the power e; e above 3 counts as 3.
-fn power(a: u16, e: usize) -> u16
-    ensures { λ r. ⌜ (e ≤ 3 → r ≡ power 16 69643 a e) ⌝ }
-    ensures { λ r. ⌜ (3 < e → r ≡ power 16 69643 a 3) ⌝ }
-{
-    if e == 0 {
-        return 1;
-    }
-    if e == 1 {
-        return a;
-    }
-    let square = wide_field::product(a, a);
-    if e == 2 {
-        return square;
-    }
-    wide_field::product(a, square)
-}
-
-// The locator of place j; 0 from the 256th on.
-fn locator(j: usize) -> u16
+// The locator of place j, from the row of all; 0 from the 256th on.
+fn locator(row: &[u16], j: usize) -> u16
+    requires { ⌜ now row ≡ locatorRow ⌝ }
     ensures { λ r. ⌜ r ≡ getD locatorRow j 0 ⌝ }
 {
-    let row = wide_field::locators();
     if j < 256 { row[j] } else { 0 }
 }
 
-// The equation e: the powers of the positions' locators, and the power sum on the right side.
-fn equation(at: [usize; 4], sums: [u16; 6], e: usize) -> [u16; 16]
-    requires { ⌜ e < 4 ⌝ }
-    ensures { λ r. ⌜ ((i : ℕ) → i < 4 → getD r i 0 ≡ power 16 69643 (getD locatorRow (getD at i 0) 0) e) ⌝ }
-    ensures { λ r. ⌜ getD r 4 0 ≡ getD sums e 0 ⌝ }
+// The locators of four places.
+fn locators_of(at: [usize; 4]) -> [u16; 4]
+    ensures { λ r. ⌜ ((i : ℕ) → i < 4 → getD r i 0 ≡ getD locatorRow (getD at i 0) 0) ⌝ }
 {
-    let a = power(locator(at[0]), e);
-    let b = power(locator(at[1]), e);
-    let c = power(locator(at[2]), e);
-    let d = power(locator(at[3]), e);
-    [a, b, c, d, sums[e], 0, 0, 0, 0, 0, 0, 0, 0, 0, 0, 0]
+    let row = wide_field::locators();
+    let a = locator(&row, at[0]);
+    let b = locator(&row, at[1]);
+    let c = locator(&row, at[2]);
+    let d = locator(&row, at[3]);
+    [a, b, c, d]
 }
 
-// The first t equations.
-fn equations(part: &[u16], at: [usize; 4], t: usize) -> [[u16; 16]; 4]
-    requires { ⌜ (t ≤ 4) × (length (now part) ≤ 256) × Inside (length (now part)) at t ⌝ }
-    ensures { λ r. ⌜ EquationsIn wideEdition (now (part .entry)) at t r ⌝ }
+// The same as fill, worked in x by sixteen rows of the stretch's places.
+pub fn fill_by(part: &mut [u16], marks: &[u8], x: &mut [u16], rows: &[u16])
+    ensures filled { λ _. ⌜ (length (now (x .entry)) ≡ length (now (part .entry)) → length (now (rows .entry)) ≡ 16 * length (now (part .entry)) → IsRows (length (now (part .entry))) (now (rows .entry)) → FilledIn wideEdition (now (marks .entry)) (now (part .entry)) (now (part .exit))) ⌝ }
+    ensures size { λ _. ⌜ length (now (part .exit)) ≡ length (now (part .entry)) ⌝ }
+    ensures room { λ _. ⌜ length (now (x .exit)) ≡ length (now (x .entry)) ⌝ }
 {
-    let sums = wide_sums::power_sums(part, t);
-    let mut rows = [[0u16; 16]; 4];
-    let mut e: usize = 0;
-    while e < t {
-        let x = equation(at, sums, e);
-        rows[e] = x;
-        e += 1;
+    if 256 < part.len() {
+        return;
     }
-    rows
+    if marks.len() != part.len() {
+        return;
+    }
+    let erasures = find(marks);
+    let t = erasures.count;
+    if 4 < t {
+        return;
+    }
+    if t == 0 {
+        return;
+    }
+    let at = erasures.at;
+    let none = [0u16; 4];
+    place(part, at, none, t);
+    let sums = wide_sums::sums_by(part, x, rows, t);
+    let locators = locators_of(at);
+    let u = wide_solve::symbols(locators, sums, t);
+    place(part, at, u, t);
 }
 
 // Fills the lost places, if at most four of at most 256 are lost; what stood there does not count. Else nothing changes.
@@ -117,10 +111,14 @@ pub fn fill(part: &mut [u16], marks: &[u8])
     if 4 < t {
         return;
     }
+    if t == 0 {
+        return;
+    }
     let at = erasures.at;
-    let zeros = [[0u16; 16]; 4];
-    place(part, at, zeros, t);
-    let rows = equations(part, at, t);
-    let solution = wide_solve::eliminate(rows, t);
-    place(part, at, solution, t);
+    let none = [0u16; 4];
+    place(part, at, none, t);
+    let sums = wide_sums::power_sums(part, t);
+    let x = locators_of(at);
+    let u = wide_solve::symbols(x, sums, t);
+    place(part, at, u, t);
 }

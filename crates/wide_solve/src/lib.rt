@@ -1,195 +1,354 @@
-// Gauss-Jordan elimination over the field of 65,536 elements: up to four equations, with the right side in the fifth column; the columns after it are
-// there because rows are as long as in the edition of bytes, whose laws serve here too.
-// The rows come and go by value; between, they lie one after another in 64 lent symbols, so that each step changes them in place.
+// Solves for the symbols of up to four lost places of one group, from the group's power sums: the last place is taken out of the sums, the others
+// are solved for, and each is divided by the difference of its locator and the last. Differences of locators are in the field of 256 elements,
+// whose inverses are one constant row.
 ghost use mathlib.Core.Path.{_≡_};
-ghost use Prim.Native.Nat.{_≤_, _<_, min};
-ghost use lib.ListN.{length, set};
-ghost use Rattle.solve.specs.Elimination.{row, scaled, added, exchanged, normalized, clearedRow, cleared, pivot, eliminateColumn, eliminated};
-ghost use Rattle.solve.specs.Flat.{rowsOf};
+ghost use Prim.Native.Nat.{_≤_, _<_};
+ghost use lib.ListN.{getD, replicate};
+ghost use Rattle.binary_field.specs.Product.{product};
+ghost use Rattle.wide_solve.specs.Small.{IsSmall, inverseRow};
+ghost use Rattle.wide_solve.specs.Peel.{HasSums, Apart};
 
-// A row times f.
-fn scale(row: &mut [u16], f: u16)
-    ensures { λ _. ⌜ now (row .exit) ≡ scaled 16 69643 f (now (row .entry)) ⌝ }
+// The inverses of the small field's elements, by eight digits of each.
+const INVERSES: [u16; 256] = [
+    0,
+    1,
+    20820,
+    23207,
+    57428,
+    42496,
+    2733,
+    20814,
+    64610,
+    45184,
+    45313,
+    62992,
+    45534,
+    23545,
+    62987,
+    45508,
+    42907,
+    57423,
+    65016,
+    20821,
+    64829,
+    5726,
+    64633,
+    5786,
+    19879,
+    23523,
+    7401,
+    7606,
+    47977,
+    45150,
+    45151,
+    18065,
+    64678,
+    64700,
+    44531,
+    17998,
+    44333,
+    19683,
+    23160,
+    5915,
+    23357,
+    44343,
+    44205,
+    20497,
+    47660,
+    64806,
+    2743,
+    2665,
+    20687,
+    18382,
+    60130,
+    60259,
+    23161,
+    19900,
+    60258,
+    20881,
+    18186,
+    45338,
+    47671,
+    42719,
+    64995,
+    23522,
+    18064,
+    47976,
+    20686,
+    44137,
+    42718,
+    2860,
+    64679,
+    2871,
+    7597,
+    7411,
+    20491,
+    47849,
+    42693,
+    63317,
+    47987,
+    57429,
+    57806,
+    45535,
+    410,
+    3048,
+    19810,
+    57610,
+    64994,
+    19878,
+    44520,
+    60349,
+    60153,
+    64807,
+    23335,
+    5760,
+    351,
+    350,
+    64701,
+    2870,
+    48054,
+    196,
+    62993,
+    42820,
+    47859,
+    3058,
+    59965,
+    59942,
+    48044,
+    63377,
+    42523,
+    44521,
+    23356,
+    20874,
+    44136,
+    18383,
+    45210,
+    384,
+    7213,
+    64828,
+    60280,
+    63311,
+    19682,
+    45124,
+    63188,
+    18187,
+    45125,
+    44332,
+    2742,
+    5889,
+    5701,
+    48045,
+    5787,
+    57813,
+    45211,
+    60326,
+    63189,
+    45339,
+    63371,
+    3059,
+    57483,
+    63316,
+    44342,
+    20875,
+    7400,
+    27,
+    42906,
+    42847,
+    5761,
+    18389,
+    2861,
+    47670,
+    47986,
+    42497,
+    324,
+    7410,
+    3049,
+    57489,
+    23229,
+    45185,
+    7539,
+    20490,
+    18004,
+    6110,
+    60281,
+    20692,
+    5888,
+    2664,
+    6084,
+    19832,
+    62986,
+    7223,
+    63183,
+    17999,
+    47848,
+    7538,
+    23334,
+    18388,
+    20693,
+    63310,
+    44204,
+    44147,
+    60348,
+    42522,
+    60131,
+    20880,
+    64632,
+    57812,
+    18059,
+    20815,
+    42692,
+    57482,
+    23544,
+    57807,
+    57617,
+    222,
+    197,
+    19705,
+    63182,
+    44530,
+    48055,
+    19704,
+    5727,
+    7212,
+    7529,
+    19811,
+    325,
+    7596,
+    19901,
+    5914,
+    23139,
+    44214,
+    26,
+    7607,
+    223,
+    19494,
+    42846,
+    57422,
+    44215,
+    42881,
+    18192,
+    6111,
+    63376,
+    5700,
+    60152,
+    47661,
+    57616,
+    19495,
+    64611,
+    23228,
+    19517,
+    6085,
+    47858,
+    63370,
+    45509,
+    7222,
+    59943,
+    2674,
+    19833,
+    19516,
+    18058,
+    2732,
+    23138,
+    42880,
+    18005,
+    18193,
+    2675,
+    59964,
+    44146,
+    20496,
+    65017,
+    23206,
+    7528,
+    57611,
+    385,
+    60327,
+    42821,
+    45312,
+    411,
+    57488,
+];
+
+// The row of those inverses.
+fn inverses() -> [u16; 256]
+    ensures { λ r. ⌜ r ≡ inverseRow ⌝ }
 {
-    let mut c: usize = 0;
-    while c < row.len() {
-        row[c] = wide_field::product(f, row[c]);
-        c += 1;
+    INVERSES
+}
+
+// u divided by an element of the small field other than 0.
+fn quotient(u: u16, a: u16, row: &[u16]) -> u16
+    requires { ⌜ now row ≡ inverseRow ⌝ }
+    ensures { λ r. ⌜ (IsSmall a → (a ≡ 0 → ⊥) → product 16 69643 a r ≡ u) ⌝ }
+{
+    let d = ((a ^ (a >> 7)) % 256) as usize;
+    wide_field::product(u, row[d])
+}
+
+// The symbols of two places.
+fn two(x: [u16; 4], s: [u16; 6], row: &[u16]) -> [u16; 4]
+    requires { ⌜ now row ≡ inverseRow ⌝ }
+    ensures { λ r. ⌜ (Apart 2 (λ i. getD x i 0) → HasSums 16 69643 2 (λ i. getD x i 0) (λ i. getD r i 0) (λ e. getD s e 0)) ⌝ }
+{
+    let y = x[1];
+    let first = s[0];
+    let a = s[1] ^ wide_field::product(y, first);
+    let p = quotient(a, x[0] ^ y, row);
+    [p, first ^ p, 0, 0]
+}
+
+// The symbols of three.
+fn three(x: [u16; 4], s: [u16; 6], row: &[u16]) -> [u16; 4]
+    requires { ⌜ now row ≡ inverseRow ⌝ }
+    ensures { λ r. ⌜ (Apart 3 (λ i. getD x i 0) → HasSums 16 69643 3 (λ i. getD x i 0) (λ i. getD r i 0) (λ e. getD s e 0)) ⌝ }
+{
+    let y = x[2];
+    let first = s[0];
+    let a = s[1] ^ wide_field::product(y, first);
+    let b = s[2] ^ wide_field::product(y, s[1]);
+    let u = two(x, [a, b, 0, 0, 0, 0], row);
+    let p = quotient(u[0], x[0] ^ y, row);
+    let q = quotient(u[1], x[1] ^ y, row);
+    [p, q, first ^ (p ^ q), 0]
+}
+
+// The symbols of four.
+fn four(x: [u16; 4], s: [u16; 6], row: &[u16]) -> [u16; 4]
+    requires { ⌜ now row ≡ inverseRow ⌝ }
+    ensures { λ r. ⌜ (Apart 4 (λ i. getD x i 0) → HasSums 16 69643 4 (λ i. getD x i 0) (λ i. getD r i 0) (λ e. getD s e 0)) ⌝ }
+{
+    let y = x[3];
+    let first = s[0];
+    let a = s[1] ^ wide_field::product(y, first);
+    let b = s[2] ^ wide_field::product(y, s[1]);
+    let c = s[3] ^ wide_field::product(y, s[2]);
+    let u = three(x, [a, b, c, 0, 0, 0], row);
+    let p = quotient(u[0], x[0] ^ y, row);
+    let q = quotient(u[1], x[1] ^ y, row);
+    let r = quotient(u[2], x[2] ^ y, row);
+    [p, q, r, first ^ ((p ^ q) ^ r)]
+}
+
+// The symbols of t places with the locators x that have the power sums s; zeros for t above 4.
+pub fn symbols(x: [u16; 4], s: [u16; 6], t: usize) -> [u16; 4]
+    ensures { λ r. ⌜ (t ≤ 4 → Apart t (λ i. getD x i 0) → HasSums 16 69643 t (λ i. getD x i 0) (λ i. getD r i 0) (λ e. getD s e 0)) ⌝ }
+    ensures { λ r. ⌜ (4 < t → r ≡ replicate 4 0) ⌝ }
+{
+    let none = [0u16; 4];
+    if t == 0 {
+        return none;
     }
-}
-
-// Adds f times the row b to a row that is as long.
-fn add(row: &mut [u16], b: &[u16], f: u16)
-    requires { ⌜ length (now b) ≡ length (now row) ⌝ }
-    ensures { λ _. ⌜ now (row .exit) ≡ added 16 69643 f (now (row .entry)) (now (b .entry)) ⌝ }
-{
-    let mut c: usize = 0;
-    while c < row.len() {
-        row[c] = row[c] ^ wide_field::product(f, b[c]);
-        c += 1;
+    if t == 1 {
+        return [s[0], 0, 0, 0];
     }
-}
-
-// A copy of row i.
-fn row_at(x: &[u16], i: usize) -> [u16; 16]
-    requires { ⌜ (length (now x) ≡ 64) × (i < 4) ⌝ }
-    ensures { λ r. ⌜ r ≡ row (rowsOf (now (x .entry))) i ⌝ }
-{
-    let a = i * 16;
-    let e = a + 16;
-    let mut copy = [0u16; 16];
-    wide_buffers::copy(&x[a..e], &mut copy);
-    copy
-}
-
-// Writes row i.
-fn put_row(x: &mut [u16], i: usize, row: &[u16])
-    requires { ⌜ (length (now x) ≡ 64) × (i < 4) ⌝ }
-    requires { ⌜ length (now row) ≡ 16 ⌝ }
-    ensures { λ _. ⌜ rowsOf (now (x .exit)) ≡ set (rowsOf (now (x .entry))) i (now (row .entry)) ⌝ }
-{
-    let a = i * 16;
-    let e = a + 16;
-    wide_buffers::copy(row, &mut x[a..e]);
-}
-
-// The rows i and j exchanged.
-fn exchange(x: &mut [u16], i: usize, j: usize)
-    requires { ⌜ length (now x) ≡ 64 ⌝ }
-    requires { ⌜ (i < 4) × (j < 4) ⌝ }
-    ensures { λ _. ⌜ rowsOf (now (x .exit)) ≡ exchanged (rowsOf (now (x .entry))) i j ⌝ }
-{
-    if j == i {
-        return;
+    let row = inverses();
+    if t == 2 {
+        return two(x, s, &row);
     }
-    let a = row_at(x, i);
-    let b = row_at(x, j);
-    put_row(x, i, &b);
-    put_row(x, j, &a);
-}
-
-// Row j times the inverse of its entry in column j.
-fn normalize(x: &mut [u16], j: usize)
-    requires { ⌜ (length (now x) ≡ 64) × (j < 4) ⌝ }
-    ensures { λ _. ⌜ rowsOf (now (x .exit)) ≡ normalized 16 69643 (rowsOf (now (x .entry))) j ⌝ }
-{
-    let a = j * 16;
-    let e = a + 16;
-    let f = wide_field::inverse(x[a + j]);
-    scale(&mut x[a..e], f);
-}
-
-// Row i, if it is not j, plus its entry in column j times row j, which is b.
-fn clear_row(x: &mut [u16], b: &[u16], j: usize, i: usize)
-    requires { ⌜ (length (now x) ≡ 64) × (j < 4) × (i < 4) ⌝ }
-    requires { ⌜ now b ≡ row (rowsOf (now x)) j ⌝ }
-    ensures { λ _. ⌜ rowsOf (now (x .exit)) ≡ clearedRow 16 69643 (rowsOf (now (x .entry))) j i ⌝ }
-{
-    if i == j {
-        return;
+    if t == 3 {
+        return three(x, s, &row);
     }
-    let a = i * 16;
-    let e = a + 16;
-    let f = x[a + j];
-    add(&mut x[a..e], b, f);
-}
-
-// Each row below t but j so cleared.
-fn clear(x: &mut [u16], j: usize, t: usize)
-    requires { ⌜ (length (now x) ≡ 64) × (j < 4) × (t ≤ 4) ⌝ }
-    ensures { λ _. ⌜ rowsOf (now (x .exit)) ≡ cleared 16 69643 (rowsOf (now (x .entry))) j t ⌝ }
-{
-    let b = row_at(x, j);
-    let mut i: usize = 0;
-    while i < t {
-        clear_row(x, &b, j, i);
-        i += 1;
+    if t == 4 {
+        return four(x, s, &row);
     }
-}
-
-// The first row from j on and below t whose entry in column j is not 0; t if there is none.
-fn pivot(x: &[u16], j: usize, t: usize) -> usize
-    requires { ⌜ length (now x) ≡ 64 ⌝ }
-    requires { ⌜ (j < 4) × (j ≤ t) × (t ≤ 4) ⌝ }
-    ensures { λ r. ⌜ r ≡ pivot (rowsOf (now (x .entry))) j t ⌝ }
-{
-    let mut i = j;
-    while i < t {
-        if x[i * 16 + j] != 0 {
-            return i;
-        }
-        i += 1;
-    }
-    i
-}
-
-// Column j made the column j of the identity, if it has a pivot.
-fn eliminate_column(x: &mut [u16], j: usize, t: usize)
-    requires { ⌜ (length (now x) ≡ 64) × (j < t) × (t ≤ 4) ⌝ }
-    ensures { λ _. ⌜ rowsOf (now (x .exit)) ≡ eliminateColumn 16 69643 (rowsOf (now (x .entry))) j t ⌝ }
-{
-    let i = pivot(x, j, t);
-    if t <= i {
-        return;
-    }
-    exchange(x, j, i);
-    normalize(x, j);
-    clear(x, j, t);
-}
-
-// The columns below t in turn.
-fn eliminate_columns(x: &mut [u16], t: usize)
-    requires { ⌜ (length (now x) ≡ 64) × (t ≤ 4) ⌝ }
-    ensures { λ _. ⌜ rowsOf (now (x .exit)) ≡ eliminated 16 69643 (rowsOf (now (x .entry))) t ⌝ }
-{
-    let mut j: usize = 0;
-    while j < t {
-        eliminate_column(x, j, t);
-        j += 1;
-    }
-}
-
-// Lays the rows out one after another.
-fn lay(rows: [[u16; 16]; 4], x: &mut [u16])
-    requires { ⌜ length (now x) ≡ 64 ⌝ }
-    ensures { λ _. ⌜ rowsOf (now (x .exit)) ≡ rows ⌝ }
-{
-    let mut i: usize = 0;
-    while i < 4 {
-        let row = rows[i];
-        put_row(x, i, &row);
-        i += 1;
-    }
-}
-
-// The rows that lie one after another.
-fn rows_at(x: &[u16]) -> [[u16; 16]; 4]
-    requires { ⌜ length (now x) ≡ 64 ⌝ }
-    ensures { λ r. ⌜ r ≡ rowsOf (now (x .entry)) ⌝ }
-{
-    let mut rows = [[0u16; 16]; 4];
-    let mut i: usize = 0;
-    while i < 4 {
-        let row = row_at(x, i);
-        rows[i] = row;
-        i += 1;
-    }
-    rows
-}
-
-fn at_most_4(t: usize) -> usize
-    ensures { λ r. ⌜ r ≡ min t 4 ⌝ }
-{
-    if t < 4 { t } else { 4 }
-}
-
-// The first t rows and columns made the identity, as far as there are pivots; t above 4 counts as 4.
-pub fn eliminate(rows: [[u16; 16]; 4], t: usize) -> [[u16; 16]; 4]
-    ensures { λ r. ⌜ r ≡ eliminated 16 69643 rows (min t 4) ⌝ }
-{
-    let n = at_most_4(t);
-    let mut x = [0u16; 64];
-    lay(rows, &mut x);
-    eliminate_columns(&mut x, n);
-    rows_at(&x)
+    none
 }

@@ -1,15 +1,22 @@
-use mathlib.Core.Path.{_≡_}
-use Prim.Native.Nat.{ℕ, min}
+use mathlib.Core.Path.{_≡_, refl}
+use mathlib.Core.List.{[], _∷_}
+use Prim.Native.Nat.{ℕ, zero, suc, _≤_, _<_}
 use native.Mathlib.Omega.{arith}
-use lib.ListN.{length}
-use mir.Syntax.{w16}
+use lib.ListN.{length, getD, replicate}
 use Rattle.wide_edition.specs.Edition.{wideEdition}
-use Rattle.wide_edition.specs.EditionLaws.{wide-sound}
-use Rattle.solve.proofs.Arrays.{array-system}
-use Rattle.fill.proofs.Laws.{zeros-at, unchanged, filled}
+use Rattle.fill.proofs.Laws.{unchanged}
+use Rattle.wide_fill.specs.ColumnLaws.{zeros-at, filled-none, filled-by}
+use Rattle.wide_fill.specs.SolvedLaws.{locators-differ, solved-by}
 use borrow.Author.Needs.{needs}
 use Rattle.wide_fill.proofs.fill.Statement.{statement}
 use Rattle.wide_fill.proofs.fill.Tie as tie
+use Rattle.wide_fill.proofs.fill.Reads as reads
+use Rattle.wide_fill.proofs.fill.Lts as lts
+use Rattle.wide_fill.proofs.find.Reads as find-reads
+use Rattle.wide_fill.proofs.locators_of.Reads as locators-of-reads
+use Rattle.wide_fill.proofs.place.Reads as place-reads
+use Rattle.wide_solve.proofs.symbols.Reads as symbols-reads
+use Rattle.wide_sums.proofs.power_sums.Reads as power-sums-reads
 
 returns : tie.Need-returns
 returns c = search needs
@@ -23,40 +30,51 @@ find-requires c κs = search needs
 returns-3 : tie.Need-returns-3
 returns-3 c = let f = c .before .find in unchanged wideEdition _ _ (f .result .count) (f .ensures .all) (c .if3 .taken)
 
+returns-4 : tie.Need-returns-4
+returns-4 c = let f = c .before .before .find in filled-none wideEdition _ _ (f .result .count) (f .ensures .all) (c .if4 .taken)
+
 place-requires : tie.Need-place-requires
-place-requires c κs = (omega arith, λ i l. let b = c .before .before .before .find .ensures .few (omega arith) .inside i (omega arith) in omega arith)
+place-requires c κs =
+    (omega arith, λ i l. let b = c .before .before .before .before .find .ensures .few (omega arith) .inside i (omega arith) in omega arith)
 
-equations-requires : tie.Need-equations-requires
-equations-requires c κs =
-    let f = c .before .before .before .before .before .before .before in
-    (omega arith, omega arith, λ i l. let b = f .find .ensures .few (omega arith) .inside i (omega arith) in omega arith)
+power-sums-requires : tie.Need-power-sums-requires
+power-sums-requires c κs = search needs
 
-eliminate-requires : tie.Need-eliminate-requires
-eliminate-requires c κs = search needs
+locators-of-requires : tie.Need-locators-of-requires
+locators-of-requires c κs = search needs
+
+symbols-requires : tie.Need-symbols-requires
+symbols-requires c κs = search needs
 
 place-requires-2 : tie.Need-place-requires-2
 place-requires-2 c κs =
-    let f = c .before .before .before .before .before .before .before .before .before .before in
+    let f = c .before .before .before .before .before .before .before .before .before .before .before .before in
     (omega arith, λ i l. let b = f .find .ensures .few (omega arith) .inside i (omega arith) in omega arith)
 
 same-length : tie.Need-same-length
 same-length c = search needs
 
-returns-4 : tie.Need-returns-4
-returns-4 c =
+returns-5 : tie.Need-returns-5
+returns-5 c =
     let p = c .before .before in
-    let x = p .before .before in
+    let y = p .before .before in
+    let x = y .before in
     let q = x .before in
     let z = q .before .before .before .before in
-    let f = z .before .before .before .before in
+    let f = z .before .before .before .before .before in
     let a = f .before .before .before .before .before .args in
     let t : ℕ = f .find .result .count in
-    let m : min t 4 ≡ t = omega arith in
+    let few : t ≤ 4 = z .before .before .before .before .if3 .left in
     let w : length (a .marks .now) ≡ length (a .part .now) = omega arith in
-    filled (a .marks .now) (a .part .now) (z .place .last .0) (p .place2 .last .0) (f .find .result .at) _ (q .equations .result) (x .eliminate .result) t
-    (rw w at (f .find .ensures .few (omega arith))) (z .place .ensures) (p .place2 .ensures) wideEdition wide-sound (λ i. zeros-at 4 16 i 4) (omega arith)
-    (array-system w16 16 4 (q .equations .result) _ (q .equations .ok) t (omega arith)) (q .equations .ensures) (rw m at (x .eliminate .ensures))
-    w (omega arith) (rw w at (f .find .ensures .all))
+    let P = rw w at (f .find .ensures .few few) in
+    let inside : (i : ℕ) → i < t → getD (f .find .result .at) i 0 < 256 = λ i l. let b = P .inside i l in omega arith in
+    let own = x .locators-of .ensures in
+    let apart = locators-differ (f .find .result .at) (x .locators-of .result) t few inside (P .ascending) own in
+    filled-by wideEdition (a .marks .now) (a .part .now) (z .place .last .0) (p .place2 .last .0) (f .find .result .at) _ (y .symbols .result) t P
+    (z .place .ensures) (p .place2 .ensures) zeros-at (omega arith)
+    (solved-by (f .find .result .at) (x .locators-of .result) t few inside (P .ascending) own (z .place .last .0) (y .symbols .result) (q .power-sums .result)
+    (q .power-sums .ensures .0 (omega arith) (omega arith)) (y .symbols .ensures .0 few apart))
+    w few (rw w at (f .find .ensures .all))
 
 pub fill-spec : {M : Type 1} → statement M
 fill-spec =
@@ -66,9 +84,11 @@ fill-spec =
     returns-2
     find-requires
     returns-3
+    returns-4
     place-requires
-    equations-requires
-    eliminate-requires
+    power-sums-requires
+    locators-of-requires
+    symbols-requires
     place-requires-2
     same-length
-    returns-4)
+    returns-5)

@@ -6,14 +6,18 @@ use lib.ListN.{length, length-set}
 use borrow.Author.Needs.{needs}
 use Rattle.fill.specs.Placed.{placed}
 use Rattle.fill.specs.PlacedLaws.{placed-none, placed-suc}
+use Rattle.wide_fill.specs.Column.{columnOf}
+use Rattle.wide_fill.specs.ColumnLaws.{column-at}
 use Rattle.wide_fill.proofs.place.Statement.{statement}
 use Rattle.wide_fill.proofs.place.Tie as tie
+use Rattle.wide_fill.proofs.place.Reads as reads
+use Rattle.wide_fill.proofs.place.Lts as lts
 
 abbrev Inv-loop : tie.InvT-loop
-Inv-loop part₀ t at rows i₀ part i = (i ≤ t) × (length part ≡ length part₀) × (part ≡ placed part₀ at rows i)
+Inv-loop part₀ t at u i₀ part i = (i ≤ t) × (length part ≡ length part₀) × (part ≡ placed part₀ at (columnOf u) i)
 
 abbrev μ-loop : tie.MeasureT-loop
-μ-loop part₀ t at rows i₀ part i = t - i
+μ-loop part₀ t at u i₀ part i = t - i
 
 loop-holds : tie.Need-loop-holds Inv-loop μ-loop
 loop-holds c = (omega arith, refl, sym (placed-none _ _ _))
@@ -27,17 +31,14 @@ array-read-p c = omega arith
 mul-part : tie.Need-mul-part Inv-loop μ-loop
 mul-part c = omega arith
 
-index-1-part : tie.Need-index-1-part Inv-loop μ-loop
-index-1-part c = omega arith
-
-index-2-part : tie.Need-index-2-part Inv-loop μ-loop
-index-2-part c = omega arith
+array-read-part : tie.Need-array-read-part Inv-loop μ-loop
+array-read-part c = omega arith
 
 mul-part-2 : tie.Need-mul-part-2 Inv-loop μ-loop
-mul-part-2 c = let s = c .before .before in let b = s .before .pre .1 (s .loop .i) (omega arith) in omega (arith, b)
+mul-part-2 c = let s = c .before in let b = s .before .pre .1 (s .loop .i) (omega arith) in omega (arith, b)
 
 slice-write-part : tie.Need-slice-write-part Inv-loop μ-loop
-slice-write-part c = let s = c .before .before in rw (s .loop .inv .1) (s .before .pre .1 _ (omega arith))
+slice-write-part c = let s = c .before in rw (s .loop .inv .1) (s .before .pre .1 _ (omega arith))
 
 add-i : tie.Need-add-i Inv-loop μ-loop
 add-i c = omega arith
@@ -47,8 +48,12 @@ loop-less c = omega arith
 
 loop-again : tie.Need-loop-again Inv-loop μ-loop
 loop-again c =
-    let s = c .before .before in
-    let a = s .before .args in (omega arith, simp length-set (omega arith), cc (placed-suc (a .part .now) (a .t2) (a .t3) (s .loop .i), add-one (s .loop .i)))
+    let s = c .before in
+    let a = s .before .args in (
+      omega arith,
+      simp length-set (omega arith),
+      cc (placed-suc (a .part .now) (a .t2) (columnOf (a .t3)) (s .loop .i), column-at (a .t3) (s .loop .i), add-one (s .loop .i)),
+    )
 
 same-length : tie.Need-same-length Inv-loop μ-loop
 same-length c = search needs
@@ -69,8 +74,7 @@ place-spec =
     mul-p
     array-read-p
     mul-part
-    index-1-part
-    index-2-part
+    array-read-part
     mul-part-2
     slice-write-part
     add-i

@@ -1,0 +1,4 @@
+pub mod Small
+pub mod SmallLaws
+pub mod Peel
+pub mod PeelLaws
