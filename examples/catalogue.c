@@ -1,30 +1,52 @@
-/* Puts a shape under a name in a catalogue file: reads the file, or starts a new catalogue, puts, and writes it back.
- * Arguments: FILE NAME M W C */
+/* A catalogue in a file: reads it, or starts a new one; puts a shape under a name, removes a name, or drops the lines of removed names; writes it
+ * back, and says how many bytes it had before and has now. Arguments: FILE put NAME M W C, or FILE remove NAME, or FILE compact */
 #include <stdio.h>
 #include <stdlib.h>
 #include <string.h>
 
 #include "axlebloom_catalogue.h"
 
+static uint8_t text[AXLEBLOOM_CATALOGUE_MOST + 1];
+
+static int write_back(const char *path, size_t before, size_t size) {
+  FILE *file = fopen(path, "wb");
+  if (!file || fwrite(text, 1, size, file) != size || fclose(file)) return printf("%s can't be written\n", path), 1;
+  printf("%d bytes before, %d now\n", (int)before, (int)size);
+  return 0;
+}
+
+/* Put or remove, with the revision that the name has now; shape is NULL for a remove. */
+static int change(const char *path, size_t size, const char *name, char **shape) {
+  const uint8_t *bytes = (const uint8_t *)name;
+  size_t length = strlen(name);
+  struct axlebloom_lookup_answer now = axlebloom_lookup(text, sizeof text, size, bytes, length);
+  if (now.number && now.number != AXLEBLOOM_NO_SUCH_NAME) return printf("lookup: refused %d\n", now.number), 1;
+  struct axlebloom_change_answer done;
+  if (shape) {
+    size_t m = strtoul(shape[0], NULL, 10), w = strtoul(shape[1], NULL, 10), c = strtoul(shape[2], NULL, 10);
+    done = axlebloom_put(m, w, c, bytes, length, now.revision, text, sizeof text, size);
+  } else {
+    done = axlebloom_remove(bytes, length, now.revision, text, sizeof text, size);
+  }
+  if (done.number) return printf("%s: refused %d\n", shape ? "put" : "remove", done.number), 1;
+  printf("%s: revision %d%s; ", name, done.revision, shape ? "" : ", gone");
+  return write_back(path, size, done.size);
+}
+
 int main(int argc, char **argv) {
-  if (argc != 6) return printf("arguments: FILE NAME M W C\n"), 2;
-  uint8_t text[AXLEBLOOM_CATALOGUE_MOST + 1];
+  const char *task = argc > 2 ? argv[2] : "";
   size_t size = AXLEBLOOM_CATALOGUE_EMPTY_SIZE;
   memcpy(text, AXLEBLOOM_CATALOGUE_EMPTY, size);
-  FILE *file = fopen(argv[1], "rb");
+  FILE *file = argc > 2 ? fopen(argv[1], "rb") : NULL;
   if (file) size = fread(text, 1, sizeof text, file), fclose(file); /* a longer file is refused by its size */
 
-  const uint8_t *name = (const uint8_t *)argv[2];
-  size_t name_size = strlen(argv[2]);
-  struct axlebloom_lookup_answer old = axlebloom_lookup(text, sizeof text, size, name, name_size);
-  if (old.number && old.number != AXLEBLOOM_NO_SUCH_NAME) return printf("lookup: refused %d\n", old.number), 1;
-
-  size_t m = strtoul(argv[3], NULL, 10), w = strtoul(argv[4], NULL, 10), c = strtoul(argv[5], NULL, 10);
-  struct axlebloom_change_answer put = axlebloom_put(m, w, c, name, name_size, old.revision, text, sizeof text, size);
-  if (put.number) return printf("put: refused %d\n", put.number), 1;
-
-  file = fopen(argv[1], "wb");
-  if (!file || fwrite(text, 1, put.size, file) != put.size || fclose(file)) return printf("%s can't be written\n", argv[1]), 1;
-  printf("%s: revision %d, %d bytes\n", argv[2], put.revision, (int)put.size);
-  return 0;
+  if (argc == 7 && !strcmp(task, "put")) return change(argv[1], size, argv[3], argv + 4);
+  if (argc == 4 && !strcmp(task, "remove")) return change(argv[1], size, argv[3], NULL);
+  if (argc == 3 && !strcmp(task, "compact")) {
+    struct axlebloom_compact_answer done = axlebloom_compact(text, sizeof text, size);
+    if (done.number) return printf("compact: refused %d\n", done.number), 1;
+    printf("compacted; ");
+    return write_back(argv[1], size, done.size);
+  }
+  return printf("arguments: FILE put NAME M W C, or FILE remove NAME, or FILE compact\n"), 2;
 }

@@ -1,7 +1,7 @@
 //! The library through its exported functions, with the record of a desk laid out as in the header.
 
 mod c {
-    use super::{Answer, Change, Desk, Gather, Lookup, Profile};
+    use super::{Answer, Change, Compaction, Desk, Gather, Lookup, Profile};
     extern "C" {
         pub fn axlebloom_describe(m: usize, w: usize, c: usize) -> u8;
         pub fn axlebloom_places(m: usize, w: usize, c: usize) -> usize;
@@ -27,6 +27,8 @@ mod c {
         pub fn axlebloom_gather_finish(gather: *mut Gather, x: *mut u8, n: usize) -> Answer;
         pub fn axlebloom_lookup(text: *const u8, capacity: usize, size: usize, name: *const u8, n: usize) -> Lookup;
         pub fn axlebloom_put(m: usize, w: usize, c: usize, name: *const u8, n: usize, e: usize, text: *mut u8, capacity: usize, size: usize) -> Change;
+        pub fn axlebloom_remove(name: *const u8, n: usize, e: usize, text: *mut u8, capacity: usize, size: usize) -> Change;
+        pub fn axlebloom_compact(text: *mut u8, capacity: usize, size: usize) -> Compaction;
     }
 }
 
@@ -203,6 +205,12 @@ pub struct Change {
     size: usize,
 }
 
+#[repr(C)]
+pub struct Compaction {
+    number: u8,
+    size: usize,
+}
+
 /// Revision and shape, or the number of a refusal, with which all else must be 0.
 pub fn lookup(buffer: &[u8], size: usize, name: &[u8]) -> Result<(u64, u64, u64, u64), u8> {
     let a = unsafe { c::axlebloom_lookup(buffer.as_ptr(), buffer.len(), size, name.as_ptr(), name.len()) };
@@ -211,9 +219,23 @@ pub fn lookup(buffer: &[u8], size: usize, name: &[u8]) -> Result<(u64, u64, u64,
 }
 
 /// The new length and the revision, or the number of a refusal, with which all else must be 0.
-pub fn put(s: Shape, name: &[u8], expected: usize, buffer: &mut [u8], size: usize) -> Result<(usize, u64), u8> {
-    let (text, capacity) = (buffer.as_mut_ptr(), buffer.len());
-    let a = unsafe { c::axlebloom_put(s.0, s.1, s.2, name.as_ptr(), name.len(), expected, text, capacity, size) };
+fn changed(a: Change) -> Result<(usize, u64), u8> {
     assert!(a.number == 0 || (a.revision, a.size) == (0, 0));
     if a.number == 0 { Ok((a.size, a.revision.into())) } else { Err(a.number) }
+}
+
+pub fn put(s: Shape, name: &[u8], expected: usize, buffer: &mut [u8], size: usize) -> Result<(usize, u64), u8> {
+    let (text, capacity) = (buffer.as_mut_ptr(), buffer.len());
+    changed(unsafe { c::axlebloom_put(s.0, s.1, s.2, name.as_ptr(), name.len(), expected, text, capacity, size) })
+}
+
+pub fn remove(name: &[u8], expected: usize, buffer: &mut [u8], size: usize) -> Result<(usize, u64), u8> {
+    changed(unsafe { c::axlebloom_remove(name.as_ptr(), name.len(), expected, buffer.as_mut_ptr(), buffer.len(), size) })
+}
+
+/// The new length, or the number of a refusal, with which it must be 0.
+pub fn compact(buffer: &mut [u8], size: usize) -> Result<usize, u8> {
+    let a = unsafe { c::axlebloom_compact(buffer.as_mut_ptr(), buffer.len(), size) };
+    assert!(a.number == 0 || a.size == 0);
+    if a.number == 0 { Ok(a.size) } else { Err(a.number) }
 }

@@ -1,23 +1,27 @@
-//! The library and the program beside the second program, on cases of these kinds, all random but the first:
+//! The library and the program beside the second program, on cases of these kinds, all random but the first and the last:
 //!   patterns  every loss pattern of some small shapes, through every service
 //!   services  every service, with shapes, words, marks and lists of groups good and bad
 //!   desks     long lists of calls on a desk, with every byte of it compared after every call
 //!   sessions  lines of text, through the program as a process
 //!   gathers   words cut and brought in any order, with odd calls and changed records between, every byte compared; and beside Recover
-//!   catalogues  lookups and puts on a text, near its longest and damaged, with every byte of the buffer compared
+//!   catalogues  lists of calls on a text, near its longest and damaged, with saved copies lent again, every byte of the buffer compared; and what
+//!             holds of a list of calls, asked of the library's own texts
+//!   namings   every list of five puts, removes and compactions on two names, on a few texts, in the same way
 //!
-//! Arguments: SEED COUNT [KIND [INDEX]]: all patterns and so many cases of each other kind, or so many of one kind, from that index on.
+//! Arguments: SEED COUNT [KIND [INDEX]]: all patterns, all namings and so many cases of each other kind, or so many of one kind, from that index on.
 //! A case depends on nothing but the seed, its kind and its index. For millions: tests/compare/many SEED COUNT, which builds all that is
 //! needed and runs this program.
 //! A mismatch prints the smallest case that was found to show it, and the command that repeats the case it was found from.
 
 mod calls;
+mod catalogue_calls;
 mod catalogues;
 mod desks;
 mod edits;
 mod gathers;
 mod library;
 mod lines;
+mod listed;
 mod profiles;
 mod random;
 #[path = "../second/second.rs"]
@@ -30,6 +34,7 @@ mod shrink;
 use catalogues::Catalogues;
 use desks::History;
 use gathers::Gathering;
+use listed::SITUATIONS;
 use random::Random;
 use services::Services;
 use sessions::Session;
@@ -44,12 +49,13 @@ struct Wanted {
     from: u64,
 }
 
-/// How many cases were compared, and how often each number came.
-#[derive(Default)]
+/// How many cases were compared, and how often each number came; and from 32 on, each situation of a catalogue.
 struct Tally {
     cases: u64,
-    numbers: [u64; 32],
+    numbers: [u64; CODES],
 }
+
+const CODES: usize = listed::Situation::FIRST_CODE as usize + SITUATIONS.len();
 
 fn wanted() -> Option<Wanted> {
     let arguments: Vec<String> = std::env::args().skip(1).collect();
@@ -61,7 +67,7 @@ fn wanted() -> Option<Wanted> {
     Some(Wanted { seed: number(0)??, count: number(1)??, kind, from: number(3).unwrap_or(Some(0))? })
 }
 
-const KINDS: [&str; 6] = ["patterns", "services", "desks", "sessions", "gathers", "catalogues"];
+const KINDS: [&str; 7] = ["patterns", "services", "desks", "sessions", "gathers", "catalogues", "namings"];
 
 /// Shows the smallest case and ends.
 fn mismatch<C: Case>(kind: &str, wanted: &Wanted, index: u64, case: C) -> ! {
@@ -76,7 +82,7 @@ fn mismatch<C: Case>(kind: &str, wanted: &Wanted, index: u64, case: C) -> ! {
 
 /// Compares the cases of one kind, as long as there are any.
 fn compare<C: Case>(kind: &str, wanted: &Wanted, draw: impl Fn(u64) -> Option<C>) -> Tally {
-    let mut tally = Tally::default();
+    let mut tally = Tally { cases: 0, numbers: [0; CODES] };
     if wanted.kind.as_ref().is_some_and(|only| only != kind) {
         return tally;
     }
@@ -95,22 +101,30 @@ fn random_cases<C: Case>(kind: &str, wanted: &Wanted) -> Tally {
     compare(kind, wanted, |index| Some(C::random(&mut Random::of_case(wanted.seed, kind, index))))
 }
 
-/// Every pattern, unless the arguments ask for some of them.
-fn patterns(wanted: &Wanted) -> Tally {
+/// Every case of a kind that has only so many, unless the arguments ask for some of them.
+fn every_case<C: Case>(kind: &str, wanted: &Wanted, draw: impl Fn(u64) -> Option<C>) -> Tally {
     let count = if wanted.kind.is_none() { u64::MAX } else { wanted.count };
-    compare("patterns", &Wanted { count, ..wanted.clone() }, services::pattern)
+    compare(kind, &Wanted { count, ..wanted.clone() }, draw)
+}
+
+/// How often the catalogues met a situation.
+fn situations(tallies: &[Tally; 7]) -> impl Iterator<Item = (&'static str, u64)> + '_ {
+    let times = |i: usize| tallies.iter().map(|tally| tally.numbers[CODES - SITUATIONS.len() + i]).sum();
+    SITUATIONS.iter().enumerate().map(move |(i, name)| (*name, times(i)))
 }
 
 /// One line for each number: how often each kind of case met it.
-fn print_table(tallies: &[Tally; 6]) {
+fn print_table(tallies: &[Tally; 7]) {
     println!("number {}", KINDS.map(|kind| format!("{kind:>11}")).concat());
     for number in (0..=25).chain([28, 29, 30, 31]) {
         println!("{number:>6} {}", tallies.each_ref().map(|tally| format!("{:>11}", tally.numbers[number])).concat());
     }
+    let met: Vec<String> = situations(tallies).filter(|(_, times)| *times > 0).map(|(name, times)| format!("{times} {name}")).collect();
+    println!("calls on catalogues: {}", met.join("; "));
 }
 
 /// Numbers that calls and lines can give and that never came.
-fn never_met(tallies: &[Tally; 6]) -> Vec<String> {
+fn never_met(tallies: &[Tally; 7]) -> Vec<String> {
     let calls = |number: usize| tallies[..3].iter().map(|tally| tally.numbers[number]).sum::<u64>();
     let by_calls = (0..=13).chain([25, 28, 29, 30, 31]).filter(|&number| calls(number) == 0).map(|number| format!("{number} by a call"));
     let by_lines = [0, 1, 2, 3, 4, 5, 8, 9, 14, 15, 29].into_iter().filter(|&number| tallies[3].numbers[number] == 0);
@@ -118,7 +132,8 @@ fn never_met(tallies: &[Tally; 6]) -> Vec<String> {
     let by_gathers = gathered.map(|number| format!("{number} by a gather"));
     let by_catalogues = (0..=4).chain(16..=21).chain([29]).filter(|&number| tallies[5].numbers[number] == 0);
     let by_catalogues = by_catalogues.map(|number| format!("{number} by a catalogue"));
-    by_calls.chain(by_gathers).chain(by_lines.map(|number| format!("{number} by a line"))).chain(by_catalogues).collect()
+    let situations = situations(tallies).filter(|(_, times)| *times == 0).map(|(name, _)| format!("\"{name}\""));
+    by_calls.chain(by_gathers).chain(by_lines.map(|number| format!("{number} by a line"))).chain(by_catalogues).chain(situations).collect()
 }
 
 /// Fewer cases need not meet every number.
@@ -131,12 +146,13 @@ fn main() {
     };
     std::panic::set_hook(Box::new(|_| ()));
     let tallies = [
-        patterns(&wanted),
+        every_case("patterns", &wanted, services::pattern),
         random_cases::<Services>("services", &wanted),
         random_cases::<History>("desks", &wanted),
         random_cases::<Session>("sessions", &wanted),
         random_cases::<Gathering>("gathers", &wanted),
         random_cases::<Catalogues>("catalogues", &wanted),
+        every_case("namings", &wanted, catalogue_calls::short_history),
     ];
     let cases: Vec<String> = KINDS.iter().zip(&tallies).map(|(kind, tally)| format!("{kind} {}", tally.cases)).collect();
     println!("compared from seed {}, all alike: {}; how often each number was answered:", wanted.seed, cases.join(", "));

@@ -920,11 +920,25 @@ pub fn session(mut input: impl Read, mut output: impl Write) -> io::Result<()> {
 /// What a name stands for: its revision, m, w and c.
 pub type Named = (u64, u64, u64, u64);
 
-/// The catalogue as a map, which sorts by the bytes of the names.
-pub type Catalogue = std::collections::BTreeMap<Vec<u8>, Named>;
+/// What a line says of its name: the revision, and m, w, c unless it is gone.
+pub type Line = (u64, Option<(u64, u64, u64)>);
+
+/// The lines as a map, which sorts by the bytes of the names.
+pub type Lines = std::collections::BTreeMap<Vec<u8>, Line>;
+
+/// A catalogue: the version of its text, the floor (0 in version 1) and lines.
+#[derive(Clone, Debug, PartialEq)]
+pub struct Catalogue {
+    pub version: u64,
+    pub floor: u64,
+    pub lines: Lines,
+}
 
 /// The longest text.
 pub const LONGEST_CATALOGUE: usize = 4096;
+
+/// The last revision, and the highest floor.
+pub const LAST_REVISION: u64 = 65535;
 
 pub fn is_good_name(name: &[u8]) -> bool {
     let allowed = b"abcdefghijklmnopqrstuvwxyz0123456789-";
@@ -933,64 +947,138 @@ pub fn is_good_name(name: &[u8]) -> bool {
 
 /// The text of a catalogue, made with the formatter of the language.
 pub fn catalogue_text(catalogue: &Catalogue) -> Vec<u8> {
-    let mut text = b"shapes\t1\n".to_vec();
-    for (name, (revision, m, w, c)) in catalogue {
+    let mut text = match catalogue.version {
+        1 => b"shapes\t1\n".to_vec(),
+        version => format!("shapes\t{version}\t{}\n", catalogue.floor).into_bytes(),
+    };
+    for (name, (revision, shape)) in &catalogue.lines {
         text.extend_from_slice(name);
-        text.extend_from_slice(format!("\t{revision}\t{m}\t{w}\t{c}\n").as_bytes());
+        let rest = match shape {
+            Some((m, w, c)) => format!("\t{revision}\t{m}\t{w}\t{c}\n"),
+            None => format!("\t{revision}\tgone\n"),
+        };
+        text.extend_from_slice(rest.as_bytes());
     }
     text
+}
+
+/// What a line after the first may mean, and whether that is good in a text of
+/// this version: in version 1 no line is gone.
+fn catalogue_line(version: u64, line: &[u8]) -> Option<(Vec<u8>, Line)> {
+    let fields: Vec<&[u8]> = line.split(|&byte| byte == b'\t').collect();
+    let figure = |i: usize| -> Option<u64> { std::str::from_utf8(fields.get(i)?).ok()?.parse().ok() };
+    let revision = figure(1)?;
+    if !is_good_name(fields[0]) || !(1..=LAST_REVISION).contains(&revision) {
+        return None;
+    }
+    if version > 1 && fields.get(2)? == b"gone" {
+        return Some((fields[0].to_vec(), (revision, None)));
+    }
+    let (m, w, c) = (figure(2)?, figure(3)?, figure(4)?);
+    describe(m, w, c).ok()?;
+    Some((fields[0].to_vec(), (revision, Some((m, w, c)))))
 }
 
 /// The catalogue of a text: whatever its lines may mean is read into a map,
 /// and the map's own text must then be the text that was read.
 pub fn catalogue(text: &[u8]) -> Option<Catalogue> {
-    let mut read = Catalogue::new();
-    for line in text.split(|&byte| byte == b'\n').skip(1).filter(|line| !line.is_empty()) {
-        let fields: Vec<&[u8]> = line.split(|&byte| byte == b'\t').collect();
-        let figure = |i: usize| -> Option<u64> { std::str::from_utf8(fields.get(i)?).ok()?.parse().ok() };
-        let (revision, m, w, c) = (figure(1)?, figure(2)?, figure(3)?, figure(4)?);
-        if !is_good_name(fields[0]) || !(1..=65535).contains(&revision) || describe(m, w, c).is_err() {
-            return None;
-        }
-        read.insert(fields[0].to_vec(), (revision, m, w, c));
+    let mut lines = text.split(|&byte| byte == b'\n');
+    let first: Vec<&str> = std::str::from_utf8(lines.next()?).ok()?.split('\t').collect();
+    let version: u64 = first.get(1)?.parse().ok()?;
+    let floor: u64 = if version == 1 { 0 } else { first.get(2)?.parse().ok()? };
+    if !(1..=2).contains(&version) || floor > LAST_REVISION {
+        return None;
+    }
+    let mut read = Catalogue { version, floor, lines: Lines::new() };
+    for line in lines.filter(|line| !line.is_empty()) {
+        read.lines.extend([catalogue_line(version, line)?]);
     }
     (catalogue_text(&read) == text).then_some(read)
 }
 
-/// The catalogue in a lent buffer with its length, or 16; then 17.
-fn lent_catalogue(buffer: &[u8], size: usize, name: &[u8]) -> Result<Catalogue, u8> {
+/// The catalogue in a lent buffer with its length, or 16.
+fn lent_catalogue(buffer: &[u8], size: usize) -> Result<Catalogue, u8> {
     let text = buffer.get(..size).filter(|text| text.len() <= LONGEST_CATALOGUE).ok_or(16)?;
-    let read = catalogue(text).ok_or(16)?;
-    if is_good_name(name) { Ok(read) } else { Err(17) }
+    catalogue(text).ok_or(16)
 }
 
-/// Lookup: revision and shape, or 16, 17, 18.
+/// 17 of a bad name.
+fn good_name(name: &[u8]) -> Result<(), u8> {
+    if is_good_name(name) { Ok(()) } else { Err(17) }
+}
+
+/// The revision after this one, or 20.
+fn next_revision(revision: u64) -> Result<u64, u8> {
+    if revision < LAST_REVISION { Ok(revision + 1) } else { Err(20) }
+}
+
+/// Writes the text of a changed catalogue, or 21. It is of version 2.
+fn write_catalogue(mut changed: Catalogue, buffer: &mut [u8]) -> Result<usize, u8> {
+    changed.version = 2;
+    let text = catalogue_text(&changed);
+    if text.len() > LONGEST_CATALOGUE {
+        return Err(21);
+    }
+    buffer.get_mut(..text.len()).ok_or(21)?.copy_from_slice(&text);
+    Ok(text.len())
+}
+
+/// Lookup: revision and shape, or 16, 17, 18. A name that is gone isn't found.
 pub fn lookup(buffer: &[u8], size: usize, name: &[u8]) -> Result<Named, u8> {
-    lent_catalogue(buffer, size, name)?.get(name).copied().ok_or(18)
+    let read = lent_catalogue(buffer, size)?;
+    good_name(name)?;
+    match read.lines.get(name) {
+        Some(&(revision, Some((m, w, c)))) => Ok((revision, m, w, c)),
+        _ => Err(18),
+    }
 }
 
-/// Put: the new length and revision, or 1 to 4, 29, 16, 17, 19, 20, 21.
+/// Put: the new length and revision, or 1 to 4, 29, 16, 17, 19, 20, 21. A name
+/// that is gone or was never there expects 0; the first goes on from its line's
+/// revision, the second from the floor.
 pub fn put(shape: (u64, u64, u64), name: &[u8], expected: u64, buffer: &mut [u8], size: usize) -> Result<(usize, u64), u8> {
     let (m, w, c) = shape;
     describe(m, w, c)?;
     if is_retired(c) {
         return Err(29);
     }
-    let mut read = lent_catalogue(buffer, size, name)?;
-    let stored = read.get(name).map_or(0, |named| named.0);
+    let mut read = lent_catalogue(buffer, size)?;
+    good_name(name)?;
+    let (stored, last) = match read.lines.get(name) {
+        Some(&(revision, Some(_))) => (revision, revision),
+        Some(&(revision, None)) => (0, revision),
+        None => (0, read.floor),
+    };
     if stored != expected {
         return Err(19);
     }
-    if stored == 65535 {
-        return Err(20);
+    let revision = next_revision(last)?;
+    read.lines.insert(name.to_vec(), (revision, Some(shape)));
+    Ok((write_catalogue(read, buffer)?, revision))
+}
+
+/// Remove: the new length and the revision on the gone line, or 16 to 21.
+pub fn remove(name: &[u8], expected: u64, buffer: &mut [u8], size: usize) -> Result<(usize, u64), u8> {
+    let mut read = lent_catalogue(buffer, size)?;
+    good_name(name)?;
+    let Some(&(stored, Some(_))) = read.lines.get(name) else { return Err(18) };
+    if stored != expected {
+        return Err(19);
     }
-    read.insert(name.to_vec(), (stored + 1, m, w, c));
-    let text = catalogue_text(&read);
-    if text.len() > LONGEST_CATALOGUE || text.len() > buffer.len() {
-        return Err(21);
-    }
-    buffer[..text.len()].copy_from_slice(&text);
-    Ok((text.len(), stored + 1))
+    let revision = next_revision(stored)?;
+    read.lines.insert(name.to_vec(), (revision, None));
+    Ok((write_catalogue(read, buffer)?, revision))
+}
+
+/// Compaction: the new length, or 16. The gone lines are dropped, and the floor
+/// is the largest revision ever dropped.
+pub fn compact(buffer: &mut [u8], size: usize) -> Result<usize, u8> {
+    let mut read = lent_catalogue(buffer, size)?;
+    let (gone, stay): (Vec<_>, Vec<_>) = read.lines.into_iter().partition(|(_, (_, shape))| shape.is_none());
+    let Some(highest) = gone.iter().map(|(_, (revision, _))| *revision).max() else { return Ok(size) };
+    read.floor = read.floor.max(highest);
+    read.lines = stay.into_iter().collect();
+    Ok(write_catalogue(read, buffer).expect("a text with fewer lines is shorter"))
 }
 
 // ------------------------------------------------------------- block rebuild

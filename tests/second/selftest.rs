@@ -828,24 +828,79 @@ fn edits(t: &mut Tally, random: &mut Random) {
 fn catalogues(t: &mut Tally) {
     let mut buffer = [0xEE; 60];
     buffer[..9].copy_from_slice(b"shapes\t1\n");
-    t.ok(put((2, 3, 1), b"rack", 0, &mut buffer, 9) == Ok((22, 1)), "put: the first");
-    t.ok(put((4, 8, 2), b"desk-box", 0, &mut buffer, 22) == Ok((39, 1)), "put: before it");
-    t.ok(put((15, 16, 3), b"rack", 1, &mut buffer, 39) == Ok((41, 2)), "put: again");
-    t.ok(&buffer[..41] == b"shapes\t1\ndesk-box\t1\t4\t8\t2\nrack\t2\t15\t16\t3\n", "put: the text");
-    t.ok(buffer[41..].iter().all(|&byte| byte == 0xEE), "put: bytes past the text");
-    t.ok(lookup(&buffer, 41, b"rack") == Ok((2, 15, 16, 3)), "lookup");
-    t.ok(lookup(&buffer, 41, b"rac") == Err(18), "lookup: 18");
-    t.ok(lookup(&buffer, 41, b"Rack") == Err(17), "lookup: 17");
-    t.ok(lookup(&buffer, 40, b"Rack") == Err(16), "lookup: 16 before 17");
-    t.ok(put((3, 6, 4), b"Rack", 1, &mut buffer, 40) == Err(29), "put: 29 before 16");
-    t.ok(put((2, 3, 1), b"net", 1, &mut buffer, 41) == Err(19), "put: 19 of a new name");
-    t.ok(put((2, 3, 1), b"a-long-name-0123", 0, &mut buffer, 41) == Err(21), "put: 21 by the buffer");
-    let texts: [&[u8]; 9] = [
+    t.ok(put((2, 3, 1), b"rack", 0, &mut buffer, 9) == Ok((24, 1)), "put: the first, and the first line of version 2");
+    t.ok(put((4, 8, 2), b"desk-box", 0, &mut buffer, 24) == Ok((41, 1)), "put: before it");
+    t.ok(put((15, 16, 3), b"rack", 1, &mut buffer, 41) == Ok((43, 2)), "put: again");
+    t.ok(&buffer[..43] == b"shapes\t2\t0\ndesk-box\t1\t4\t8\t2\nrack\t2\t15\t16\t3\n", "put: the text");
+    t.ok(buffer[43..].iter().all(|&byte| byte == 0xEE), "put: bytes past the text");
+    t.ok(lookup(&buffer, 43, b"rack") == Ok((2, 15, 16, 3)), "lookup");
+    t.ok(lookup(&buffer, 43, b"rac") == Err(18), "lookup: 18");
+    t.ok(lookup(&buffer, 43, b"Rack") == Err(17), "lookup: 17");
+    t.ok(lookup(&buffer, 42, b"Rack") == Err(16), "lookup: 16 before 17");
+    t.ok(put((3, 6, 4), b"Rack", 1, &mut buffer, 42) == Err(29), "put: 29 before 16");
+    t.ok(put((2, 3, 1), b"net", 1, &mut buffer, 43) == Err(19), "put: 19 of a new name");
+    t.ok(put((2, 3, 1), b"a-long-name-0123", 0, &mut buffer, 43) == Err(21), "put: 21 by the buffer");
+    let texts: [&[u8]; 18] = [
         b"", b"shapes\t1", b"shapes\t1\n\n", b"shapes\t1\na\t01\t2\t3\t1\n", b"shapes\t1\na\t1\t2\t3\t1", b"shapes\t1\na\t0\t2\t3\t1\n",
         b"shapes\t1\nb\t1\t2\t3\t1\na\t1\t2\t3\t1\n", b"shapes\t1\na\t1\t2\t3\t1\na\t1\t2\t3\t1\n", b"shapes\t1\na\t+1\t2\t3\t1\n",
+        b"shapes\t1\na\t2\tgone\n", b"shapes\t2\n", b"shapes\t1\t0\n", b"shapes\t2\t65536\n", b"shapes\t2\t00\n", b"shapes\t3\t0\n",
+        b"shapes\t2\t0\na\t0\tgone\n", b"shapes\t2\t0\na\t2\tgone\t\n", b"shapes\t2\t0\na\t2\tgone\na\t3\t2\t3\t1\n",
     ];
     t.ok(texts.iter().all(|text| catalogue(text).is_none()), "texts that are none");
     t.ok(catalogue(b"shapes\t1\nold\t65535\t3\t6\t4\n").is_some(), "a text with a retired shape");
+    t.ok(catalogue(b"shapes\t2\t65535\nold\t1\tgone\n").is_some(), "the highest floor and a gone line");
+}
+
+/// A text in a buffer with this many bytes past it.
+fn lent(text: &str, room: usize) -> (Vec<u8>, usize) {
+    ([text.as_bytes(), &vec![0xEE; room]].concat(), text.len())
+}
+
+/// Removes and compactions done by hand.
+fn removals(t: &mut Tally) {
+    let (mut buffer, size) = lent("shapes\t1\na\t7\t2\t3\t1\nb\t3\t4\t8\t2\n", 10);
+    t.ok(compact(&mut buffer, size) == Ok(size) && buffer.starts_with(b"shapes\t1\n"), "compact: version 1 stays");
+    t.ok(remove(b"a", 0, &mut buffer, size) == Err(19), "remove: 19");
+    t.ok(remove(b"c", 7, &mut buffer, size) == Err(18), "remove: 18");
+    t.ok(remove(b"C", 7, &mut buffer, size - 1) == Err(16) && remove(b"C", 7, &mut buffer, size) == Err(17), "remove: 16 and 17 before 18");
+    t.ok(remove(b"a", 7, &mut buffer, size) == Ok((size + 1, 8)), "remove");
+    t.ok(buffer.starts_with(b"shapes\t2\t0\na\t8\tgone\nb\t3\t4\t8\t2\n\xEE"), "remove: the text");
+    let size = size + 1;
+    t.ok(lookup(&buffer, size, b"a") == Err(18), "lookup: 18 of a gone name");
+    t.ok(remove(b"a", 8, &mut buffer, size) == Err(18), "remove: 18 of a gone name");
+    t.ok(put((2, 3, 1), b"a", 8, &mut buffer, size) == Err(19), "put: 19 of a gone name with its revision");
+    let mut again = buffer.clone();
+    t.ok(put((4, 8, 2), b"a", 0, &mut again, size) == Ok((size + 1, 9)), "put: a gone name's revision rises");
+    t.ok(compact(&mut buffer, size) == Ok(size - 9), "compact");
+    t.ok(buffer.starts_with(b"shapes\t2\t8\nb\t3\t4\t8\t2\n\t3\t4\t8\t2\n\xEE"), "compact: the text, and the bytes past it");
+    let size = size - 9;
+    t.ok(put((4, 8, 2), b"a", 0, &mut buffer, size) == Ok((size + 10, 9)), "put: a dropped name starts above the floor");
+    t.ok(remove(b"b", 3, &mut buffer, size + 10) == Ok((size + 9, 4)), "remove: a name below the floor");
+    t.ok(compact(&mut buffer, size + 9) == Ok(size), "compact: again");
+    t.ok(buffer.starts_with(b"shapes\t2\t8\na\t9\t4\t8\t2\n"), "compact: the floor never falls");
+}
+
+/// Revisions, floors and rooms at their ends.
+fn removal_ends(t: &mut Tally) {
+    let (mut buffer, size) = lent("shapes\t2\t0\na\t65534\t2\t3\t1\nb\t65535\t2\t3\t1\n", 40);
+    t.ok(remove(b"b", 65534, &mut buffer, size) == Err(19) && remove(b"b", 65535, &mut buffer, size) == Err(20), "remove: 19, then 20");
+    t.ok(remove(b"a", 65534, &mut buffer, size) == Ok((size - 1, 65535)), "remove: to the last revision");
+    t.ok(put((2, 3, 1), b"a", 1, &mut buffer, size - 1) == Err(19), "put: 19 before 20");
+    t.ok(put((2, 3, 1), b"a", 0, &mut buffer, size - 1) == Err(20), "put: 20 of a gone name");
+    t.ok(put((2, 3, 1), b"c", 0, &mut buffer, size - 1).is_ok_and(|(_, revision)| revision == 1), "put: the floor is still 0");
+    let (mut buffer, size) = lent("shapes\t2\t0\na\t65535\tgone\nb\t1\t2\t3\t1\n", 40);
+    t.ok(compact(&mut buffer, size) == Ok(size - 9), "compact: to the highest floor");
+    t.ok(put((2, 3, 1), b"a", 1, &mut buffer, size - 9) == Err(19), "put: 19 before 20 by the floor");
+    t.ok(put((2, 3, 1), b"a", 0, &mut buffer, size - 9) == Err(20), "put: 20 by the floor");
+    t.ok(put((2, 3, 1), b"b", 1, &mut buffer, size - 9).is_ok(), "put: a name that is there");
+    for room in 0..2 {
+        let (mut buffer, size) = lent("shapes\t1\na\t9\t2\t3\t1\n", room);
+        let before = buffer.clone();
+        t.ok(remove(b"a", 9, &mut buffer, size) == Err(21) && buffer == before, "remove: 21 for the first line of version 2");
+        t.ok(put((2, 3, 1), b"a", 9, &mut buffer, size) == Err(21) && buffer == before, "put: 21 for the first line of version 2");
+    }
+    let (mut buffer, size) = lent("shapes\t1\na\t9\t2\t3\t1\n", 2);
+    t.ok(remove(b"a", 9, &mut buffer, size) == Ok((size + 2, 10)), "remove: to the buffer's end");
 }
 
 fn main() -> ExitCode {
@@ -875,6 +930,8 @@ fn main() -> ExitCode {
     gathers(t);
     edits(t, random);
     catalogues(t);
+    removals(t);
+    removal_ends(t);
     desk_handles(t);
     desk_serves(t);
     desk_losses(t);

@@ -1,4 +1,2 @@
-pub mod LookupAndPut
-pub mod Demand
+pub mod Calls
 pub mod Laws
-pub mod DemandLaws

@@ -2,20 +2,23 @@
 use mathlib.Core.Path.{_≡_, refl, sym, ap, _∙_}
 use mathlib.Core.Bool.{Bool, true, false, cond, or-false}
 use mathlib.Core.List.{List, [], _∷_}
-use Prim.Native.Nat.{ℕ, suc, _+_, _≤_, _<_}
+use Prim.Native.Nat.{ℕ, suc, _+_, _-_, _≤_, _<_}
 use native.Mathlib.Numerals.{add-one}
 use native.Mathlib.Omega.{arith}
 use borrow.Author.Tests.{lt-ltb, le-ltb, le-leb, lt-leb, eq-eqb, ne-eqb}
 use lib.Dec.{eqb, leb, ltb}
-use lib.ListN.{length, getD, drop, drop-of-length-le}
-use lib.Seq.{drop-cons}
+use lib.ListN.{length, getD, take, drop, length-drop, drop-of-length-le}
+use lib.Seq.{drop-cons, take-all}
 use Rattle.shape.specs.Shapes.{shapeRefusal, madeOf}
 use Rattle.shape.specs.Laws.{shaped, unshaped, refusal-of-good}
 use Rattle.shape.specs.declared.Shape.{Shape}
 use Rattle.shape.specs.declared.Made.{Made}
 use Rattle.catalogue_text.specs.Names.{nameByte, nameBytes, goodName, before}
 use Rattle.catalogue_lines.specs.declared.Line.{Line}
-use Rattle.catalogue_lines.specs.Reading.{unread, numbersGood, lineIf}
+use Rattle.text.specs.Fields.{same}
+use Rattle.text.specs.FieldLaws.{later, partsFrom, parts-end, joinedBy, joined-parts}
+use Rattle.catalogue_text.specs.Catalogue.{goneName}
+use Rattle.catalogue_lines.specs.Reading.{unread, numbersGood, lineIf, goneAfter, goneIf}
 
 -- a byte of a name
 module _ (x : ℕ) where
@@ -98,3 +101,29 @@ module _ (size r m w c : ℕ) where
     shape-good s e =
         let g = shaped m w c s e in
         rw (le-leb 1 r (omega arith), le-leb r 65535 most, refusal-of-good m w c (g .good), g .groups, g .width, g .checks)
+
+-- the word gone behind a tab, by the bytes there
+module _ (line : List ℕ) (at : ℕ) where
+  pub gone-none : length line ≤ at → goneAfter at line ≡ false
+  unfolding goneAfter joinedBy same
+  gone-none l = rw (parts-end 9 at line l)
+
+  pub gone-some : at < length line → goneAfter at line ≡ same (take (length line - (at + 1)) (drop (at + 1) line)) goneName
+  unfolding goneAfter partsFrom later
+  gone-some l =
+      let n = length-drop (at + 1) line in
+      rw (take-all (length line - (at + 1)) (drop (at + 1) line) (omega arith), drop-cons line at 0 l, joined-parts 9 (drop (suc at) line), add-one at)
+
+-- and the revision of such a line
+module _ (size r : ℕ) where
+  pub gone-zero : r ≡ 0 → goneIf size r ≡ unread
+  unfolding goneIf
+  gone-zero e = rw (lt-leb 1 r (omega arith))
+
+  pub gone-high : 65535 < r → goneIf size r ≡ unread
+  unfolding goneIf
+  gone-high l = rw (le-leb 1 r (omega arith), lt-leb r 65535 l)
+
+  pub gone-good : (r ≡ 0 → ⊥) → r ≤ 65535 → goneIf size r ≡ record { size = size; revision = r; m = 0; w = 0; c = 0 }
+  unfolding goneIf
+  gone-good n l = rw (le-leb 1 r (omega arith), le-leb r 65535 l)

@@ -6,8 +6,9 @@ use lib.Dec.{eqb, leb, ltb}
 use lib.ListN.{length, drop}
 use Rattle.shape.specs.Shapes.{shapeRefusal}
 use Rattle.text.specs.Decimal.{numberOf, unreadable}
-use Rattle.text.specs.FieldLaws.{upTo, endOf}
-use Rattle.catalogue_text.specs.Catalogue.{Entry, entryOf}
+use Rattle.text.specs.Fields.{same}
+use Rattle.text.specs.FieldLaws.{upTo, endOf, partsFrom, joinedBy}
+use Rattle.catalogue_text.specs.Catalogue.{Entry, goneName, entryOf}
 use Rattle.catalogue_text.specs.CatalogueLaws.{lineGood}
 use Rattle.catalogue_lines.specs.declared.Line.{Line}
 use Rattle.catalogue_lines.specs.declared.Field.{Field}
@@ -37,3 +38,11 @@ numbersGood revision m w c = leb 1 revision && (leb revision 65535 && eqb (shape
 -- these numbers under a name of so many bytes
 unfoldable pub lineIf : ℕ → ℕ → ℕ → ℕ → ℕ → Line
 lineIf size revision m w c = cond (numbersGood revision m w c) (record { size = size; revision = revision; m = m; w = w; c = c }) unread
+
+-- whether the word gone, and nothing else, stands behind the tab at a place
+unfoldable pub goneAfter : ℕ → List ℕ → Bool
+goneAfter at line = same (joinedBy 9 (partsFrom 9 at line)) goneName
+
+-- a name of so many bytes that is gone
+unfoldable pub goneIf : ℕ → ℕ → Line
+goneIf size revision = cond (leb 1 revision && leb revision 65535) (record { size = size; revision = revision; m = 0; w = 0; c = 0 }) unread

@@ -1,7 +1,7 @@
 -- A line by its fields, one after the other.
 use mathlib.Core.Path.{_≡_, refl, sym, ap, ap₂, _∙_, subst}
 use mathlib.Core.Logic.{_⊎_, inl, inr}
-use mathlib.Core.Bool.{Bool, true, false, cond, _&&_}
+use mathlib.Core.Bool.{Bool, true, false, cond, false≢true, _&&_}
 use mathlib.Core.List.{List, [], _∷_, map}
 use Prim.Native.Nat.{ℕ, suc, _+_, _≤_, _<_}
 use native.Mathlib.Nat.{zero-add}
@@ -13,17 +13,18 @@ use lib.ListN.{length, getD, take, drop}
 use Rattle.shape.specs.Shapes.{shapeRefusal}
 use Rattle.shape.specs.Laws.{good-of-refusal}
 use Rattle.text.specs.Decimal.{numberOf, unreadable}
-use Rattle.text.specs.Fields.{parts}
-use Rattle.text.specs.FieldLaws.{upTo, toTab, endOf, take-part, partsFrom, parts-split, parts-more, parts-end, parts-all}
+use Rattle.text.specs.Fields.{parts, fields, same}
+use Rattle.text.specs.FieldLaws.{upTo, later, toTab, endOf, take-part, partsFrom, parts-split, parts-more, parts-end, parts-all, joinedBy, joined-parts}
 use Rattle.text.specs.Records.{lineName}
 use Rattle.text.specs.RecordLaws.{name-first}
 use Rattle.catalogue_text.specs.Names.{goodName}
-use Rattle.catalogue_text.specs.NamesLaws.{and-none}
-use Rattle.catalogue_text.specs.Catalogue.{Entry, goodEntry, numbersOf, entryOf}
-use Rattle.catalogue_text.specs.CatalogueLaws.{lineGood}
+use Rattle.catalogue_text.specs.NamesLaws.{and-none, and-all}
+use Rattle.catalogue_text.specs.Catalogue.{Entry, goodShape, shapeOrGone, goodEntry, goneName, numbersOf, saysGone, shapedOf, entryOf}
+use Rattle.catalogue_text.specs.LineLaws.{gone-numbers}
+use Rattle.catalogue_text.specs.CatalogueLaws.{goodShaped, shapedLine, lineGood, read-name}
 use Rattle.catalogue_lines.specs.declared.Line.{Line}
 use Rattle.catalogue_lines.specs.declared.Field.{Field}
-use Rattle.catalogue_lines.specs.Reading.{unread, asLine, readLine, fieldAfter, numbersGood, lineIf}
+use Rattle.catalogue_lines.specs.Reading.{unread, asLine, readLine, fieldAfter, numbersGood, lineIf, goneAfter, goneIf}
 
 -- the numbers of the fields after a place
 unfoldable pub numbersFrom : ℕ → List ℕ → List ℕ
@@ -76,12 +77,12 @@ shape-large r m w c h = rw (none (eqb (shapeRefusal m w c) 0) refl, and-none (le
     none false e = refl
 
 entry-read : (line : List ℕ) (r m w c : ℕ) → numbersOf line ≡ r ∷ m ∷ w ∷ c ∷ []
-    → entryOf line ≡ record { name = lineName line; revision = r; m = m; w = w; c = c }
-unfolding entryOf
+    → shapedOf line ≡ record { name = lineName line; revision = r; m = m; w = w; c = c }
+unfolding shapedOf
 entry-read line r m w c e = rw e
 
-good-numbers : (e : Entry) → goodEntry e ≡ (goodName (e .name) && numbersGood (e .revision) (e .m) (e .w) (e .c))
-unfolding goodEntry numbersGood
+good-numbers : (e : Entry) → goodShaped e ≡ (goodName (e .name) && numbersGood (e .revision) (e .m) (e .w) (e .c))
+unfolding goodShaped goodShape numbersGood
 good-numbers e = refl
 
 -- four fields, one after the other, from the end of the name on
@@ -103,10 +104,10 @@ module _ (line : List ℕ) where
 
   -- the line is good by its name, its end and its numbers
   abbrev ReadAs : Bool → Type 0
-  ReadAs g = (lineGood line ≡ (leb (length line) (fourth .end) && g)) × (T (leb (length line) (fourth .end) && g) → entryOf line ≡ asRead)
+  ReadAs g = (shapedLine line ≡ (leb (length line) (fourth .end) && g)) × (T (leb (length line) (fourth .end) && g) → shapedOf line ≡ asRead)
 
   not-four : (g : Bool) → (length (numbersOf line) ≡ 4 → ⊥) → (leb (length line) (fourth .end) && g) ≡ false → ReadAs g
-  unfolding lineGood
+  unfolding shapedLine
   not-four g n e = (rw (ne-eqb (length (numbersOf line)) 4 n) (sym e), λ t. absurd (subst T e t))
 
   abbrev good : Bool
@@ -126,18 +127,18 @@ module _ (line : List ℕ) where
   gone f i e l = ap (λ (g : Field). g .value) (e ∙ field-none line i l)
 
   exact : numbersOf line ≡ first .value ∷ second .value ∷ third .value ∷ fourth .value ∷ [] → length line ≤ fourth .end → ReadAs good
-  unfolding lineGood
+  unfolding shapedLine
   exact e l =
       let whole = le-leb (length line) (fourth .end) l in
-      let read : entryOf line ≡ asRead = entry e in (
+      let read : shapedOf line ≡ asRead = entry e in (
         rw (ap length e, read, whole) refl-good,
         λ t. read,
       )
     where
-      entry : numbersOf line ≡ first .value ∷ second .value ∷ third .value ∷ fourth .value ∷ [] → entryOf line ≡ asRead
+      entry : numbersOf line ≡ first .value ∷ second .value ∷ third .value ∷ fourth .value ∷ [] → shapedOf line ≡ asRead
       entry e = entry-read line (first .value) (second .value) (third .value) (fourth .value) e
 
-      refl-good : goodEntry asRead ≡ good
+      refl-good : goodShaped asRead ≡ good
       refl-good = good-numbers asRead
 
   pub fields-read : ReadAs good
@@ -202,11 +203,53 @@ module _ (line : List ℕ) where
   abbrev numbers : Bool
   numbers = numbersGood (first .value) (second .value) (third .value) (fourth .value)
 
+  -- the word gone behind the second tab, by places
+  pub gone-at : goneAfter (first .end) line ≡ saysGone line
+  unfolding goneAfter saysGone
+  gone-at = ap (λ ps. same (joinedBy 9 ps) goneName) (sym behind)
+    where
+      behind : drop 2 (fields line) ≡ partsFrom 9 (first .end) line
+      behind = ap (drop 2) (parts-all 9 line) ∙ ap (λ i. drop 1 (partsFrom 9 i line)) (sym (first-end line)) ∙ elim (decLt (endOf 9 0 line) (length line)) [
+        | yes l ↦ rw (parts-more 9 (endOf 9 0 line) line l, field-some line (endOf 9 0 line) l)
+        | no l ↦ (
+            let h : length line ≤ endOf 9 0 line = omega arith in
+            rw (parts-end 9 (endOf 9 0 line) line h, field-none line (endOf 9 0 line) h, parts-end 9 (endOf 9 0 line) line h)
+            )
+      ]
+
+  -- the number of a line that says gone
+  gone-revision : saysGone line ≡ true → getD (numbersOf line) 0 0 ≡ first .value
+  unfolding saysGone joinedBy same
+  gone-revision s = elim (decLt (endOf 9 0 line) (length line)) [
+    | yes l ↦ rw (numbers-first line, numbers-more line (endOf 9 0 line) l)
+    | no l ↦ (
+        let h : length line ≤ endOf 9 0 line = omega arith in
+        absurd (none (ap (λ ps. same (joinedBy 9 (drop 2 ps)) goneName) (parts-all 9 line ∙ ap (λ i. toTab line ∷ partsFrom 9 i line) (sym (first-end line))
+        ∙ ap (λ ps. toTab line ∷ ps) (parts-end 9 (endOf 9 0 line) line h))) s)
+        )
+  ]
+    where
+      none : same (joinedBy 9 (drop 2 (fields line))) goneName ≡ same (joinedBy 9 []) goneName → same (joinedBy 9 (drop 2 (fields line))) goneName ≡ true → ⊥
+      none e t = false≢true (sym e ∙ t)
+
+  entry-gone : saysGone line ≡ true → entryOf line ≡ record { name = lineName line; revision = first .value; m = 0; w = 0; c = 0 }
+  unfolding entryOf
+  entry-gone s = rw (s, gone-revision s)
+
+  entry-shaped : saysGone line ≡ false → (lineGood line ≡ shapedLine line) × (entryOf line ≡ shapedOf line)
+  unfolding lineGood entryOf
+  entry-shaped s = rw s (refl, refl)
+
+  -- a line that says gone, by the length of its name and its revision
+  pub gone-read : goodName (lineName line) ≡ true → saysGone line ≡ true → readLine line ≡ goneIf (endOf 9 0 line) (first .value)
+  unfolding readLine goneIf lineGood goodEntry
+  gone-read t s = rw (s, entry-gone s, t, gone-numbers, and-all (leb (first .value) 65535), name-size)
+
   -- a line by the length of its name and its numbers
-  pub line-read : goodName (lineName line) ≡ true → length line ≤ fourth .end
+  pub line-read : goodName (lineName line) ≡ true → saysGone line ≡ false → length line ≤ fourth .end
       → readLine line ≡ lineIf (endOf 9 0 line) (first .value) (second .value) (third .value) (fourth .value)
   unfolding readLine lineIf
-  line-read t l = go numbers refl (fields-read .0 ∙ tests) (λ u. fields-read .1 (subst T (sym tests) u))
+  line-read t s l = go numbers refl (entry-shaped s .0 ∙ fields-read .0 ∙ tests) (λ u. entry-shaped s .1 ∙ fields-read .1 (subst T (sym tests) u))
     where
       tests : (leb (length line) (fourth .end) && good) ≡ numbers
       tests = rw (le-leb (length line) (fourth .end) l, t)
@@ -218,38 +261,49 @@ module _ (line : List ℕ) where
       go false e g r = rw (g, e)
 
   pub line-unnamed : goodName (lineName line) ≡ false → readLine line ≡ unread
-  unfolding readLine
-  line-unnamed e =
-      let n : lineGood line ≡ false = fields-read .0 ∙ rw (e, and-none (leb (length line) (fourth .end))) in
-      rw n
+  unfolding readLine lineGood goodEntry
+  line-unnamed e = go (saysGone line)
+    where
+      shaped : shapedLine line ≡ false
+      shaped = fields-read .0 ∙ rw (e, and-none (leb (length line) (fourth .end)))
 
-  pub line-longer : fourth .end < length line → readLine line ≡ unread
+      go : (b : Bool) → cond (cond b (goodEntry (entryOf line)) (shapedLine line)) (asLine (entryOf line)) unread ≡ unread
+      go true = rw (read-name line, e)
+      go false = rw shaped
+
+  pub line-longer : saysGone line ≡ false → fourth .end < length line → readLine line ≡ unread
   unfolding readLine
-  line-longer l =
-      let n : lineGood line ≡ false = fields-read .0 ∙ rw (lt-leb (length line) (fourth .end) l) in
+  line-longer s l =
+      let n : lineGood line ≡ false = entry-shaped s .0 ∙ fields-read .0 ∙ rw (lt-leb (length line) (fourth .end) l) in
       rw n
 
 -- with the fields as they were read one after the other
-module _ (line : List ℕ) (size : ℕ) (f₁ f₂ f₃ f₄ : Field) (s : size ≡ endOf 9 0 line) (e₁ : f₁ ≡ fieldAfter size line) (e₂ : f₂ ≡ fieldAfter (f₁ .end) line)
-    (e₃ : f₃ ≡ fieldAfter (f₂ .end) line)
-    (e₄ : f₄ ≡ fieldAfter (f₃ .end) line) where
+module _ (line : List ℕ) (size : ℕ) (f₁ : Field) (s : size ≡ endOf 9 0 line) (e₁ : f₁ ≡ fieldAfter size line) where
   one : f₁ ≡ first line
   one = e₁ ∙ ap (λ i. fieldAfter i line) s
 
-  two : f₂ ≡ second line
-  two = e₂ ∙ ap (λ (f : Field). fieldAfter (f .end) line) one
+  says : goneAfter (f₁ .end) line ≡ saysGone line
+  says = ap (λ (f : Field). goneAfter (f .end) line) one ∙ gone-at line
 
-  three : f₃ ≡ third line
-  three = e₃ ∙ ap (λ (f : Field). fieldAfter (f .end) line) two
+  pub read-gone : goodName (lineName line) ≡ true → goneAfter (f₁ .end) line ≡ true → readLine line ≡ goneIf size (f₁ .value)
+  read-gone g t = let e = gone-read line g (sym says ∙ t) in rw (s, one) e
 
-  four-is : f₄ ≡ fourth line
-  four-is = e₄ ∙ ap (λ (f : Field). fieldAfter (f .end) line) three
+  module _ (shaped : goneAfter (f₁ .end) line ≡ false) (f₂ f₃ f₄ : Field) (e₂ : f₂ ≡ fieldAfter (f₁ .end) line) (e₃ : f₃ ≡ fieldAfter (f₂ .end) line)
+      (e₄ : f₄ ≡ fieldAfter (f₃ .end) line) where
+    two : f₂ ≡ second line
+    two = e₂ ∙ ap (λ (f : Field). fieldAfter (f .end) line) one
 
-  pub read-longer : f₄ .end < length line → readLine line ≡ unread
-  read-longer l = line-longer line (subst (λ (f : Field). f .end < length line) four-is l)
+    three : f₃ ≡ third line
+    three = e₃ ∙ ap (λ (f : Field). fieldAfter (f .end) line) two
 
-  pub read-numbers : goodName (lineName line) ≡ true → length line ≤ f₄ .end
-      → readLine line ≡ lineIf size (f₁ .value) (f₂ .value) (f₃ .value) (f₄ .value)
-  read-numbers g l =
-      let e = line-read line g (subst (λ (f : Field). length line ≤ f .end) four-is l) in
-      rw (s, one, two, three, four-is) e
+    four-is : f₄ ≡ fourth line
+    four-is = e₄ ∙ ap (λ (f : Field). fieldAfter (f .end) line) three
+
+    pub read-longer : f₄ .end < length line → readLine line ≡ unread
+    read-longer l = line-longer line (sym says ∙ shaped) (subst (λ (f : Field). f .end < length line) four-is l)
+
+    pub read-numbers : goodName (lineName line) ≡ true → length line ≤ f₄ .end
+        → readLine line ≡ lineIf size (f₁ .value) (f₂ .value) (f₃ .value) (f₄ .value)
+    read-numbers g l =
+        let e = line-read line g (sym says ∙ shaped) (subst (λ (f : Field). length line ≤ f .end) four-is l) in
+        rw (s, one, two, three, four-is) e

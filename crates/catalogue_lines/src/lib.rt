@@ -5,9 +5,9 @@ ghost use mathlib.Core.Path.{_≡_};
 ghost use Prim.Native.Nat.{_≤_};
 ghost use lib.ListN.{length};
 ghost use Rattle.catalogue_text.specs.Names.{nameByte, goodName, before};
-ghost use Rattle.catalogue_lines.specs.Reading.{readLine, fieldAfter, lineIf, unread};
+ghost use Rattle.catalogue_lines.specs.Reading.{readLine, fieldAfter, lineIf, goneAfter, goneIf, unread};
 
-// A line as it is read: the length of its name, 0 for a line that can't be read; its revision and its shape.
+// A line as it is read: the length of its name, 0 for a line that can't be read; its revision and its shape, zeros if the name is gone.
 pub struct Line {
     pub size: usize,
     pub revision: u16,
@@ -126,6 +126,36 @@ fn line_if(size: usize, revision: usize, m: usize, w: usize, c: usize) -> Line
     }
 }
 
+// Whether the word gone, and nothing else, stands behind the tab at a place.
+fn is_gone(line: &[u8], at: usize) -> bool
+    ensures { λ r. ⌜ r ≡ goneAfter at (now (line .entry)) ⌝ }
+{
+    if line.len() <= at {
+        return false;
+    }
+    let start = at + 1;
+    fields::is_same(&line[start..], b"gone")
+}
+
+// The line of a name that is gone, if its revision is good.
+fn gone_if(size: usize, revision: usize) -> Line
+    ensures { λ r. ⌜ r ≡ goneIf size revision ⌝ }
+{
+    if revision == 0 {
+        return unread();
+    }
+    if 65535 < revision {
+        return unread();
+    }
+    Line {
+        size,
+        revision: revision as u16,
+        m: 0,
+        w: 0,
+        c: 0,
+    }
+}
+
 // What a line, without its line feed, is read as.
 pub fn read_line(line: &[u8]) -> Line
     ensures { λ r. ⌜ r ≡ readLine (now (line .entry)) ⌝ }
@@ -135,6 +165,9 @@ pub fn read_line(line: &[u8]) -> Line
         return unread();
     }
     let revision = field_after(line, size);
+    if is_gone(line, revision.end) {
+        return gone_if(size, revision.value);
+    }
     let m = field_after(line, revision.end);
     let w = field_after(line, m.end);
     let c = field_after(line, w.end);

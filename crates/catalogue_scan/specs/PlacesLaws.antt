@@ -12,8 +12,9 @@ use Rattle.text.specs.Fields.{same}
 use Rattle.text.specs.FieldLaws.{same-eq}
 use Rattle.catalogue_text.specs.Names.{before}
 use Rattle.catalogue_text.specs.NamesLaws.{is-true, before-only, before-else, before-trans, same-sym}
-use Rattle.catalogue_text.specs.Catalogue.{Entry, goodEntry, goodFrom, goodList, firstLine, entryLine, linesOf, textOf, listOf, ofForm}
-use Rattle.catalogue_text.specs.CatalogueLaws.{first-long, read-good, text-of-read}
+use Rattle.catalogue_text.specs.Catalogue.{Entry, goodEntry, goodFrom, goodList, Catalogue, goodCatalogue, goodVersion, firstLine, entryLine, linesOf, textOf}
+use Rattle.catalogue_text.specs.Catalogue.{catalogueOf, ofForm}
+use Rattle.catalogue_text.specs.CatalogueLaws.{cat-list, read-good, text-of-read}
 use Rattle.catalogue_text.specs.Changes.{entryFor, putIn}
 use Rattle.catalogue_scan.specs.declared.Place.{Place}
 use Rattle.catalogue_scan.specs.Places.{placeAt, placeNext, placeFrom}
@@ -168,8 +169,13 @@ spot name front at f last (g ∷ list) t =
         rw (next-after name at next g (placeAt at) d h, k .0) (spot-after name front at f g list d h (k .1))
 
 -- in a text of the form
-pub spot-of : (text name : List ℕ) → T (ofForm text) → Spot name (listOf text) text textOf (placeFrom name 9 (placeAt 9) (listOf text))
+pub spot-of : (text name : List ℕ) → T (ofForm text)
+    → Spot name ((catalogueOf text) .list) text (λ l. firstLine ((catalogueOf text) .version) ((catalogueOf text) .floor) ++ linesOf l)
+    (placeFrom name (length (firstLine ((catalogueOf text) .version) ((catalogueOf text) .floor)))
+    (placeAt (length (firstLine ((catalogueOf text) .version) ((catalogueOf text) .floor)))) ((catalogueOf text) .list))
 unfolding textOf
 spot-of text name t =
-    subst (λ x. Spot name (listOf text) x (λ l. firstLine ++ linesOf l) (placeFrom name 9 (placeAt 9) (listOf text))) (text-of-read text t)
-    (spot name firstLine 9 first-long [] (listOf text) (read-good text t))
+    let cat : Catalogue = catalogueOf text in
+    let front : List ℕ = firstLine (cat .version) (cat .floor) in
+    subst (λ x. Spot name (cat .list) x (λ l. front ++ linesOf l) (placeFrom name (length front) (placeAt (length front)) (cat .list))) (text-of-read text t)
+    (spot name front (length front) refl [] (cat .list) (cat-list cat (read-good text t)))

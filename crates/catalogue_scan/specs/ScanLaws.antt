@@ -3,6 +3,7 @@ use mathlib.Core.Path.{_≡_, refl, sym, ap, ap₂, _∙_, subst}
 use mathlib.Core.Bool.{Bool, true, false, cond, _&&_}
 use mathlib.Core.List.{List, [], _∷_, _++_}
 use Prim.Native.Nat.{ℕ, suc, _+_, _-_, _≤_, _<_}
+use native.Mathlib.Nat.{zero-add}
 use native.Mathlib.Numerals.{add-one}
 use native.Mathlib.Omega.{arith}
 use borrow.Author.Tests.{ne-eqb, leb-true}
@@ -11,22 +12,26 @@ use lib.ListN.{length, getD, take, drop, length-append, length-drop, length-take
 use lib.Seq.{drop-cons, drop-drop, length-take-le, take-take}
 use Rattle.counting.specs.TestLaws.{and-l, and-r, and-intro}
 use Rattle.text.specs.Fields.{parts, same}
-use Rattle.text.specs.FieldLaws.{upTo, later, endOf, parts-split, part-taken, take-part, same-eq}
+use Rattle.text.specs.FieldLaws.{upTo, later, endOf, parts-split, parts-all, parts-end, part-taken, take-part, same-eq}
 use Rattle.text.specs.Records.{lineName}
 use Rattle.text.specs.RecordLaws.{line-values}
 use Rattle.catalogue_text.specs.Names.{goodName, before}
-use Rattle.catalogue_text.specs.NamesLaws.{is-true, true-is, same-refl, and-none, and-all}
-use Rattle.catalogue_text.specs.Catalogue.{Entry, firstLine, entryLine, entryOf, entriesOf, listOf, ofForm}
+use Rattle.catalogue_text.specs.NamesLaws.{is-true, true-is, and-none, and-all, name-some}
+use Rattle.catalogue_text.specs.Catalogue.{Entry, isGone, noneGone, firstLine, entryLine, entryOf, entriesOf, isOne, floorOf, catalogueOf, ofForm}
 use Rattle.catalogue_text.specs.LineLaws.{entry-good}
 use Rattle.catalogue_text.specs.CatalogueLaws.{lineGood, lineRight, restRight, isEmpty, rest-more, rest-end, entries-more, entries-end, good-read}
 use Rattle.catalogue_text.specs.CatalogueLaws.{good-line, right-good, read-name}
-use Rattle.catalogue_text.specs.CatalogueLaws.{form-lines, list-lines}
+use Rattle.catalogue_text.specs.CatalogueLaws.{rest-good, headRight, versionOf, allows, right-head, form-lines, catalogue-lines}
+use Rattle.catalogue_text.specs.Changes.{largestGone}
+use Rattle.catalogue_text.specs.ChangesLaws.{none-largest}
 use Rattle.catalogue_lines.specs.declared.Line.{Line}
 use Rattle.catalogue_lines.specs.Reading.{unread, asLine, readLine}
 use Rattle.catalogue_lines.specs.ReadingLaws.{name-taken, name-size}
 use Rattle.catalogue_scan.specs.declared.Place.{Place}
 use Rattle.catalogue_scan.specs.declared.Scanned.{Scanned}
-use Rattle.catalogue_scan.specs.Places.{placeAt, placeNext, placeFrom, rightLine, scannedOf}
+use Rattle.catalogue_scan.specs.declared.Head.{Head}
+use Rattle.catalogue_scan.specs.declared.Found.{Found}
+use Rattle.catalogue_scan.specs.Places.{placeAt, placeNext, placeFrom, rightLine, largerGone, readHead, foundFrom, scannedFrom, foundIn, scannedOf}
 
 -- ---- a line of the text
 module _ (text : List ℕ) (at : ℕ) where
@@ -52,10 +57,6 @@ module _ (text : List ℕ) (at : ℕ) where
 -- ---- a right line
 good-name : (line : List ℕ) → T (lineGood line) → T (goodName (lineName line))
 good-name line t = subst (λ n. T (goodName n)) (read-name line) (entry-good (entryOf line) (good-read line t) .named)
-
-name-some : (name : List ℕ) → T (goodName name) → 1 ≤ length name
-unfolding goodName
-name-some name t = leb→le 1 (length name) (and-l (leb 1 (length name)) _ t)
 
 module _ (last line : List ℕ) where
   pub right-line : T (lineRight last line)
@@ -90,30 +91,22 @@ module _ (last line : List ℕ) where
       go false d = d
 
 -- ---- at the start of each line
-pub record Scanning (text name : List ℕ) (at from to : ℕ) (place : Place) : Type 0 where
-  pub head : take 9 text ≡ firstLine
+pub record Scanning (text name : List ℕ) (first at from to : ℕ) (place : Place) (top : ℕ) : Type 0 where
   pub inside : at ≤ length text
   pub order : from ≤ to
   pub named : to ≤ length text
-  pub tests : restRight [] (parts 10 (drop 9 text)) ≡ restRight (take (to - from) (drop from text)) (parts 10 (drop at text))
-  pub places : placeFrom name 9 (placeAt 9) (entriesOf (parts 10 (drop 9 text))) ≡ placeFrom name at place (entriesOf (parts 10 (drop at text)))
+  pub tests : restRight [] (parts 10 (drop first text)) ≡ restRight (take (to - from) (drop from text)) (parts 10 (drop at text))
+  pub places : placeFrom name first (placeAt first) (entriesOf (parts 10 (drop first text))) ≡ placeFrom name at place (entriesOf (parts 10 (drop at text)))
+  pub tops : largestGone 0 (entriesOf (parts 10 (drop first text))) ≡ largestGone top (entriesOf (parts 10 (drop at text)))
 
-pub scan-start : (text name : List ℕ) → take 9 text ≡ firstLine → 9 ≤ length text → Scanning text name 9 0 0 (placeAt 9)
-scan-start text name h l = record { head = h; inside = l; order = omega arith; named = omega arith; tests = refl; places = refl }
+pub scan-start : (text name : List ℕ) (first : ℕ) → first ≤ length text → Scanning text name first first 0 0 (placeAt first) 0
+scan-start text name first l = record { inside = l; order = omega arith; named = omega arith; tests = refl; places = refl; tops = refl }
 
-not-formed : (text name : List ℕ) → restRight [] (parts 10 (drop 9 text)) ≡ false → scannedOf text name ≡ Scanned.Bad
-unfolding scannedOf
-not-formed text name e =
-    let n : ofForm text ≡ false = form-lines text ∙ ap (_&&_ (same (take 9 text) firstLine)) e ∙ and-none (same (take 9 text) firstLine) in
-    rw n
+not-right : (text name : List ℕ) (first floor : ℕ) → restRight [] (parts 10 (drop first text)) ≡ false → scannedFrom text first floor name ≡ Scanned.Bad
+unfolding scannedFrom
+not-right text name first floor e = rw e
 
-pub scan-headless : (text name : List ℕ) → same (take 9 text) firstLine ≡ false → scannedOf text name ≡ Scanned.Bad
-unfolding scannedOf
-scan-headless text name e =
-    let n : ofForm text ≡ false = form-lines text ∙ ap (λ b. (b && restRight [] (parts 10 (drop 9 text)))) e in
-    rw n
-
-module _ (text name : List ℕ) (at from to : ℕ) (place : Place) (s : Scanning text name at from to place) where
+module _ (text name : List ℕ) (first floor at from to : ℕ) (place : Place) (top : ℕ) (s : Scanning text name first at from to place top) where
   abbrev last : List ℕ
   last = take (to - from) (drop from text)
 
@@ -127,15 +120,15 @@ module _ (text name : List ℕ) (at from to : ℕ) (place : Place) (s : Scanning
   unfolding endOf
   end-after = refl
 
-  pub scan-open : at < length text → length text ≤ end → scannedOf text name ≡ Scanned.Bad
-  scan-open l h = not-formed text name (s .tests ∙ open-line text at (omega arith) h last)
+  pub scan-open : at < length text → length text ≤ end → scannedFrom text first floor name ≡ Scanned.Bad
+  scan-open l h = not-right text name first floor (s .tests ∙ open-line text at (omega arith) h last)
 
   module _ (h : end < length text) where
-    more : restRight [] (parts 10 (drop 9 text)) ≡ (lineRight last line && restRight (lineName line) (parts 10 (drop (end + 1) text)))
+    more : restRight [] (parts 10 (drop first text)) ≡ (lineRight last line && restRight (lineName line) (parts 10 (drop (end + 1) text)))
     more = s .tests ∙ ap (restRight last) (next-line text at h) ∙ rest-more last line (drop (end + 1) text)
 
-    pub scan-wrong : lineRight last line ≡ false → scannedOf text name ≡ Scanned.Bad
-    scan-wrong e = not-formed text name (more ∙ ap (λ b. (b && restRight (lineName line) (parts 10 (drop (end + 1) text)))) e)
+    pub scan-wrong : lineRight last line ≡ false → scannedFrom text first floor name ≡ Scanned.Bad
+    scan-wrong e = not-right text name first floor (more ∙ ap (λ b. (b && restRight (lineName line) (parts 10 (drop (end + 1) text)))) e)
 
     module _ (t : T (lineRight last line)) where
       line-long : length line ≡ end - at
@@ -159,10 +152,10 @@ module _ (text name : List ℕ) (at from to : ℕ) (place : Place) (s : Scanning
           (sym (take-take (length ((entryOf line) .name)) (length line) (drop at text) size-most)
           ∙ ap (take (length ((entryOf line) .name))) k ∙ right-line last line t .2 ∙ read-name line)
 
-      pub scan-right : Scanning text name (end + 1) at (at + length ((entryOf line) .name)) (placeNext name at (end + 1) (entryOf line) place)
-      unfolding placeFrom
+      pub scan-right : Scanning text name first (end + 1) at (at + length ((entryOf line) .name)) (placeNext name at (end + 1) (entryOf line) place)
+          (largerGone top ((entryOf line) .m) ((entryOf line) .revision))
+      unfolding placeFrom largestGone
       scan-right = record {
-        head = s .head;
         inside = omega arith;
         order = omega arith;
         named = let k = size-most in let e = end-after in omega arith;
@@ -171,19 +164,144 @@ module _ (text name : List ℕ) (at from to : ℕ) (place : Place) (s : Scanning
             s .places
             ∙ ap (placeFrom name at place) (ap entriesOf (next-line text at h) ∙ entries-more line (drop (end + 1) text))
             ∙ ap (λ k. placeFrom name k (placeNext name at k (entryOf line) place) (entriesOf (parts 10 (drop (end + 1) text)))) ends;
+        tops = s .tops ∙ ap (largestGone top) (ap entriesOf (next-line text at h) ∙ entries-more line (drop (end + 1) text));
       }
 
-  pub scan-done : length text ≤ at → scannedOf text name ≡ Scanned.At place
-  unfolding scannedOf placeFrom
+  pub scan-done : length text ≤ at → scannedFrom text first floor name ≡ Scanned.At (record { first = first; floor = floor; top = top; place = place })
+  unfolding scannedFrom placeFrom largestGone
   scan-done l =
       let nothing : drop at text ≡ [] = drop-of-length-le text l in
-      let right : restRight [] (parts 10 (drop 9 text)) ≡ true = s .tests ∙ ap (λ d. restRight last (parts 10 d)) nothing ∙ rest-end last in
-      let head : same (take 9 text) firstLine ≡ true = ap (λ x. same x firstLine) (s .head) ∙ same-refl firstLine in
-      let formed : ofForm text ≡ true = form-lines text ∙ rw (head, right) in
-      let found : placeFrom name 9 (placeAt 9) (listOf text) ≡ place =
-      ap (placeFrom name 9 (placeAt 9)) (list-lines text (s .head)) ∙ s .places
-      ∙ ap (λ d. placeFrom name at place (entriesOf (parts 10 d))) nothing ∙ ap (placeFrom name at place) entries-end in
-      rw (formed, found)
+      let right : restRight [] (parts 10 (drop first text)) ≡ true = s .tests ∙ ap (λ d. restRight last (parts 10 d)) nothing ∙ rest-end last in
+      let found : placeFrom name first (placeAt first) (entriesOf (parts 10 (drop first text))) ≡ place =
+      s .places ∙ ap (λ d. placeFrom name at place (entriesOf (parts 10 d))) nothing ∙ ap (placeFrom name at place) entries-end in
+      let largest : largestGone 0 (entriesOf (parts 10 (drop first text))) ≡ top =
+      s .tops ∙ ap (λ d. largestGone top (entriesOf (parts 10 d))) nothing ∙ ap (largestGone top) entries-end in
+      rw (right, found, largest)
+
+-- ---- the first line, and what the lines after it give
+module _ (text name : List ℕ) where
+  ending : endOf 10 0 text ≡ length (upTo 10 text)
+  unfolding endOf
+  ending = zero-add (length (upTo 10 text))
+
+  not-formed : ofForm text ≡ false → scannedOf text name ≡ Scanned.Bad
+  unfolding scannedOf
+  not-formed e = rw e
+
+  -- no line feed
+  pub scan-endless : length text ≤ endOf 10 0 text → scannedOf text name ≡ Scanned.Bad
+  unfolding restRight
+  scan-endless l =
+      let n : drop 1 (parts 10 text) ≡ [] =
+      ap (drop 1) (parts-all 10 text) ∙ parts-end 10 (length (upTo 10 text)) text (subst (λ x. length text ≤ x) ending l) in
+      not-formed (form-lines text ∙ ap (λ ps. (headRight (upTo 10 text) && (restRight [] ps && allows (upTo 10 text) (entriesOf ps)))) n
+      ∙ and-none (headRight (upTo 10 text)))
+
+  pub first-taken : take (endOf 10 0 text) text ≡ upTo 10 text
+  first-taken = ap (λ i. take i text) ending ∙ take-part 10 text
+
+  -- another first line
+  pub scan-headless : (head : Head) → head ≡ readHead (take (endOf 10 0 text) text) → head .size ≡ 0 → scannedOf text name ≡ Scanned.Bad
+  unfolding readHead
+  scan-headless head e z = go (headRight (upTo 10 text)) refl (e ∙ ap readHead first-taken)
+    where
+      go : (b : Bool) → headRight (upTo 10 text) ≡ b → head
+          ≡ cond b (record { size = length (upTo 10 text) + 1; version = versionOf (upTo 10 text); floor = floorOf (upTo 10 text) })
+          (record { size = 0; version = 0; floor = 0 })
+          → scannedOf text name ≡ Scanned.Bad
+      go true d q = let k = ap (λ (h : Head). h .size) q in absurd (omega arith)
+      go false d q = not-formed (form-lines text ∙ rw d)
+
+  -- a right one
+  module _ (l : endOf 10 0 text < length text) (head : Head) (e : head ≡ readHead (take (endOf 10 0 text) text)) (n : head .size ≡ 0 → ⊥) where
+    abbrev headed : List ℕ
+    headed = upTo 10 text
+
+    known : (headRight headed ≡ true) × (head .size ≡ endOf 10 0 text + 1) × (head .version ≡ versionOf headed) × (head .floor ≡ floorOf headed)
+    unfolding readHead
+    known = go (headRight headed) refl (e ∙ ap readHead first-taken)
+      where
+        go : (b : Bool) → headRight headed ≡ b → head
+            ≡ cond b (record { size = length headed + 1; version = versionOf headed; floor = floorOf headed }) (record { size = 0; version = 0; floor = 0 })
+            → (headRight headed ≡ true) × (head .size ≡ endOf 10 0 text + 1) × (head .version ≡ versionOf headed) × (head .floor ≡ floorOf headed)
+        go true d q = (
+          d,
+          ap (λ (h : Head). h .size) q ∙ ap (λ x. x + 1) (sym ending),
+          ap (λ (h : Head). h .version) q,
+          ap (λ (h : Head). h .floor) q,
+        )
+        go false d q = absurd (n (ap (λ (h : Head). h .size) q))
+
+    pub head-size : head .size ≤ length text
+    head-size = let k = known .1 in omega arith
+
+    lines : List (List ℕ)
+    lines = parts 10 (drop (head .size) text)
+
+    lines-are : drop 1 (parts 10 text) ≡ lines
+    unfolding lines
+    lines-are = ap (drop 1) (next-line text 0 l) ∙ ap (λ i. parts 10 (drop i text)) (sym (known .1))
+
+    formed : ofForm text ≡ (restRight [] lines && allows headed (entriesOf lines))
+    formed =
+        form-lines text ∙ ap (λ b. (b && (restRight [] (drop 1 (parts 10 text)) && allows headed (entriesOf (drop 1 (parts 10 text)))))) (known .0)
+        ∙ ap (λ ps. (restRight [] ps && allows headed (entriesOf ps))) lines-are
+
+    -- the lines are not right
+    pub lines-bad : scannedFrom text (head .size) (head .floor) name ≡ Scanned.Bad → scannedOf text name ≡ Scanned.Bad
+    unfolding scannedFrom lines
+    lines-bad = go (restRight [] lines) refl
+      where
+        go : (b : Bool) → restRight [] lines ≡ b
+            → cond b (Scanned.At (foundFrom name (head .size) (head .floor) (entriesOf lines))) Scanned.Bad ≡ Scanned.Bad → scannedOf text name ≡ Scanned.Bad
+        go true d h = let z : _≡_ {A = ℕ} 0 1 = cc in absurd (omega arith)
+        go false d h = not-formed (formed ∙ rw d)
+
+    module _ (found : Found) (is : scannedFrom text (head .size) (head .floor) name ≡ Scanned.At found) where
+      found-is : (restRight [] lines ≡ true) × (found ≡ foundFrom name (head .size) (head .floor) (entriesOf lines))
+      unfolding scannedFrom lines
+      found-is = go (restRight [] lines) refl is
+        where
+          go : (b : Bool) → restRight [] lines ≡ b
+              → cond b (Scanned.At (foundFrom name (head .size) (head .floor) (entriesOf lines))) Scanned.Bad ≡ Scanned.At found
+              → (restRight [] lines ≡ true) × (found ≡ foundFrom name (head .size) (head .floor) (entriesOf lines))
+          go true d h = (d, cc)
+          go false d h = let z : _≡_ {A = ℕ} 0 1 = cc in absurd (omega arith)
+
+      none-gone : noneGone (entriesOf lines) ≡ eqb (found .top) 0
+      none-gone =
+          none-largest [] (entriesOf lines) (rest-good [] lines (true-is _ (found-is .0)) .0)
+          ∙ ap (λ (f : Found). eqb (f .top) 0) (sym (found-is .1))
+
+      one-version : (b : Bool) → isOne headed ≡ b → head .version ≡ cond b 1 2
+      one-version b d = known .2 ∙ rw d
+
+      -- version 1 with a gone line
+      pub scan-gone : head .version ≡ 1 → (found .top ≡ 0 → ⊥) → scannedOf text name ≡ Scanned.Bad
+      scan-gone v t = go (isOne headed) refl
+        where
+          go : (b : Bool) → isOne headed ≡ b → scannedOf text name ≡ Scanned.Bad
+          go true d = not-formed (formed ∙ rw (found-is .0, d, none-gone) (ne-eqb (found .top) 0 t))
+          go false d = let k = one-version false d in absurd (omega arith)
+
+      -- else the text is of the form
+      pub scan-found : (head .version ≡ 1 → found .top ≡ 0) → Scanned.At found ≡ scannedOf text name
+      unfolding scannedOf
+      scan-found v =
+          let a : allows headed (entriesOf lines) ≡ true = go (isOne headed) refl in
+          let f : ofForm text ≡ true = formed ∙ rw (found-is .0, a) in
+          let h = right-head headed (entriesOf lines) (true-is _ (known .0)) (true-is _ a) in
+          let s : length (firstLine (versionOf headed) (floorOf headed)) ≡ head .size =
+          ap length (h .1) ∙ length-append headed (10 ∷ []) ∙ ap (λ x. x + 1) (sym ending) ∙ sym (known .1) in
+          let first : ℕ = length (firstLine (versionOf headed) (floorOf headed)) in
+          let k : found ≡ foundIn name (catalogueOf text) =
+          found-is .1 ∙ ap (λ x. foundFrom name x (head .floor) (entriesOf lines)) (sym s) ∙ ap (λ x. foundFrom name first x (entriesOf lines)) (known .3)
+          ∙ ap (λ ps. foundFrom name first (floorOf headed) (entriesOf ps)) (sym lines-are) ∙ ap (foundIn name) (sym (catalogue-lines text)) in
+          rw (f, k)
+        where
+          go : (b : Bool) → isOne headed ≡ b → allows headed (entriesOf lines) ≡ true
+          go true d = rw (d, none-gone) (ap (λ x. eqb x 0) (v (one-version true d)))
+          go false d = rw d
 
 -- ---- a line that is read, and the name before it
 module _ (last line : List ℕ) where

@@ -1,7 +1,9 @@
 pub mod Names
 pub mod Catalogue
 pub mod Changes
+pub mod Buffers
 pub mod NamesLaws
 pub mod LineLaws
 pub mod CatalogueLaws
 pub mod ChangesLaws
+pub mod BuffersLaws

@@ -5,7 +5,7 @@ use mathlib.Core.List.{List, [], _∷_, _++_}
 use Prim.Native.Nat.{ℕ, _≤_, _<_}
 use native.Mathlib.Omega.{arith}
 use borrow.Author.Tests.{eqb-true, eqb-false, ltb-true, ltb-false, lt-ltb, le-ltb, eq-eqb, ne-eqb}
-use lib.Dec.{T, eqb, leb, ltb, eqb→eq, not-T}
+use lib.Dec.{T, eqb, leb, ltb, eqb→eq, leb→le, not-T}
 use lib.ListN.{length}
 use Rattle.counting.specs.TestLaws.{and-l, and-r, and-intro}
 use Rattle.text.specs.Fields.{same}
@@ -113,6 +113,10 @@ before-trans (x ∷ xs) (y ∷ ys) (z ∷ zs) e f = go (eqb x y) (eqb y z) refl 
         rw (ne-eqb x z (λ h. omega arith)) (lt-ltb x z (omega arith))
 
 -- a good name isn't empty
+pub name-some : (name : List ℕ) → T (goodName name) → 1 ≤ length name
+unfolding goodName
+name-some name t = leb→le 1 (length name) (and-l (leb 1 (length name)) _ t)
+
 pub name-first : (name : List ℕ) → T (goodName name) → T (before [] name)
 unfolding goodName before
 name-first [] t = t

@@ -1,11 +1,12 @@
 -- Bytes moved within a buffer, and a line put before them.
 use mathlib.Core.Path.{_≡_, refl, sym, ap, ap₂, _∙_}
 use mathlib.Core.List.{List, [], _∷_, _++_, append-assoc, append-nil}
-use Prim.Native.Nat.{ℕ, suc, _+_, _-_, _≤_, _<_}
-use native.Mathlib.Nat.{add-assoc}
+use Prim.Native.Nat.{ℕ, zero, suc, _+_, _-_, _≤_, _<_}
+use native.Mathlib.Nat.{add-assoc, add-comm, zero-add}
 use native.Mathlib.Omega.{arith}
+use borrow.Author.Tests.{eq-eqb, ne-eqb}
 use lib.ListN.{length, getD, take, drop, set, replicate, length-append, length-drop, List·getD-append}
-use lib.Seq.{length-take-le, take-suc, drop-cons, take-append-le, take-take, drop-at, getD-take, getD-drop, getD-append-add}
+use lib.Seq.{length-take-le, take-nil, take-at, take-suc, drop-cons, drop-drop, take-append-le, take-take, drop-at, getD-take, getD-drop, getD-append-add}
 use Rattle.text.specs.Decimal.{digitsOf}
 use Rattle.text.specs.DecimalLaws.{digits-enough, digits-most}
 use Rattle.text.specs.Lines.{cellsOf, lineWith}
@@ -13,7 +14,11 @@ use Rattle.text.specs.Padded.{padded}
 use Rattle.text.specs.ReadBackLaws.{cells-most}
 use Rattle.text.specs.Written.{written, putAt, nextAt}
 use Rattle.text.specs.WrittenLaws.{written-nothing, written-next, written-before, written-on, length-written, written-padded, put-room}
-use Rattle.catalogue_write.specs.Splice.{SpliceFits, splicedIn}
+use Rattle.catalogue_text.specs.Catalogue.{Entry, firstLine, goneLine, entryLine}
+use Rattle.catalogue_text.specs.Buffers.{withText}
+use Rattle.catalogue_text.specs.BuffersLaws.{with-length}
+use Rattle.catalogue_write.specs.declared.Row.{Row}
+use Rattle.catalogue_write.specs.Splice.{SpliceFits, splicedIn, Holds}
 
 module _ (out : List ℕ) (at : ℕ) (text : List ℕ) (k : ℕ) where
   -- what stands before and after a text that is written
@@ -186,3 +191,86 @@ module _ (name o₁ : List ℕ) (at : ℕ) (short : length name ≤ 16) (p₁ : 
           (let z = length-append body (10 ∷ []) in let y = ap length a in omega arith),
           rw whole (written-next (replicate 48 0) 0 body end 10 (omega arith) (omega arith)) ∙ written-padded 48 (body ++ (10 ∷ [])) ∙ ap (padded 48) a,
         )
+
+-- a text, a number and a text
+module _ (front back o₁ o₂ o₃ : List ℕ) (n₁ n₂ n₃ x : ℕ) (l₁ : length front ≤ 16) (l₂ : length back ≤ 16) (l₃ : x < 65536)
+    (p₁ : n₁ ≡ nextAt (replicate 48 0) 0 front) (q₁ : o₁ ≡ putAt (replicate 48 0) 0 front)
+    (p₂ : n₂ ≡ nextAt o₁ n₁ (9 ∷ digitsOf 9 x)) (q₂ : o₂ ≡ putAt o₁ n₁ (9 ∷ digitsOf 9 x)) (p₃ : n₃ ≡ nextAt o₂ n₂ back) (q₃ : o₃ ≡ putAt o₂ n₂ back) where
+  pub row-put : (n₃ ≡ length ((front ++ (9 ∷ digitsOf 4 x)) ++ back)) × (n₃ ≤ 48) × (o₃ ≡ padded 48 ((front ++ (9 ∷ digitsOf 4 x)) ++ back))
+  row-put =
+      let a = put-more (replicate 48 0) (replicate 48 0) o₁ [] front 0 0 n₁ (put-start (replicate 48 0) 0 (omega arith)) (omega arith) p₁ q₁ in
+      let b = cell-more (replicate 48 0) o₁ o₂ front 0 n₁ n₂ x l₃ a (omega arith) p₂ q₂ in
+      let d = put-more (replicate 48 0) o₂ o₃ (front ++ (9 ∷ digitsOf 4 x)) back 0 n₂ n₃ (b .0) (omega (arith, b .1)) p₃ q₃ in
+      let n = d .place in
+      let i = d .inside in (
+        n ∙ zero-add _,
+        omega arith,
+        d .holds ∙ written-padded 48 ((front ++ (9 ∷ digitsOf 4 x)) ++ back),
+      )
+
+-- the lines of that form
+pub first-is : (floor : ℕ) → (115 ∷ 104 ∷ 97 ∷ 112 ∷ 101 ∷ 115 ∷ 9 ∷ 50 ∷ 9 ∷ digitsOf 4 floor) ++ (10 ∷ []) ≡ firstLine 2 floor
+unfolding firstLine lineWith cellsOf digitsOf
+first-is floor = simp (append-assoc, append-nil)
+
+pub gone-is : (name : List ℕ) (revision m w c : ℕ) → m ≡ 0
+    → (name ++ (9 ∷ digitsOf 4 revision)) ++ (9 ∷ 103 ∷ 111 ∷ 110 ∷ 101 ∷ 10 ∷ [])
+    ≡ entryLine (record { name = name; revision = revision; m = m; w = w; c = c })
+unfolding entryLine goneLine cellsOf
+gone-is name revision m w c e = rw (eq-eqb m 0 e) (simp (append-assoc, append-nil))
+
+pub shaped-is : (name : List ℕ) (revision m w c : ℕ) → (m ≡ 0 → ⊥)
+    → lineWith 4 name (revision ∷ m ∷ w ∷ c ∷ []) ≡ entryLine (record { name = name; revision = revision; m = m; w = w; c = c })
+unfolding entryLine
+shaped-is name revision m w c n = rw (ne-eqb m 0 n)
+
+-- ---- another first line before the same lines
+module _ (buffer after old new lines : List ℕ) (e : after ≡ withText (old ++ lines) buffer) (grows : length old ≤ length new)
+    (room : length (new ++ lines) ≤ length buffer) where
+  long : length after ≡ length buffer
+  long =
+      let a = length-append old lines in
+      let b = length-append new lines in
+      ap length e ∙ with-length (old ++ lines) buffer (omega arith)
+
+  pub first-fits : SpliceFits after (length (old ++ lines)) 0 (length old) new
+  first-fits =
+      let a = length-append old lines in
+      let b = length-append new lines in
+      let n = long in
+      record { order = omega arith; inside = omega arith; held = omega arith; room = omega arith }
+
+  pub first-spliced : splicedIn after (length (old ++ lines)) 0 (length old) new ≡ withText (new ++ lines) buffer
+  unfolding splicedIn written withText
+  first-spliced =
+      let a = length-append old lines in
+      let b = length-append new lines in
+      let n : length (old ++ lines) - length old ≡ length lines = omega arith in
+      let whole : after ≡ old ++ (lines ++ drop (length (old ++ lines)) buffer) = e ∙ append-assoc old lines (drop (length (old ++ lines)) buffer) in
+      let tail : take (length (old ++ lines) - length old) (drop (length old) after) ≡ lines =
+      ap (λ x. take x (drop (length old) after)) n
+      ∙ ap (λ x. take (length lines) (drop (length old) x)) whole
+      ∙ ap (take (length lines)) (drop-at old (lines ++ drop (length (old ++ lines)) buffer) (length old) refl)
+      ∙ take-at lines (drop (length (old ++ lines)) buffer) (length lines) refl in
+      let k : ℕ = length (new ++ lines) - length (old ++ lines) in
+      let m : k + length (old ++ lines) ≡ length (new ++ lines) = omega arith in
+      let past : drop (0 + length (new ++ lines)) after ≡ drop (length (new ++ lines)) buffer =
+      ap (λ x. drop x after) (zero-add (length (new ++ lines)) ∙ sym m ∙ add-comm k (length (old ++ lines)))
+      ∙ sym (drop-drop k (length (old ++ lines)) after)
+      ∙ ap (drop k) (ap (drop (length (old ++ lines))) e ∙ drop-at (old ++ lines) (drop (length (old ++ lines)) buffer) (length (old ++ lines)) refl)
+      ∙ drop-drop k (length (old ++ lines)) buffer ∙ ap (λ x. drop x buffer) (add-comm (length (old ++ lines)) k ∙ m) in
+      rw tail (ap (λ x. (new ++ lines) ++ x) past)
+
+-- ---- a line at the start of a row
+pub row-line : (row : Row) (line : List ℕ) → Holds row line → take (row .length) (row .bytes) ≡ line
+row-line row line h = rw (h .contents) (take-at line _ (row .length) (sym (h .size)))
+
+pub row-room : (row : Row) (line : List ℕ) → Holds row line → row .length ≤ length (row .bytes)
+row-room row line h = let n = h .size in rw (h .contents, length-append) (omega arith)
+
+-- the bytes between two places, either way
+pub drop-take : (k n : ℕ) (l : List ℕ) → drop k (take n l) ≡ take (n - k) (drop k l)
+drop-take zero n l = let z : n - 0 ≡ n = omega arith in rw z
+drop-take (suc k) zero l = let z : 0 - suc k ≡ 0 = omega arith in rw z
+drop-take (suc k) (suc n) [] = sym (take-nil (suc n - suc k))
+drop-take (suc k) (suc n) (x ∷ l) = let z : suc n - suc k ≡ n - k = omega arith in rw z (drop-take k n l)

@@ -1,10 +1,12 @@
 // A line of the catalogue written, and put into its text in place.
 ghost use mathlib.Core.Path.{_≡_};
-ghost use mathlib.Core.List.{[], _∷_};
+ghost use mathlib.Core.List.{[], _∷_, _++_};
 ghost use Prim.Native.Nat.{_+_, _-_, _≤_, _<_};
 ghost use lib.ListN.{length, take, drop};
+ghost use Rattle.text.specs.Decimal.{digitsOf};
 ghost use Rattle.text.specs.Lines.{cellsOf, lineWith};
 ghost use Rattle.text.specs.Written.{written};
+ghost use Rattle.catalogue_text.specs.Catalogue.{Entry, firstLine, entryLine};
 ghost use Rattle.catalogue_write.specs.Splice.{SpliceFits, splicedIn, Holds};
 
 // A line with its line feed, at the start of a row of bytes with zeros after it.
@@ -51,6 +53,23 @@ fn move_bytes(buffer: &mut [u8], from: usize, end: usize, to: usize)
     move_up(buffer, from, end, to);
 }
 
+// Moves the bytes between two places down, if they lie in the buffer and the new place is not after them; else nothing changes.
+pub fn shift_down(buffer: &mut [u8], from: usize, end: usize, to: usize)
+    ensures fits { λ _. ⌜ (to ≤ from → from ≤ end → end ≤ length (now (buffer .entry)) → now (buffer .exit) ≡ written (now (buffer .entry)) to (take (end - from) (drop from (now (buffer .entry))))) ⌝ }
+    ensures stays { λ _. ⌜ ((to ≤ from → from ≤ end → length (now (buffer .entry)) < end) → now (buffer .exit) ≡ now (buffer .entry)) ⌝ }
+{
+    if from < to {
+        return;
+    }
+    if end < from {
+        return;
+    }
+    if buffer.len() < end {
+        return;
+    }
+    move_down(buffer, from, end, to);
+}
+
 // Puts a line in the place of the bytes from one place to another of a text of so many bytes, if it fits; else nothing changes.
 pub fn splice(buffer: &mut [u8], size: usize, from: usize, to: usize, line: &[u8])
     ensures fits { λ _. ⌜ (SpliceFits (now (buffer .entry)) size from to (now (line .entry)) → now (buffer .exit) ≡ splicedIn (now (buffer .entry)) size from to (now (line .entry))) ⌝ }
@@ -88,15 +107,31 @@ fn put_four(out: &mut [u8], at: usize, first: u16, second: u8, third: u8, fourth
     cells::put_number(out, d, fourth as u32)
 }
 
-// The line of a name of at most 16 bytes with its revision and its shape; of a longer name the empty line, without a line feed.
-pub fn entry_line(name: &[u8], revision: u16, m: u8, w: u8, c: u8) -> Row
-    ensures line { λ r. ⌜ (length (now (name .entry)) ≤ 16 → Holds r (lineWith 4 (now (name .entry)) (revision ∷ m ∷ w ∷ c ∷ []))) ⌝ }
-    ensures none { λ r. ⌜ (16 < length (now (name .entry)) → Holds r []) ⌝ }
+// A text of at most 16 bytes, a tab and a number, and another such text.
+fn row_with(front: &[u8], number: u16, back: &[u8]) -> Row
+    requires { ⌜ (length (now front) ≤ 16) × (length (now back) ≤ 16) ⌝ }
+    ensures { λ r. ⌜ Holds r ((now (front .entry) ++ (9 ∷ digitsOf 4 number)) ++ now (back .entry)) ⌝ }
 {
     let mut bytes = [0u8; 48];
-    if 16 < name.len() {
-        return Row { bytes, length: 0 };
-    }
+    let at = cells::put_text(&mut bytes, 0, front);
+    let next = cells::put_number(&mut bytes, at, number as u32);
+    let end = cells::put_text(&mut bytes, next, back);
+    Row { bytes, length: end }
+}
+
+// The first line of version 2.
+pub fn first_line(floor: u16) -> Row
+    ensures { λ r. ⌜ Holds r (firstLine 2 floor) ⌝ }
+{
+    row_with(b"shapes\t2", floor, b"\n")
+}
+
+// The line of a name of at most 16 bytes with its revision and its shape.
+fn shaped_line(name: &[u8], revision: u16, m: u8, w: u8, c: u8) -> Row
+    requires { ⌜ length (now name) ≤ 16 ⌝ }
+    ensures { λ r. ⌜ Holds r (lineWith 4 (now (name .entry)) (revision ∷ m ∷ w ∷ c ∷ [])) ⌝ }
+{
+    let mut bytes = [0u8; 48];
     let at = cells::put_text(&mut bytes, 0, name);
     let end = put_four(&mut bytes, at, revision, m, w, c);
     bytes[end] = b'\n';
@@ -104,4 +139,22 @@ pub fn entry_line(name: &[u8], revision: u16, m: u8, w: u8, c: u8) -> Row
         bytes,
         length: end + 1,
     }
+}
+
+// The line of a name of at most 16 bytes with its revision and its shape, or the word gone if m is 0; of a longer name the empty line, without a
+// line feed.
+pub fn entry_line(name: &[u8], revision: u16, m: u8, w: u8, c: u8) -> Row
+    ensures line { λ r. ⌜ (length (now (name .entry)) ≤ 16 → Holds r (entryLine (record { name = now (name .entry); revision = revision; m = m; w = w; c = c }))) ⌝ }
+    ensures none { λ r. ⌜ (16 < length (now (name .entry)) → Holds r []) ⌝ }
+{
+    if 16 < name.len() {
+        return Row {
+            bytes: [0u8; 48],
+            length: 0,
+        };
+    }
+    if m == 0 {
+        return row_with(name, revision, b"\tgone\n");
+    }
+    shaped_line(name, revision, m, w, c)
 }

@@ -1,8 +1,10 @@
--- What Lookup and Put give to C: the number, 0 for done, and the figures; 0 on a refusal.
+-- What Lookup, Put, Remove and Compact give to C: the number, 0 for done, and the figures; 0 on a refusal.
 use Rattle.catalogue.specs.declared.Looked.{Looked}
 use Rattle.catalogue.specs.declared.Changed.{Changed}
+use Rattle.catalogue_compact.specs.declared.Compacted.{Compacted}
 use Rattle.exports_catalogue.specs.declared.LookupAnswer.{LookupAnswer}
 use Rattle.exports_catalogue.specs.declared.ChangeAnswer.{ChangeAnswer}
+use Rattle.exports_catalogue.specs.declared.CompactAnswer.{CompactAnswer}
 
 -- revision and shape
 abbrev pub lookupAnswer : Looked → LookupAnswer
@@ -13,3 +15,8 @@ lookupAnswer (Looked.Refused r) = record { number = r; m = 0; w = 0; c = 0; revi
 abbrev pub changeAnswer : Changed → ChangeAnswer
 changeAnswer (Changed.Done size revision) = record { number = 0; revision = revision; size = size }
 changeAnswer (Changed.Refused r) = record { number = r; revision = 0; size = 0 }
+
+-- the text's length
+abbrev pub compactAnswer : Compacted → CompactAnswer
+compactAnswer (Compacted.Done size) = record { number = 0; size = size }
+compactAnswer (Compacted.Refused r) = record { number = r; size = 0 }

@@ -1,9 +1,11 @@
-// Lookup and Put of named shapes as C calls them.
+// Lookup, Put, Remove and Compact of named shapes as C calls them.
 use catalogue::Changed;
 use catalogue::Looked;
+use catalogue_compact::Compacted;
 ghost use mathlib.Core.Path.{_≡_};
-ghost use Rattle.catalogue.specs.LookupAndPut.{lookedOf, putOf, putBuffer};
-ghost use Rattle.exports_catalogue.specs.Answers.{lookupAnswer, changeAnswer};
+ghost use Rattle.catalogue.specs.Calls.{lookedOf, putOf, putBuffer, removeOf, removeBuffer};
+ghost use Rattle.catalogue_compact.specs.Compaction.{compactOf, compactBuffer};
+ghost use Rattle.exports_catalogue.specs.Answers.{lookupAnswer, changeAnswer, compactAnswer};
 
 // What Lookup gives to C: the number, 0 for done, and the shape and the revision; 0 on a refusal.
 #[repr(C)]
@@ -15,11 +17,18 @@ pub struct LookupAnswer {
     pub revision: u16,
 }
 
-// What Put gives to C: the number, 0 for done, the revision and the new text's length; 0 on a refusal.
+// What Put and Remove give to C: the number, 0 for done, the revision and the new text's length; 0 on a refusal.
 #[repr(C)]
 pub struct ChangeAnswer {
     pub number: u8,
     pub revision: u16,
+    pub size: usize,
+}
+
+// What Compact gives to C: the number, 0 for done, and the text's length; 0 on a refusal.
+#[repr(C)]
+pub struct CompactAnswer {
+    pub number: u8,
     pub size: usize,
 }
 
@@ -45,7 +54,7 @@ fn lookup_answer(looked: Looked) -> LookupAnswer
     }
 }
 
-// The number and the figures of what Put answers.
+// The number and the figures of what Put and Remove answer.
 fn change_answer(changed: Changed) -> ChangeAnswer
     ensures { λ r. ⌜ r ≡ changeAnswer changed ⌝ }
 {
@@ -60,6 +69,16 @@ fn change_answer(changed: Changed) -> ChangeAnswer
             revision: 0,
             size: 0,
         },
+    }
+}
+
+// The number and the length of what Compact answers.
+fn compact_answer(compacted: Compacted) -> CompactAnswer
+    ensures { λ r. ⌜ r ≡ compactAnswer compacted ⌝ }
+{
+    match compacted {
+        Compacted::Done(size) => CompactAnswer { number: 0, size },
+        Compacted::Refused(r) => CompactAnswer { number: r, size: 0 },
     }
 }
 
@@ -84,4 +103,25 @@ pub extern "C" fn axlebloom_put(
     ensures text { λ _. ⌜ now (text .exit) ≡ putBuffer m w c (now (name .entry)) expected (now (text .entry)) size ⌝ }
 {
     change_answer(catalogue::put(m, w, c, name, expected, text, size))
+}
+
+#[no_mangle]
+pub extern "C" fn axlebloom_remove(
+    name: &[u8],
+    expected: usize,
+    text: &mut [u8],
+    size: usize,
+) -> ChangeAnswer
+    ensures answer { λ r. ⌜ r ≡ changeAnswer (removeOf (now (name .entry)) expected (now (text .entry)) size) ⌝ }
+    ensures text { λ _. ⌜ now (text .exit) ≡ removeBuffer (now (name .entry)) expected (now (text .entry)) size ⌝ }
+{
+    change_answer(catalogue::remove(name, expected, text, size))
+}
+
+#[no_mangle]
+pub extern "C" fn axlebloom_compact(text: &mut [u8], size: usize) -> CompactAnswer
+    ensures answer { λ r. ⌜ r ≡ compactAnswer (compactOf (now (text .entry)) size) ⌝ }
+    ensures text { λ _. ⌜ now (text .exit) ≡ compactBuffer (now (text .entry)) size ⌝ }
+{
+    compact_answer(catalogue_compact::compact(text, size))
 }

@@ -1,163 +1,114 @@
-use Rattle.catalogue_scan.proofs.Steps.{step-open, step-wrong, step-size, step-right, step-less}
-use Rattle.catalogue_scan.specs.ScanLaws.{Scanning, scan-start, scan-headless, scan-done}
-use Rattle.catalogue_text.specs.Catalogue.{firstLine}
-use Rattle.text.specs.FieldLaws.{same-eq}
+use Rattle.catalogue_scan.specs.Places.{readHead}
+use Rattle.catalogue_scan.specs.ScanLaws.{scan-endless, scan-headless, head-size, lines-bad, scan-gone, scan-found}
 use lib.ListN.{length, take}
-use mathlib.Core.Bool.{true}
-use borrow.Author.Tests.{not-true, not-false}
-use mathlib.Core.Path.{_≡_, sym, ap, _∙_, subst}
-use Rattle.catalogue_scan.specs.ScanLaws.{Scanning}
-use lib.ListN.{length}
-use borrow.Author.Needs.{needs}
+use lib.Seq.{length-take-le}
+use Prim.Native.Nat.{_≤_, _<_}
 use native.Mathlib.Omega.{arith}
-use Prim.Native.Nat.{_-_}
+use mathlib.Core.Path.{_≡_, sym, ap, _∙_, subst}
+use borrow.Author.Needs.{needs}
 use Rattle.catalogue_scan.proofs.scan.Statement.{statement}
 use Rattle.catalogue_scan.proofs.scan.Tie as tie
 
-abbrev Inv-loop : tie.InvT-loop
-Inv-loop text name place₀ from₀ to₀ at₀ place from to at = Scanning text name at from to place
-
-abbrev μ-loop : tie.MeasureT-loop
-μ-loop text name place₀ from₀ to₀ at₀ place from to at = length text - at
-
-is-headed-requires : tie.Need-is-headed-requires Inv-loop μ-loop
-is-headed-requires c κs = search needs
-
-returns : tie.Need-returns Inv-loop μ-loop
-returns c =
-    let a = c .before .before .before .before .args in
-    let r = c .before .is-headed in
-    sym (scan-headless (a .text .now) (a .name .now) (sym (r .ensures .0) ∙ not-true (r .result) (c .if1 .taken)))
-
-place-at-requires : tie.Need-place-at-requires Inv-loop μ-loop
-place-at-requires c κs = search needs
-
-loop-holds : tie.Need-loop-holds Inv-loop μ-loop
-loop-holds c =
-    let a = c .before .before .before .before .before .args in
-    let r = c .before .before .is-headed in
-    let t = not-false (r .result) (c .before .if1 .left) in
-    let h : take 9 (a .text .now) ≡ firstLine = same-eq (take 9 (a .text .now)) firstLine (sym (r .ensures .0) ∙ t) in
-    subst (λ p. Scanning (a .text .now) (a .name .now) 9 0 0 p) (sym (c .place-at .ensures)) (scan-start (a .text .now) (a .name .now) h (r .ensures .1 t))
-
-part-end-requires : tie.Need-part-end-requires Inv-loop μ-loop
+part-end-requires : tie.Need-part-end-requires
 part-end-requires c κs = search needs
 
-returns-2 : tie.Need-returns-2 Inv-loop μ-loop
-returns-2 c =
-    let l = c .before .before .before .loop in
-    let a = c .before .before .before .before .before .before .before .before .before .args in
+returns : tie.Need-returns
+returns c =
+    let a = c .before .before .before .before .args in
+    let text = a .text .now in
     let p = c .before .part-end in
-    step-open (a .text .now) (a .name .now) (l .at) (l .from) (l .to) (l .place) (l .inv) (p .result) (p .ensures .0) (omega arith) (omega arith)
+    sym (scan-endless text (a .name .now) (subst (λ x. length text ≤ x) (p .ensures .0) (c .if1 .taken)))
 
-sub-right-line : tie.Need-sub-right-line Inv-loop μ-loop
-sub-right-line c = let i = c .before .before .before .loop .inv in i .order
+slice-aggregate-read-head : tie.Need-slice-aggregate-read-head
+slice-aggregate-read-head c =
+    sym (length-take-le (c .before .before .part-end .result) (c .before .before .before .before .before .args .text .now) (omega arith))
 
-part-right-line-start : tie.Need-part-right-line-start Inv-loop μ-loop
-part-right-line-start c = let i = c .before .before .before .loop .inv in i .order
+read-head-requires : tie.Need-read-head-requires
+read-head-requires c κs = search needs
 
-part-right-line-end : tie.Need-part-right-line-end Inv-loop μ-loop
-part-right-line-end c = let i = c .before .before .before .loop .inv in i .named
+returns-2 : tie.Need-returns-2
+returns-2 c =
+    let a = c .before .before .before .before .before .before .before .before .args in
+    let text = a .text .now in
+    let p = c .before .before .before .before .before .part-end in
+    let h = c .before .before .read-head in
+    sym (scan-headless text (a .name .now) (h .result) (h .ensures ∙ ap (λ x. readHead (take x text)) (p .ensures .0)) (c .if2 .taken))
 
-sub-right-line-2 : tie.Need-sub-right-line-2 Inv-loop μ-loop
-sub-right-line-2 c = omega arith
+scan-lines-requires : tie.Need-scan-lines-requires
+scan-lines-requires c κs =
+    let a = c .before .before .before .before .before .before .before .before .args in
+    let text = a .text .now in
+    let p = c .before .before .before .before .before .part-end in
+    let h = c .before .before .read-head in
+    let e = h .ensures ∙ ap (λ x. readHead (take x text)) (p .ensures .0) in
+    let l = subst (λ x. x < length text) (p .ensures .0) (c .before .before .before .before .if1 .left) in
+    head-size text (a .name .now) l (h .result) e (c .if2 .left)
 
-part-right-line-start-2 : tie.Need-part-right-line-start-2 Inv-loop μ-loop
-part-right-line-start-2 c = omega arith
+enum-told : tie.Need-enum-told
+enum-told c = search needs
 
-part-right-line-end-2 : tie.Need-part-right-line-end-2 Inv-loop μ-loop
-part-right-line-end-2 c = omega arith
+enum-known-found : tie.Need-enum-known-found
+enum-known-found c = search needs
 
-right-line-requires : tie.Need-right-line-requires Inv-loop μ-loop
-right-line-requires c κs = search needs
-
-returns-3 : tie.Need-returns-3 Inv-loop μ-loop
+returns-3 : tie.Need-returns-3
 returns-3 c =
-    let l = c .before .before .before .before .before .before .before .before .loop in
-    let a = c .before .before .before .before .before .before .before .before .before .before .before .before .before .before .args in
-    let p = c .before .before .before .before .before .before .part-end in
-    let r = c .before .before .right-line in
-    step-wrong (a .text .now) (a .name .now) (l .at) (l .from) (l .to) (l .place) (l .inv) (p .result) (p .ensures .0) (omega arith) (r .result)
-    (r .ensures) (c .if3 .taken)
+    let a = c .before .before .before .before .before .before .before .before .before .before .before .before .before .before .before .before .args in
+    let text = a .text .now in
+    let p = c .before .before .before .before .before .before .before .before .before .before .before .before .before .part-end in
+    let h = c .before .before .before .before .before .before .before .before .before .before .read-head in
+    let e = h .ensures ∙ ap (λ x. readHead (take x text)) (p .ensures .0) in
+    let l = subst (λ x. x < length text) (p .ensures .0) (c .before .before .before .before .before .before .before .before .before .before
+    .before .before .if1 .left) in
+    sym (scan-gone text (a .name .now) l (h .result) e (c .before .before .before .before .before .before .before .before .if2 .left)
+    (c .before .before .before .before .before .found .given .0 .0) (cc)
+    (c .before .before .if3 .taken) (c .if4 .taken))
 
-add-to : tie.Need-add-to Inv-loop μ-loop
-add-to c =
-    let l = c .before .before .before .before .before .before .before .before .before .loop in
-    let a = c .before .before .before .before .before .before .before .before .before .before .before .before .before .before .before .args in
-    let p = c .before .before .before .before .before .before .before .part-end in
-    let r = c .before .before .before .right-line in
-    let s = step-size (a .text .now) (a .name .now) (l .at) (l .from) (l .to) (l .place) (l .inv) (p .result) (p .ensures .0) (omega arith) (r .result)
-    (r .ensures) (c .before .if3 .left) in
-    omega arith
-
-add-at : tie.Need-add-at Inv-loop μ-loop
-add-at c = omega arith
-
-sub-place-next : tie.Need-sub-place-next Inv-loop μ-loop
-sub-place-next c = omega arith
-
-part-place-next-start : tie.Need-part-place-next-start Inv-loop μ-loop
-part-place-next-start c = omega arith
-
-part-place-next-end : tie.Need-part-place-next-end Inv-loop μ-loop
-part-place-next-end c =
-    let l = c .before .before .before .before .before .before .before .before .before .loop in
-    let a = c .before .before .before .before .before .before .before .before .before .before .before .before .before .before .before .args in
-    let p = c .before .before .before .before .before .before .before .part-end in
-    let r = c .before .before .before .right-line in
-    let s = step-size (a .text .now) (a .name .now) (l .at) (l .from) (l .to) (l .place) (l .inv) (p .result) (p .ensures .0) (omega arith) (r .result)
-    (r .ensures) (c .before .if3 .left) in
-    omega arith
-
-place-next-requires : tie.Need-place-next-requires Inv-loop μ-loop
-place-next-requires c κs = search needs
-
-loop-less : tie.Need-loop-less Inv-loop μ-loop
-loop-less c =
-    let p = c .before .before .before .before .before .before .before .before .before .part-end in
-    step-less (length (c .before .before .before .before .before .before .before .before .before .before .before .before .before .before .before .before .before .args .text .now)) (c .before .before .before .before .before .before .before .before .before .before .before .loop .at) (p .result) (c .before .before .before .before .before .before .before .before .before .before .loop-test .taken) (p .ensures .1 .0)
-
-loop-again : tie.Need-loop-again Inv-loop μ-loop
-loop-again c =
-    let l = c .before .before .before .before .before .before .before .before .before .before .before .loop in
-    let a = c .before .before .before .before .before .before .before .before .before .before .before .before .before .before .before .before .before .args in
-    let p = c .before .before .before .before .before .before .before .before .before .part-end in
-    let r = c .before .before .before .before .before .right-line in
-    step-right (a .text .now) (a .name .now) (l .at) (l .from) (l .to) (l .place) (l .inv) (p .result) (p .ensures .0) (omega arith) (r .result)
-    (r .ensures) (c .before .before .before .if3 .left) (c .place-next .result) (c .place-next .ensures)
-
-returns-4 : tie.Need-returns-4 Inv-loop μ-loop
+returns-4 : tie.Need-returns-4
 returns-4 c =
-    let l = c .before .loop in
-    let a = c .before .before .before .before .before .before .before .args in
-    sym (scan-done (a .text .now) (a .name .now) (l .at) (l .from) (l .to) (l .place) (l .inv) (omega arith))
+    let a = c .before .before .before .before .before .before .before .before .before .before .before .args in
+    let text = a .text .now in
+    let p = c .before .before .before .before .before .before .before .before .part-end in
+    let h = c .before .before .before .before .before .read-head in
+    let e = h .ensures ∙ ap (λ x. readHead (take x text)) (p .ensures .0) in
+    let l = subst (λ x. x < length text) (p .ensures .0) (c .before .before .before .before .before .before .before .if1 .left) in
+    sym (lines-bad text (a .name .now) l (h .result) e (c .before .before .before .if2 .left) (cc))
+
+returns-5 : tie.Need-returns-5
+returns-5 c =
+    let a = c .before .before .before .before .before .before .before .before .before .before .before .before .before .before .before .before .args in
+    let text = a .text .now in
+    let p = c .before .before .before .before .before .before .before .before .before .before .before .before .before .part-end in
+    let h = c .before .before .before .before .before .before .before .before .before .before .read-head in
+    let e = h .ensures ∙ ap (λ x. readHead (take x text)) (p .ensures .0) in
+    let l = subst (λ x. x < length text) (p .ensures .0) (c .before .before .before .before .before .before .before .before .before .before
+    .before .before .if1 .left) in
+    scan-found text (a .name .now) l (h .result) e (c .before .before .before .before .before .before .before .before .if2 .left)
+    (c .before .before .before .before .before .found .given .0 .0) (cc) (λ v. c .if4 .left)
+
+returns-6 : tie.Need-returns-6
+returns-6 c =
+    let a = c .before .before .before .before .before .before .before .before .before .before .before .before .before .before .args in
+    let text = a .text .now in
+    let p = c .before .before .before .before .before .before .before .before .before .before .before .part-end in
+    let h = c .before .before .before .before .before .before .before .before .read-head in
+    let e = h .ensures ∙ ap (λ x. readHead (take x text)) (p .ensures .0) in
+    let l = subst (λ x. x < length text) (p .ensures .0) (c .before .before .before .before .before .before .before .before .before .before .if1 .left) in
+    scan-found text (a .name .now) l (h .result) e (c .before .before .before .before .before .before .if2 .left)
+    (c .before .before .before .found .given .0 .0) (cc) (λ v. absurd (c .if3 .left v))
 
 pub scan-spec : {M : Type 1} → statement M
 scan-spec =
     tie.close
     (tie.spec
-    Inv-loop
-    μ-loop
-    is-headed-requires
-    returns
-    place-at-requires
-    loop-holds
     part-end-requires
+    returns
+    slice-aggregate-read-head
+    read-head-requires
     returns-2
-    sub-right-line
-    part-right-line-start
-    part-right-line-end
-    sub-right-line-2
-    part-right-line-start-2
-    part-right-line-end-2
-    right-line-requires
+    scan-lines-requires
+    enum-told
+    enum-known-found
     returns-3
-    add-to
-    add-at
-    sub-place-next
-    part-place-next-start
-    part-place-next-end
-    place-next-requires
-    loop-less
-    loop-again
-    returns-4)
+    returns-4
+    returns-5
+    returns-6)

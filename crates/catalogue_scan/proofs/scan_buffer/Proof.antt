@@ -1,10 +1,10 @@
-use Rattle.catalogue.specs.Laws.{scanned-short, scanned-long, scanned-text}
+use Rattle.catalogue_scan.specs.BufferLaws.{scanned-short, scanned-long, scanned-text}
 use lib.Seq.{length-take-le}
 use native.Mathlib.Omega.{arith}
 use mathlib.Core.Path.{_≡_, refl, sym, ap, _∙_}
 use borrow.Author.Needs.{needs}
-use Rattle.catalogue.proofs.scanned.Statement.{statement}
-use Rattle.catalogue.proofs.scanned.Tie as tie
+use Rattle.catalogue_scan.proofs.scan_buffer.Statement.{statement}
+use Rattle.catalogue_scan.proofs.scan_buffer.Tie as tie
 
 returns : tie.Need-returns
 returns c = let a = c .before .before .before .args in sym (scanned-short (a .buffer .now) (a .size) (a .name .now) (omega arith))
@@ -23,5 +23,5 @@ returns-3 c =
     let a = c .before .before .before .before .before .before .args in c .scan .ensures ∙ scanned-text (a .buffer .now) (a .size) (a .name .now)
     (omega arith) (omega arith)
 
-pub scanned-spec : {M : Type 1} → statement M
-scanned-spec = tie.close (tie.spec returns returns-2 slice-aggregate-scan scan-requires returns-3)
+pub scan-buffer-spec : {M : Type 1} → statement M
+scan-buffer-spec = tie.close (tie.spec returns returns-2 slice-aggregate-scan scan-requires returns-3)

@@ -1,0 +1,41 @@
+-- Compaction: "drops all gone lines and gives their room back".
+use mathlib.Core.Bool.{not}
+use mathlib.Core.List.{List, [], _∷_}
+use Prim.Native.Nat.{ℕ, zero, suc}
+use lib.ListN.{length}
+use Rattle.shape.specs.Refusals.{refuse, unlessRefused}
+use Rattle.catalogue_text.specs.Catalogue.{textOf}
+use Rattle.catalogue_text.specs.Changes.{compacted}
+use Rattle.catalogue_text.specs.Buffers.{formed, catalogueIn, withText}
+use Rattle.catalogue_compact.specs.declared.Compacted.{Compacted}
+
+-- "Compaction is refused by 16 alone"
+unfoldable pub compactRefusal : List ℕ → ℕ → ℕ
+compactRefusal buffer size = refuse 16 (not (formed buffer size))
+
+-- the text without gone lines; "with no gone line it changes nothing"
+unfoldable pub compactedText : List ℕ → ℕ → List ℕ
+compactedText buffer size = textOf (compacted (catalogueIn buffer size))
+
+-- "It answers the text's length"
+abbrev pub compactedAs : ℕ → ℕ → Compacted
+compactedAs zero size = Compacted.Done size
+compactedAs (suc r) size = Compacted.Refused (suc r)
+
+-- of any call
+unfoldable pub compactOf : List ℕ → ℕ → Compacted
+compactOf buffer size = compactedAs (compactRefusal buffer size) (length (compactedText buffer size))
+
+-- the buffer afterwards: the new text, and "bytes past a new text stay"; on a refusal all bytes stay
+unfoldable pub compactBuffer : List ℕ → ℕ → List ℕ
+compactBuffer buffer size = unlessRefused (compactRefusal buffer size) (withText (compactedText buffer size) buffer) buffer
+
+-- the number given back, 0 for done
+abbrev pub compactedNumber : Compacted → ℕ
+compactedNumber (Compacted.Done size) = 0
+compactedNumber (Compacted.Refused r) = r
+
+-- and the text's length, none on a refusal
+abbrev pub compactedFigures : Compacted → List ℕ
+compactedFigures (Compacted.Done size) = size ∷ []
+compactedFigures (Compacted.Refused r) = []

@@ -1,0 +1,88 @@
+-- "So in a text changed by our calls alone a name with a revision never stands for two shapes, compaction between or not."
+use mathlib.Core.Path.{_≡_}
+use mathlib.Core.Bool.{true}
+use mathlib.Core.List.{List, [], _∷_}
+use Prim.Native.Nat.{ℕ, _≤_}
+use Rattle.catalogue_text.specs.Catalogue.{Entry, Catalogue}
+use Rattle.catalogue_text.specs.Buffers.{formed, catalogueIn}
+use Rattle.catalogue.specs.declared.Looked.{Looked}
+use Rattle.catalogue.specs.declared.Changed.{Changed}
+use Rattle.catalogue.specs.Calls.{lookedOf, putOf, putBuffer, removeOf, removeBuffer}
+use Rattle.catalogue_compact.specs.declared.Compacted.{Compacted}
+use Rattle.catalogue_compact.specs.Compaction.{compactOf, compactBuffer}
+
+-- a buffer and the length of its text
+pub record Lent : Type 0 where
+  pub buffer : List ℕ
+  pub size : ℕ
+
+-- a call, with any arguments: it may be refused
+pub data Call : Type 0 where
+  put : (m w c : ℕ) (name : List ℕ) (expected : ℕ) → Call
+  remove : (name : List ℕ) (expected : ℕ) → Call
+  compact : Call
+  lookup : (name : List ℕ) → Call
+
+-- the length to be given to the next call: the one answered, or after a refusal the one before
+abbrev pub sizeAfter : Changed → ℕ → ℕ
+sizeAfter (Changed.Done size revision) before = size
+sizeAfter (Changed.Refused r) before = before
+
+-- the same of a compaction
+abbrev pub sizeCompacted : Compacted → ℕ → ℕ
+sizeCompacted (Compacted.Done size) before = size
+sizeCompacted (Compacted.Refused r) before = before
+
+-- what a call leaves, as the contracts say it
+abbrev pub afterCall : Call → Lent → Lent
+afterCall (put m w c name expected) lent = record {
+  buffer = putBuffer m w c name expected (lent .buffer) (lent .size);
+  size = sizeAfter (putOf m w c name expected (lent .buffer) (lent .size)) (lent .size);
+}
+afterCall (remove name expected) lent = record {
+  buffer = removeBuffer name expected (lent .buffer) (lent .size);
+  size = sizeAfter (removeOf name expected (lent .buffer) (lent .size)) (lent .size);
+}
+afterCall compact lent = record {
+  buffer = compactBuffer (lent .buffer) (lent .size);
+  size = sizeCompacted (compactOf (lent .buffer) (lent .size)) (lent .size);
+}
+afterCall (lookup name) lent = lent
+
+-- any list of calls; each works on what the call before it left
+abbrev pub afterCalls : List Call → Lent → Lent
+afterCalls [] lent = lent
+afterCalls (call ∷ calls) lent = afterCalls calls (afterCall call lent)
+
+-- the catalogue that the text is read as
+abbrev pub readIn : Lent → Catalogue
+readIn lent = catalogueIn (lent .buffer) (lent .size)
+
+-- an entry is one of a list: the text has its line
+pub data LineOf (e : Entry) : List Entry → Type 0 where
+  here : {list : List Entry} → LineOf e (e ∷ list)
+  there : {f : Entry} {list : List Entry} → LineOf e list → LineOf e (f ∷ list)
+
+-- a line of the text that is lent
+abbrev pub LineIn : Entry → Lent → Type 0
+LineIn e lent = LineOf e ((readIn lent) .list)
+
+-- What holds of the texts at two times: `early`, and `late` after more calls.
+pub record Between (early late : Lent) : Type 0 where
+  -- the text is of the form
+  pub whole : formed (late .buffer) (late .size) ≡ true
+  -- "a name with a revision never stands for two shapes": two lines with the same name and revision carry the same shape
+  pub one-shape : (e f : Entry) → LineIn e early → LineIn f late → e .name ≡ f .name → e .revision ≡ f .revision → e ≡ f
+  -- so do two lookups
+  pub one-lookup : (name : List ℕ) (r m w c k l n : ℕ) → lookedOf (early .buffer) (early .size) name ≡ Looked.Found r m w c
+      → lookedOf (late .buffer) (late .size) name ≡ Looked.Found r k l n → (m ≡ k) × (w ≡ l) × (c ≡ n)
+  -- a name's revisions only rise
+  pub rises : (e f : Entry) → LineIn e early → LineIn f late → e .name ≡ f .name → e .revision ≤ f .revision
+  -- the revision of a line that was dropped is at most the floor
+  pub dropped : (e : Entry) → LineIn e early → ((f : Entry) → LineIn f late → e .name ≡ f .name → ⊥) → e .revision ≤ (readIn late) .floor
+  -- the floor never falls
+  pub floor : (readIn early) .floor ≤ (readIn late) .floor
+
+-- from any text of the form, at any two times of any list of calls
+abbrev pub NeverTwo : Lent → Type 0
+NeverTwo lent = (before between : List Call) → Between (afterCalls before lent) (afterCalls between (afterCalls before lent))
