@@ -10,17 +10,18 @@ use lib.Dec.{eqb, lit≤}
 use lib.ListN.{length, getD, take, drop, set, replicate, length-set, length-replicate, getD-replicate}
 use lib.Seq.{getD-set-same, getD-set-other, getD-take, take-at, length-take-le, ext-getD}
 use Rattle.binary_field.specs.Xor.{_⊕_}
-use Rattle.binary_field.specs.XorLaws.{⊕-zero-r}
+use Rattle.binary_field.specs.XorLaws.{⊕-zero-l, ⊕-zero-r}
 use Rattle.binary_field.specs.Product.{product}
 use Rattle.binary_field.specs.ProductLaws.{product-zero}
-use Rattle.binary_field.specs.SumLaws.{sum-ext}
+use Rattle.binary_field.specs.SumLaws.{sum-ext, sum-none, sum-suc}
 use Rattle.code.specs.Edition.{Edition, Sound, times}
 use Rattle.byte_edition.specs.Edition.{byteEdition}
-use Rattle.code.specs.Word.{groupSum, localSum, coefficient, secondCoefficient}
+use Rattle.code.specs.Word.{groupSum, localSum, wordSum, coefficient, secondCoefficient}
 use Rattle.code.specs.Marks.{lost, lostIn}
 use Rattle.code.specs.Stretch.{stretch, withStretch}
 use Rattle.code.specs.StretchLaws.{stretch-at, stretch-length, with-length, with-inside, with-before, with-after, stretch-count, place-cases, own-place}
 use Rattle.code.specs.Combined.{combined}
+use Rattle.code.specs.CombinedLaws.{combined-word}
 use Rattle.code.specs.Lone.{lone}
 use Rattle.code.specs.LoneLaws.{lone-inside, lone-before, lone-after, lone-word}
 use Rattle.shape.specs.Shapes.{Limits, GoodIn}
@@ -35,7 +36,7 @@ use Rattle.syndrome.specs.declared.Sums.{Sums}
 use Rattle.candidate.specs.Steps.{GroupsFilledIn, DirectionIn, AddedIn}
 use Rattle.candidate.specs.Solved.{twoRow, twoRows, pairAt, SolvedIn, Solved}
 use Rattle.candidate.specs.SolvedLaws.{combined-length, combined-one}
-use Rattle.candidate.specs.Mended.{BoundFew}
+use Rattle.candidate.specs.Mended.{BoundFew, movedBy}
 
 -- ---- writes
 -- past a write at i the elements are as they were
@@ -260,6 +261,21 @@ weights-of m w c g part l long =
     ap₂ (λ a b. record { first = a; second = b })
     (ap (λ n. groupSum byteEdition n part 0 (coefficient byteEdition c)) long ∙ sym (lone-word m w g part l long byteEdition _))
     (ap (λ n. groupSum byteEdition n part 0 (secondCoefficient byteEdition c g)) long ∙ sym (lone-word m w g part l long byteEdition _))
+
+-- the sums across after a multiple of another word was added
+pub across-moved : (m w c u : ℕ) (before h : List ℕ) → movedBy u (acrossOf m w c h) (acrossOf m w c before)
+    ≡ acrossOf m w c (combined byteEdition (m * w) before 1 (λ _. u) (λ _. h))
+across-moved m w c u before h = sym (ap₂ (λ a b. record { first = a; second = b }) (turn _) (turn _))
+  where
+    turn : (f : ℕ → ℕ → ℕ) → wordSum byteEdition m w (combined byteEdition (m * w) before 1 (λ _. u) (λ _. h)) f
+        ≡ wordSum byteEdition m w before f ⊕ times byteEdition u (wordSum byteEdition m w h f)
+    turn f = combined-word byteEdition m w 1 before (λ _. u) (λ _. h) f
+        ∙ ap (λ s. wordSum byteEdition m w before f ⊕ s) (sum-suc 0 _ ∙ ap (λ s. s ⊕ times byteEdition u (wordSum byteEdition m w h f)) (sum-none _)
+        ∙ ⊕-zero-l _)
+
+pub moved-to : (m w c u : ℕ) (before after h : List ℕ) {a s r : Sums} → r ≡ movedBy u a s → a ≡ acrossOf m w c h → s ≡ acrossOf m w c before
+    → after ≡ combined byteEdition (m * w) before 1 (λ _. u) (λ _. h) → r ≡ acrossOf m w c after
+moved-to m w c u before after h e f g i = e ∙ ap₂ (movedBy u) f g ∙ across-moved m w c u before h ∙ ap (acrossOf m w c) (sym i)
 
 -- the unknowns for these sums
 pub solved-sums : {A B S a b s : Sums} {u v : ℕ} → A ≡ a → B ≡ b → S ≡ s → Solved (A .first) (B .first) (A .second) (B .second) (S .first) (S .second) u v

@@ -5,7 +5,8 @@ use mathlib.Core.List.{List}
 use Prim.Native.Nat.{ℕ, _*_, _/_, _%_, _≤_, _<_}
 use lib.Dec.{T}
 use lib.ListN.{length, getD}
-use Rattle.code.specs.Edition.{Edition}
+use Rattle.binary_field.specs.Xor.{_⊕_}
+use Rattle.code.specs.Edition.{Edition, times}
 use Rattle.byte_edition.specs.Edition.{byteEdition}
 use Rattle.code.specs.Word.{isLocal, firstAcross, secondAcross}
 use Rattle.code.specs.Marks.{lost, lostIn, excess}
@@ -14,6 +15,7 @@ use Rattle.code.specs.Repair.{Satisfies}
 use Rattle.code.specs.Stretch.{stretch}
 use Rattle.code.specs.Combined.{combined}
 use Rattle.code.specs.Lone.{lone}
+use Rattle.syndrome.specs.declared.Sums.{Sums}
 use Rattle.erasures.specs.Places.{FreePlaces}
 use Rattle.candidate.specs.Steps.{DirectionIn}
 use Rattle.candidate.specs.Solved.{SolvedIn, SolvedOneIn}
@@ -23,6 +25,10 @@ pub record BoundFew (m w c p : ℕ) (bound : List ℕ) : Type 0 where
   pub size : length bound ≡ m * w
   pub few : (g : ℕ) → g < m → lostIn w bound g ≤ c
   pub own : lost bound p ≡ false
+
+-- the two sums across after u times a word with the sums a is added to one with the sums s
+abbrev pub movedBy : ℕ → Sums → Sums → Sums
+movedBy u a s = record { first = s .first ⊕ times byteEdition u (a .first); second = s .second ⊕ times byteEdition u (a .second) }
 
 -- one free place p: u times its direction h is added, and u is solved for
 pub record MendedOneIn (E : Edition) (m w c p : ℕ) (bound before after : List ℕ) : Type 0 where

@@ -1,4 +1,5 @@
 // The candidate for a word with lost places: where the excess is at most two, what any codeword that agrees with the present bytes must be.
+use syndrome::Sums;
 ghost use mathlib.Core.Path.{_≡_};
 ghost use mathlib.Core.Bool.{false};
 ghost use Prim.Native.Nat.{ℕ, _*_, _/_, _%_, _≤_, _<_};
@@ -9,11 +10,11 @@ ghost use Rattle.byte_edition.specs.Edition.{byteEdition};
 ghost use Rattle.code.specs.Combined.{combined};
 ghost use Rattle.code.specs.Lone.{lone};
 ghost use Rattle.code.specs.Stretch.{stretch};
-ghost use Rattle.syndrome.specs.Across.{acrossOf};
+ghost use Rattle.syndrome.specs.Across.{acrossOf, noSums};
 ghost use Rattle.erasures.specs.Whole.{BoundAll};
 ghost use Rattle.candidate.specs.Steps.{Blanked, GroupsFilled, Direction, Added};
 ghost use Rattle.candidate.specs.Solved.{Solved, SolvedOne};
-ghost use Rattle.candidate.specs.Mended.{BoundFew, MendedOne, MendedTwo, Mended, IsCandidate};
+ghost use Rattle.candidate.specs.Mended.{BoundFew, movedBy, MendedOne, MendedTwo, Mended, IsCandidate};
 
 // Writes word into base, with 0 in the lost places.
 fn blank_lost(word: &[u8], marks: &[u8], base: &mut [u8])
@@ -137,7 +138,7 @@ fn way(m: usize, w: usize, c: usize, p: usize, bound: &[u8]) -> [u8; 16]
 }
 
 // The coefficients of the direction h of group g in the two sums across.
-fn weights(m: usize, w: usize, c: usize, g: usize, h: [u8; 16]) -> syndrome::Sums
+fn weights(m: usize, w: usize, c: usize, g: usize, h: [u8; 16]) -> Sums
     requires { ⌜ Good m w c ⌝ }
     requires { ⌜ g < m ⌝ }
     ensures { λ r. ⌜ r ≡ acrossOf m w c (lone m w g (take w h)) ⌝ }
@@ -145,30 +146,53 @@ fn weights(m: usize, w: usize, c: usize, g: usize, h: [u8; 16]) -> syndrome::Sum
     syndrome::group_sums(&h[..w], c, g)
 }
 
-// Sets the one free place p, and with it the bound places of its group, so that the sums across are zero if they can be.
-fn mend_one(m: usize, w: usize, c: usize, p: usize, bound: &[u8], word: &mut [u8])
+// The two sums across of a word, after u times a direction with the coefficients a was added to it.
+fn moved(s: Sums, u: u8, a: Sums) -> Sums
+    ensures { λ r. ⌜ r ≡ movedBy u a s ⌝ }
+{
+    let first = s.first ^ gf256::shifted_product(u, a.first);
+    let second = s.second ^ gf256::shifted_product(u, a.second);
+    Sums { first, second }
+}
+
+// Sets the one free place p, and with it the bound places of its group, so that the sums across, which are s, become zero if they can be.
+// It gives back what they have become.
+fn mend_one(m: usize, w: usize, c: usize, p: usize, bound: &[u8], word: &mut [u8], s: Sums) -> Sums
     requires { ⌜ Good m w c ⌝ }
     requires { ⌜ length (now word) ≡ m * w ⌝ }
     requires { ⌜ p < m * w ⌝ }
     requires { ⌜ BoundFew m w c p (now bound) ⌝ }
+    requires { ⌜ s ≡ acrossOf m w c (now word) ⌝ }
     ensures { λ _. ⌜ MendedOne m w c p (now (bound .entry)) (now (word .entry)) (now (word .exit)) ⌝ }
+    ensures { λ r. ⌜ r ≡ acrossOf m w c (now (word .exit)) ⌝ }
 {
     let g = p / w;
     let h = way(m, w, c, p, bound);
     let a = weights(m, w, c, g, h);
-    let s = syndrome::across(m, w, c, word);
     let u = one_unknown(a.first, a.second, s.first, s.second);
     add_direction(m, w, g, u, h, word);
+    moved(s, u, a)
 }
 
 // The same for two free places p and q.
-fn mend_two(m: usize, w: usize, c: usize, p: usize, q: usize, bound: &[u8], word: &mut [u8])
+fn mend_two(
+    m: usize,
+    w: usize,
+    c: usize,
+    p: usize,
+    q: usize,
+    bound: &[u8],
+    word: &mut [u8],
+    s: Sums,
+) -> Sums
     requires { ⌜ Good m w c ⌝ }
     requires { ⌜ length (now word) ≡ m * w ⌝ }
     requires { ⌜ (p < m * w) × (q < m * w) ⌝ }
     requires { ⌜ BoundFew m w c p (now bound) ⌝ }
     requires { ⌜ BoundFew m w c q (now bound) ⌝ }
+    requires { ⌜ s ≡ acrossOf m w c (now word) ⌝ }
     ensures { λ _. ⌜ MendedTwo m w c p q (now (bound .entry)) (now (word .entry)) (now (word .exit)) ⌝ }
+    ensures { λ r. ⌜ r ≡ acrossOf m w c (now (word .exit)) ⌝ }
 {
     let g = p / w;
     let h = way(m, w, c, p, bound);
@@ -176,31 +200,34 @@ fn mend_two(m: usize, w: usize, c: usize, p: usize, q: usize, bound: &[u8], word
     let i = q / w;
     let k = way(m, w, c, q, bound);
     let b = weights(m, w, c, i, k);
-    let s = syndrome::across(m, w, c, word);
     let u = two_unknowns(a.first, b.first, a.second, b.second, s.first, s.second);
     add_direction(m, w, g, u.first, h, word);
     add_direction(m, w, i, u.second, k, word);
+    let t = moved(s, u.first, a);
+    moved(t, u.second, b)
 }
 
-// Sets the first two free places, or as many as there are, so that the sums across are zero if they can be.
-fn mend(m: usize, w: usize, c: usize, marks: &[u8], bound: &[u8], word: &mut [u8])
+// Sets the first two free places, or as many as there are, so that the sums across are zero if they can be, and gives these sums back.
+fn mend(m: usize, w: usize, c: usize, marks: &[u8], bound: &[u8], word: &mut [u8]) -> Sums
     requires { ⌜ Good m w c ⌝ }
     requires { ⌜ length (now word) ≡ m * w ⌝ }
     requires { ⌜ length (now marks) ≡ m * w ⌝ }
     requires { ⌜ BoundAll m w c (now marks) (now bound) ⌝ }
     ensures { λ _. ⌜ Mended m w c (now (marks .entry)) (now (bound .entry)) (now (word .entry)) (now (word .exit)) ⌝ }
+    ensures { λ r. ⌜ r ≡ acrossOf m w c (now (word .exit)) ⌝ }
 {
     let f = erasures::free_places(marks, bound);
+    let s = syndrome::across(m, w, c, word);
     if f.count == 1 {
-        mend_one(m, w, c, f.first, bound, word);
-        return;
+        return mend_one(m, w, c, f.first, bound, word, s);
     }
     if f.count == 2 {
-        mend_two(m, w, c, f.first, f.second, bound, word);
+        return mend_two(m, w, c, f.first, f.second, bound, word, s);
     }
+    s
 }
 
-// The candidate of a good shape; bound comes to hold the marks of the places that the groups keep.
+// The candidate of a good shape, and its sums across; bound comes to hold the marks of the places that the groups keep.
 fn rebuild(
     m: usize,
     w: usize,
@@ -209,39 +236,45 @@ fn rebuild(
     marks: &[u8],
     bound: &mut [u8],
     out: &mut [u8],
-)
+) -> Sums
     requires { ⌜ Good m w c ⌝ }
     requires { ⌜ length (now word) ≡ m * w ⌝ }
     requires { ⌜ length (now marks) ≡ m * w ⌝ }
     requires { ⌜ length (now bound) ≡ m * w ⌝ }
     requires { ⌜ length (now out) ≡ m * w ⌝ }
     ensures { λ _. ⌜ IsCandidate m w c (now (marks .entry)) (now (word .entry)) (now (out .exit)) ⌝ }
+    ensures { λ r. ⌜ r ≡ acrossOf m w c (now (out .exit)) ⌝ }
 {
     buffers::copy(marks, bound);
     erasures::clear_free(m, w, c, bound);
     blank_lost(word, marks, out);
     fill_groups(m, w, c, bound, out);
-    mend(m, w, c, marks, bound, out);
+    mend(m, w, c, marks, bound, out)
 }
 
 // Writes the candidate into out: the present bytes of word and, where the excess is at most two, in the lost places what any codeword that agrees
-// with them must have.
-// A shape that is not good, or lengths that are not its own, leave out as it is.
-pub fn candidate(m: usize, w: usize, c: usize, word: &[u8], marks: &[u8], out: &mut [u8])
+// with them must have. It gives back the candidate's two sums across.
+// A shape that is not good, or lengths that are not its own, leave out as it is, and the sums are 0.
+pub fn candidate(m: usize, w: usize, c: usize, word: &[u8], marks: &[u8], out: &mut [u8]) -> Sums
     ensures { λ _. ⌜ (Good m w c → length (now (word .entry)) ≡ m * w → length (now (marks .entry)) ≡ m * w → length (now (out .entry)) ≡ m * w → IsCandidate m w c (now (marks .entry)) (now (word .entry)) (now (out .exit))) ⌝ }
+    ensures { λ r. ⌜ (Good m w c → length (now (word .entry)) ≡ m * w → length (now (marks .entry)) ≡ m * w → length (now (out .entry)) ≡ m * w → r ≡ acrossOf m w c (now (out .exit))) ⌝ }
     ensures { λ _. ⌜ length (now (out .exit)) ≡ length (now (out .entry)) ⌝ }
-    ensures { λ _. ⌜ ((Good m w c → length (now (word .entry)) ≡ m * w → length (now (marks .entry)) ≡ m * w → length (now (out .entry)) ≡ m * w → ⊥) → now (out .exit) ≡ now (out .entry)) ⌝ }
+    ensures { λ r. ⌜ ((Good m w c → length (now (word .entry)) ≡ m * w → length (now (marks .entry)) ≡ m * w → length (now (out .entry)) ≡ m * w → ⊥) → (now (out .exit) ≡ now (out .entry)) × (r ≡ noSums)) ⌝ }
 {
+    let none = Sums {
+        first: 0,
+        second: 0,
+    };
     if shape::word_refusal(m, w, c, word.len()) != 0 {
-        return;
+        return none;
     }
     if marks.len() != word.len() {
-        return;
+        return none;
     }
     if out.len() != word.len() {
-        return;
+        return none;
     }
     let n = word.len();
     let mut bound = [0u8; 240];
-    rebuild(m, w, c, word, marks, &mut bound[..n], out);
+    rebuild(m, w, c, word, marks, &mut bound[..n], out)
 }

@@ -1,15 +1,18 @@
 -- The steps of the loops, on lists.
-use mathlib.Core.Path.{_≡_, sym, subst}
+use mathlib.Core.Path.{_≡_, refl, sym, ap, _∙_, subst}
+use mathlib.Core.Bool.{Bool, true, false, not, _&&_}
 use mathlib.Core.List.{List, _++_, append-assoc, append-nil}
 use Prim.Native.Nat.{ℕ, suc, _+_, _-_, _*_, _≤_, _<_}
 use native.Mathlib.Nat.{suc-mul, mul-le-mul-right}
 use native.Mathlib.Numerals.{add-one}
 use native.Mathlib.Omega.{arith}
+use lib.Dec.{eqb}
 use lib.ListN.{length, getD, take, drop, set, drop-of-length-le}
 use lib.Seq.{drop-cons, take-suc, take-suc-set, drop-set-lt, take-all, drop-drop}
 use borrow.Author.Tests.{eq-eqb, ne-eqb}
 use Rattle.code.specs.Stretch.{stretch, withStretch}
-use Rattle.erasures.specs.Bound.{boundOf}
+use Rattle.code.specs.Marks.{lost}
+use Rattle.erasures.specs.Bound.{free, boundOf}
 use Rattle.erasures.specs.Whole.{BoundUpTo}
 use Rattle.erasures.specs.WholeLaws.{upto-more}
 
@@ -55,3 +58,11 @@ module _ (m g w c k : ℕ) (marks held ys : List ℕ) (e : k ≡ w) (y : ys ≡ 
   group-step n l K =
       let f : suc g * w ≤ length marks = subst (λ n. suc g * w ≤ n) (sym n) (mul-le-mul-right w l) in
       rw (put-back, add-one) (upto-more g w c marks held f K)
+
+-- ---- a place whose mark is bound is not free
+pub bound-not-free : (marks bound : List ℕ) (p : ℕ) → getD marks p 0 ≡ getD bound p 0 → free marks bound p ≡ false
+bound-not-free marks bound p e = ap (λ x. eqb x 1 && not (lost bound p)) e ∙ neither (lost bound p)
+  where
+    neither : (b : Bool) → (b && not b) ≡ false
+    neither true = refl
+    neither false = refl

@@ -1,6 +1,7 @@
 // The lost places of a word: in each group the first c are bound for the group's own equations, the others are free.
 ghost use mathlib.Core.Path.{_≡_};
-ghost use Prim.Native.Nat.{_*_};
+ghost use mathlib.Core.Bool.{true};
+ghost use Prim.Native.Nat.{ℕ, _*_, _<_};
 ghost use lib.ListN.{length, getD};
 ghost use Rattle.shape.specs.Shapes.{Good};
 ghost use Rattle.erasures.specs.Bound.{free, boundOf};
@@ -85,11 +86,36 @@ fn next_free(marks: &[u8], bound: &[u8], start: usize) -> usize
     i
 }
 
+// Whether all marks are bound.
+fn all_bound(marks: &[u8], bound: &[u8]) -> bool
+    ensures { λ r. ⌜ (r ≡ true → (p : ℕ) → p < length (now (marks .entry)) → getD (now (marks .entry)) p 0 ≡ getD (now (bound .entry)) p 0) ⌝ }
+{
+    if marks.len() != bound.len() {
+        return false;
+    }
+    let mut same: bool = true;
+    let mut i: usize = 0;
+    while i < marks.len() {
+        if marks[i] != bound[i] {
+            same = false;
+        }
+        i += 1;
+    }
+    same
+}
+
 // The first two free places. Past its end bound counts as not lost.
 pub fn free_places(marks: &[u8], bound: &[u8]) -> Free
     ensures { λ r. ⌜ FreePlaces (now (marks .entry)) (now (bound .entry)) (r .count) (r .first) (r .second) ⌝ }
     ensures { λ r. ⌜ r ≡ firstTwo (freePlaces (now (marks .entry)) (now (bound .entry))) ⌝ }
 {
+    if all_bound(marks, bound) {
+        return Free {
+            count: 0,
+            first: 0,
+            second: 0,
+        };
+    }
     let first = next_free(marks, bound, 0);
     if marks.len() <= first {
         return Free {

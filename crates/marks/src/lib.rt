@@ -6,16 +6,20 @@ ghost use Rattle.shape.specs.Shapes.{Good};
 ghost use Rattle.code.specs.Marks.{lostIn, excess};
 ghost use Rattle.marks.specs.Refusal.{areMarks, marksRefusal};
 
-// Whether every mark is 0 or 1.
+// Whether every mark is 0 or 1. The largest is sought over all of them: a loop without a way out is fast.
 pub fn are_marks(marks: &[u8]) -> bool
     ensures { λ r. ⌜ r ≡ areMarks (now (marks .entry)) ⌝ }
 {
+    let mut most: u8 = 0;
     let mut i: usize = 0;
     while i < marks.len() {
-        if 1 < marks[i] {
-            return false;
+        if most < marks[i] {
+            most = marks[i];
         }
         i += 1;
+    }
+    if 1 < most {
+        return false;
     }
     true
 }

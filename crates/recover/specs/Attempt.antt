@@ -2,16 +2,22 @@
 use mathlib.Core.Path.{_≡_}
 use mathlib.Core.Bool.{true, false}
 use mathlib.Core.List.{List}
-use Prim.Native.Nat.{ℕ, _*_, _≤_}
+use Prim.Native.Nat.{ℕ, _*_, _≤_, _<_}
+use lib.Dec.{T}
 use lib.ListN.{length}
 use Rattle.code.specs.Edition.{Edition}
 use Rattle.byte_edition.specs.Edition.{byteEdition}
-use Rattle.code.specs.Marks.{excess}
+use Rattle.code.specs.Word.{isLocal}
+use Rattle.code.specs.Marks.{lostIn, excess}
 use Rattle.code.specs.Contradiction.{contradictingGroup}
 use Rattle.code.specs.Recovery.{Agrees}
 use Rattle.shape.specs.Shapes.{Limits, byteLimits, GoodIn}
 use Rattle.syndrome.specs.declared.Tested.{Tested}
 use Rattle.recover.specs.Recover.{recoverRefusalIn}
+
+-- in a word every group that has lost c places or more satisfies its own equations
+abbrev pub FullSatisfiedIn : Edition → ℕ → ℕ → ℕ → List ℕ → List ℕ → Type 0
+FullSatisfiedIn E m w c marks word = (g : ℕ) → g < m → c ≤ lostIn w marks g → T (isLocal E w c word g)
 
 -- where it succeeds the codeword that agrees is written; else nothing is, the contradicting group is named, and for an excess of at most two
 -- no codeword agrees
@@ -27,7 +33,11 @@ pub record AcceptedIn (L : Limits) (m w c : ℕ) (word marks : List ℕ) : Type 
   pub word-size : length word ≡ m * w
   pub marks-size : length marks ≡ m * w
 
--- in the edition of bytes: an attempt
+-- in the edition of bytes: its full groups satisfied
+abbrev pub FullSatisfied : ℕ → ℕ → ℕ → List ℕ → List ℕ → Type 0
+FullSatisfied = FullSatisfiedIn byteEdition
+
+-- an attempt
 abbrev pub Attempt : ℕ → ℕ → ℕ → List ℕ → List ℕ → List ℕ → Tested → Type 0
 Attempt = AttemptIn byteEdition
 

@@ -3,7 +3,8 @@ use mathlib.Core.Path.{_≡_, refl, sym, ap, _∙_, subst}
 use mathlib.Core.Bool.{true, false}
 use mathlib.Core.List.{List}
 use mathlib.Core.Logic.{_↔_}
-use Prim.Native.Nat.{ℕ, _*_, _^_, _<_, _≤_}
+use Prim.Native.Nat.{ℕ, suc, _*_, _^_, _<_, _≤_}
+use native.Mathlib.Nat.{mul-le-mul-right}
 use native.Mathlib.Decide.{decLe}
 use native.Mathlib.Omega.{arith}
 use borrow.Author.Tests.{le-ltb}
@@ -12,6 +13,8 @@ use lib.ListN.{length, getD}
 use Rattle.code.specs.Edition.{Edition, Sound}
 use Rattle.code.specs.Word.{isCodeword, Symbols}
 use Rattle.code.specs.Marks.{excess}
+use Rattle.code.specs.Stretch.{stretch}
+use Rattle.code.specs.StretchLaws.{stretch-length, stretch-below, stretch-count}
 use Rattle.code.specs.Outcome.{refused, contradictory, written}
 use Rattle.code.specs.OutcomeLaws.{eight-large}
 use Rattle.code.specs.Contradiction.{contradictingGroup}
@@ -19,7 +22,7 @@ use Rattle.code.specs.ContradictionLaws.{same-groups}
 use Rattle.code.specs.Recovery.{Agrees, recovered}
 use Rattle.code.specs.RecoveryLaws.{recovered-eight, recovered-nine, recovered-done}
 use Rattle.shape.specs.RefusalsLaws.{orElse-zero, orElse-most}
-use Rattle.shape.specs.Shapes.{Limits, wordRefusalIn, wordRefusal}
+use Rattle.shape.specs.Shapes.{Limits, GoodIn, wordRefusalIn, wordRefusal}
 use Rattle.shape.specs.Laws.{good-of-word, word-most}
 use Rattle.marks.specs.Refusal.{marksRefusalIn}
 use Rattle.marks.specs.RefusalLaws.{good-of-marks, marks-most}
@@ -27,7 +30,8 @@ use Rattle.syndrome.specs.Tests.{brokenGroupIn}
 use Rattle.candidate.specs.Mended.{IsCandidateIn}
 use Rattle.recover.specs.Recover.{unlessBefore, recoverRefusal, recoverRefusalIn, recoverIn}
 use Rattle.recover.specs.RecoverLaws.{unless-before}
-use Rattle.recover.specs.Attempt.{AttemptIn, AcceptedIn}
+use Rattle.recover.specs.Attempt.{FullSatisfiedIn, AttemptIn, AcceptedIn}
+use Rattle.recover.specs.FillableLaws.{fillable}
 
 module _ {E : Edition} (m w c : ℕ) (marks word x : List ℕ) (size : length word ≡ m * w) (small : (p : ℕ) → getD x p 0 < 2 ^ E .bits)
     (C : IsCandidateIn E m w c marks word x) where
@@ -51,6 +55,19 @@ module _ {E : Edition} (m w c : ℕ) (marks word x : List ℕ) (size : length wo
     failed = λ _. (refl, λ low y A. subst T (ap (isCodeword E m w c) (sym (C .only low y A)) ∙ e) (A .codeword .zero));
     group = group-named;
   }
+
+-- a group that has lost c places or more can always be filled, so the candidate satisfies it
+pub full-satisfied : {E : Edition} (S : Sound E) (m w c : ℕ) → GoodIn (E .limits) m w c → (marks word x : List ℕ) → Symbols E (m * w) word → length marks
+    ≡ m * w
+    → IsCandidateIn E m w c marks word x → FullSatisfiedIn E m w c marks x
+full-satisfied {E} S m w c good marks word x s size C g l many =
+    C .satisfied g l _
+    (fillable E S w c (omega (arith, good .wide)) (let h = good .narrow in let k = S .width-narrow in omega arith) (stretch w g word) (stretch w g marks)
+    (record { size = stretch-length w g word (fits word (s .size)); each = stretch-below w g word (2 ^ E .bits) (s .each) })
+    (stretch-length w g marks (fits marks size)) (subst (λ n. c ≤ n) (sym (stretch-count w g marks)) many))
+  where
+    fits : (xs : List ℕ) → length xs ≡ m * w → suc g * w ≤ length xs
+    fits xs e = subst (λ n. suc g * w ≤ n) (sym e) (mul-le-mul-right w l)
 
 pub accepted : {L : Limits} (m w c : ℕ) (word marks : List ℕ) (r : ℕ) → r ≡ recoverRefusalIn L m w c word marks → r ≡ 0 → AcceptedIn L m w c word marks
 unfolding recoverRefusalIn

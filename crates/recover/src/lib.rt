@@ -1,14 +1,20 @@
 // The service Recover.
 use shape::Mending;
+use syndrome::Sums;
 use syndrome::Tested;
 ghost use mathlib.Core.Path.{_≡_};
-ghost use Prim.Native.Nat.{_*_, _≤_};
+ghost use mathlib.Core.Bool.{true, false};
+ghost use Prim.Native.Nat.{_*_, _≤_, _<_};
 ghost use lib.ListN.{length};
 ghost use Rattle.shape.specs.Shapes.{Good};
 ghost use Rattle.shape.specs.Answers.{mendingAt, mendingNumber};
-ghost use Rattle.code.specs.Marks.{excess};
+ghost use Rattle.byte_edition.specs.Edition.{byteEdition};
+ghost use Rattle.code.specs.Word.{isLocal};
+ghost use Rattle.code.specs.Marks.{lostIn, excess};
+ghost use Rattle.syndrome.specs.Across.{acrossOf};
+ghost use Rattle.syndrome.specs.Tests.{brokenGroup, testedOf};
 ghost use Rattle.recover.specs.Recover.{recoverRefusal, recoverOf};
-ghost use Rattle.recover.specs.Attempt.{Attempt};
+ghost use Rattle.recover.specs.Attempt.{FullSatisfied, Attempt};
 
 // The refusal of a call by its shape, its lengths and its marks, 1 to 6; 0 if there is none.
 pub fn refusal(m: usize, w: usize, c: usize, word: &[u8], marks: &[u8]) -> u8
@@ -21,6 +27,67 @@ pub fn refusal(m: usize, w: usize, c: usize, word: &[u8], marks: &[u8]) -> u8
     marks::marks_refusal(m, w, c, marks)
 }
 
+// Whether the first c local sums of one group's stretch are zero, if its filling with these marks has made as many of them zero as places are
+// lost: with c or more of them nothing is left to test.
+pub fn filled_zero(marks: &[u8], part: &[u8], c: usize) -> bool
+    ensures few { λ r. ⌜ (lostIn (length (now (marks .entry))) (now (marks .entry)) 0 < c → length (now (part .entry)) ≤ 16 → c ≤ 4 → r ≡ isLocal byteEdition (length (now (part .entry))) c (now (part .entry)) 0) ⌝ }
+    ensures many { λ r. ⌜ (c ≤ lostIn (length (now (marks .entry))) (now (marks .entry)) 0 → r ≡ true) ⌝ }
+    ensures other { λ r. ⌜ (lostIn (length (now (marks .entry))) (now (marks .entry)) 0 < c → (length (now (part .entry)) ≤ 16 → c ≤ 4 → ⊥) → r ≡ false) ⌝ }
+{
+    if marks::lost_in(marks) < c {
+        return syndrome::local_zero(part, c);
+    }
+    true
+}
+
+// The lowest group whose local sums are not all zero, m if there is none, of a word in which those with c or more lost places are satisfied.
+fn broken_group(m: usize, w: usize, c: usize, marks: &[u8], word: &[u8]) -> usize
+    requires { ⌜ Good m w c ⌝ }
+    requires { ⌜ length (now marks) ≡ m * w ⌝ }
+    requires { ⌜ length (now word) ≡ m * w ⌝ }
+    requires { ⌜ FullSatisfied m w c (now marks) (now word) ⌝ }
+    ensures { λ r. ⌜ r ≡ brokenGroup m w c (now (word .entry)) ⌝ }
+{
+    let mut g: usize = 0;
+    while g < m {
+        let a = g * w;
+        let e = a + w;
+        if !filled_zero(&marks[a..e], &word[a..e], c) {
+            return g;
+        }
+        g += 1;
+    }
+    g
+}
+
+// The test of such a word's equations, with its sums across.
+fn test(m: usize, w: usize, c: usize, marks: &[u8], word: &[u8], s: Sums) -> Tested
+    requires { ⌜ Good m w c ⌝ }
+    requires { ⌜ length (now marks) ≡ m * w ⌝ }
+    requires { ⌜ length (now word) ≡ m * w ⌝ }
+    requires { ⌜ FullSatisfied m w c (now marks) (now word) ⌝ }
+    requires { ⌜ s ≡ acrossOf m w c (now word) ⌝ }
+    ensures { λ r. ⌜ r ≡ testedOf m w c (now (word .entry)) ⌝ }
+{
+    let group = broken_group(m, w, c, marks, word);
+    if group != m {
+        return Tested {
+            codeword: false,
+            group,
+        };
+    }
+    if s.first != 0 {
+        return Tested {
+            codeword: false,
+            group,
+        };
+    }
+    Tested {
+        codeword: s.second == 0,
+        group,
+    }
+}
+
 // Writes the candidate, made in found, into the word if it is a codeword; else it names the group that contradicts.
 fn attempt(m: usize, w: usize, c: usize, word: &mut [u8], marks: &[u8], found: &mut [u8]) -> Tested
     requires { ⌜ Good m w c ⌝ }
@@ -29,8 +96,8 @@ fn attempt(m: usize, w: usize, c: usize, word: &mut [u8], marks: &[u8], found: &
     requires { ⌜ length (now found) ≡ m * w ⌝ }
     ensures { λ r. ⌜ Attempt m w c (now (marks .entry)) (now (word .entry)) (now (word .exit)) r ⌝ }
 {
-    candidate::candidate(m, w, c, word, marks, found);
-    let tested = syndrome::test(m, w, c, found);
+    let s = candidate::candidate(m, w, c, word, marks, found);
+    let tested = test(m, w, c, marks, found, s);
     if !tested.codeword {
         return tested;
     }

@@ -5,9 +5,11 @@ use mathlib.Core.Bool.{Bool, true, false, not}
 use mathlib.Core.List.{List, _++_}
 use Prim.Native.Nat.{ℕ, zero, _+_, _-_, _*_, _^_, _<_, _≤_}
 use native.Mathlib.Nat.{le-refl}
+use native.Mathlib.Decide.{decLt}
 use native.Mathlib.Omega.{arith}
 use borrow.Author.Tests.{lt-ltb, le-ltb}
 use lib.Dec.{T, ltb}
+use lib.Ieee.Bits.{is-true}
 use lib.ListN.{length, getD, take, drop}
 use lib.Seq.{ext-getD}
 use Rattle.shape.specs.Refusals.{refuse, _orElse_}
@@ -23,7 +25,7 @@ use Rattle.recover.specs.Recover.{unlessBefore, recoverRefusalIn, recoverRefusa
 use Rattle.recover.specs.RecoverLaws.{unless-before}
 use Rattle.code.specs.Edition.{Edition, Sound}
 use Rattle.code.specs.Word.{isLocal, localSum}
-use Rattle.code.specs.WordLaws.{local-zero}
+use Rattle.code.specs.WordLaws.{local-zero, zero-local}
 use Rattle.code.specs.Marks.{lostIn}
 use Rattle.code.specs.Outcome.{Outcome, refused}
 use Rattle.code.specs.DeterminedLaws.{local-unique}
@@ -33,6 +35,20 @@ use Rattle.code.specs.Stretch.{withStretch}
 use Rattle.code.specs.StretchLaws.{own-place}
 use Rattle.fill.specs.Filled.{FilledIn}
 use Rattle.repair.specs.Repair.{repairRefusal, repairRefusalIn, repairIn, PartAttemptIn}
+
+-- a test that passes over what the filling of a stretch has made zero tests all the group's equations
+pub filled-tested : {E : Edition} (c : ℕ) (marks before x : List ℕ) (r : Bool) → FilledIn E marks before x → length marks ≡ length before
+    → (lostIn (length marks) marks 0 < c → length x ≤ E .small → c ≤ 4 → r ≡ isLocal E (length x) c x 0) → lostIn (length marks) marks 0 ≤ c
+    → (c ≤ lostIn (length marks) marks 0 → r ≡ true) → length x ≤ E .small → c ≤ 4 → r ≡ isLocal E (length x) c x 0
+filled-tested {E} c marks before x r F size few most many narrow checks = elim (decLt (lostIn (length marks) marks 0) c) [
+  | yes h ↦ few h narrow checks
+  | no h ↦
+      many (omega arith)
+      ∙ sym (is-true (isLocal E (length x) c x 0) (zero-local E (length x) c x 0 (λ e k.
+      subst (λ n. localSum E n x 0 e ≡ 0) (sym (F .size))
+      (F .zero (subst (λ n. n ≤ E .small) (F .size) narrow) size (subst (λ n. lostIn n marks 0 ≤ 4) size (omega arith)) e
+      (subst (λ n. e < lostIn n marks 0) size (omega arith))))))
+]
 
 -- the stretch as copied (before), its filling x, and what the test of all the group's equations says of x
 module _ {E : Edition} (S : Sound E) (w c : ℕ) (wide : 0 < w) (narrow : w ≤ E .small) (few-checks : c ≤ 4) (marks part before x : List ℕ)

@@ -21,7 +21,7 @@ fn attempt(c: usize, part: &mut [u8], marks: &[u8], found: &mut [u8]) -> bool
 {
     buffers::copy(part, found);
     fill::fill(found, marks);
-    if !syndrome::local_zero(found, c) {
+    if !recover::filled_zero(marks, found, c) {
         return false;
     }
     buffers::copy(found, part);

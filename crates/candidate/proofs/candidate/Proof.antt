@@ -1,7 +1,9 @@
-use mathlib.Core.Path.{refl, sym, _∙_}
+use mathlib.Core.Path.{_≡_, refl, sym, _∙_}
+use Prim.Native.Nat.{_*_}
 use native.Mathlib.Omega.{arith}
 use lib.ListN.{length, length-take}
 use borrow.Author.Needs.{needs}
+use Rattle.shape.specs.Shapes.{Good}
 use Rattle.shape.specs.Laws.{word-of-good, places-most}
 use Rattle.code.specs.Lent.{Lent}
 use Rattle.code.specs.LentLaws.{lent}
@@ -15,7 +17,9 @@ returns : tie.Need-returns
 returns c =
     let r = c .before in
     let a = r .before .before .before .before .args in
-    (λ G e _ _. absurd (c .if1 .taken (r .word-refusal .ensures ∙ word-of-good (a .m) (a .w) (a .c) (length (a .word .now)) G e)), (refl, λ _. refl))
+    let never : Good (a .m) (a .w) (a .c) → length (a .word .now) ≡ a .m * a .w → ⊥ =
+    λ G e. c .if1 .taken (r .word-refusal .ensures ∙ word-of-good (a .m) (a .w) (a .c) (length (a .word .now)) G e) in
+    (λ G e _ _. absurd (never G e), (λ G e _ _. absurd (never G e), (refl, λ _. (refl, refl))))
 
 -- past the first test the shape is good, and the word has its length
 shaped : (t : tie.Else1) → let a = t .before .before .before .before .before .args in Lent (a .m) (a .w) (a .c) (a .word .now)
@@ -25,10 +29,10 @@ shaped t =
     lent (a .m) (a .w) (a .c) (a .word .now) (sym (r .word-refusal .ensures) ∙ t .if1 .left)
 
 returns-2 : tie.Need-returns-2
-returns-2 c = (λ _ e f _. absurd (c .if2 .taken (f ∙ sym e)), (refl, λ _. refl))
+returns-2 c = (λ _ e f _. absurd (c .if2 .taken (f ∙ sym e)), (λ _ e f _. absurd (c .if2 .taken (f ∙ sym e)), (refl, λ _. (refl, refl))))
 
 returns-3 : tie.Need-returns-3
-returns-3 c = (λ _ e _ f. absurd (c .if3 .taken (f ∙ sym e)), (refl, λ _. refl))
+returns-3 c = (λ _ e _ f. absurd (c .if3 .taken (f ∙ sym e)), (λ _ e _ f. absurd (c .if3 .taken (f ∙ sym e)), (refl, λ _. (refl, refl))))
 
 array-borrow-prefix-bound : tie.Need-array-borrow-prefix-bound
 array-borrow-prefix-bound c =
@@ -57,7 +61,7 @@ same-length c = search needs
 returns-4 : tie.Need-returns-4
 returns-4 c =
     let L = shaped (c .before .before .before .before .before .before .before .before) in
-    (search needs, (search needs, λ k. absurd (k (L .good) (L .size) (omega arith) (omega arith))))
+    (search needs, (search needs, (search needs, λ k. absurd (k (L .good) (L .size) (omega arith) (omega arith)))))
 
 pub candidate-spec : {M : Type 1} → statement M
 candidate-spec =

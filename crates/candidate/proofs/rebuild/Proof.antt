@@ -54,12 +54,14 @@ returns c =
     let k = b .before .before .before .before in
     let x = k .before .before .before .before .before .before .before .before .before in
     let s = x .before in
-    let a = s .args in
-    is-candidate bytes-sound (a .m) (a .w) (a .c) (s .pre .0) (a .marks .now) _ (a .word .now) _ _ _
-    (record { size = s .pre .1 .0; each = λ p. x .shared-slice-known .given p .fits })
-    (record { size = f .fill-groups .ensures .size ∙ b .blank-lost .ensures .size ∙ s .pre .1 .0; each = λ p. y .slice-known6 .given p .fits })
-    (s .pre .1 .1 .0)
-    (keeps k) (b .blank-lost .ensures) (f .fill-groups .ensures) (e .mend .ensures)
+    let a = s .args in (
+      is-candidate bytes-sound (a .m) (a .w) (a .c) (s .pre .0) (a .marks .now) _ (a .word .now) _ _ _
+          (record { size = s .pre .1 .0; each = λ p. x .shared-slice-known .given p .fits })
+          (record { size = f .fill-groups .ensures .size ∙ b .blank-lost .ensures .size ∙ s .pre .1 .0; each = λ p. y .slice-known6 .given p .fits })
+          (s .pre .1 .1 .0)
+          (keeps k) (b .blank-lost .ensures) (f .fill-groups .ensures) (e .mend .ensures .0),
+      e .mend .ensures .1,
+    )
 
 pub rebuild-spec : {M : Type 1} → statement M
 rebuild-spec =

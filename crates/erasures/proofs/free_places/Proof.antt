@@ -1,18 +1,39 @@
+use native.Mathlib.Omega.{arith}
+use lib.ListN.{length}
 use borrow.Author.Needs.{needs}
+use Rattle.erasures.specs.Places.{NextFree}
 use Rattle.erasures.specs.PlacesLaws.{free-none, free-one, free-two}
 use Rattle.erasures.specs.FirstTwoLaws.{two-none, two-one, two-two}
+use Rattle.erasures.proofs.Laws.{bound-not-free}
 use Rattle.erasures.proofs.free_places.Statement.{statement}
 use Rattle.erasures.proofs.free_places.Tie as tie
+
+all-bound-requires : tie.Need-all-bound-requires
+all-bound-requires c κs = search needs
+
+returns : tie.Need-returns
+returns c =
+    let k = c .before in
+    let a = k .before .before .before .args in
+    let N : NextFree (a .marks .now) (a .bound .now) 0 (length (a .marks .now)) =
+    record {
+      on = omega arith;
+      passed = λ p l _. bound-not-free (a .marks .now) (a .bound .now) p (k .all-bound .ensures (c .if1 .taken) p l);
+      found = λ l. absurd (omega arith);
+    } in (
+      free-none (a .marks .now) (a .bound .now) (length (a .marks .now)) N (omega arith),
+      two-none (a .marks .now) (a .bound .now) (length (a .marks .now)) N (omega arith),
+    )
 
 next-free-requires : tie.Need-next-free-requires
 next-free-requires c κs = search needs
 
-returns : tie.Need-returns
-returns c =
-    let a = c .before .before .before .before .args in
+returns-2 : tie.Need-returns-2
+returns-2 c =
+    let a = c .before .before .before .before .before .before .args in
     let n = c .before .next-free in (
-      free-none (a .marks .now) (a .bound .now) (n .result) (n .ensures) (c .if1 .taken),
-      two-none (a .marks .now) (a .bound .now) (n .result) (n .ensures) (c .if1 .taken),
+      free-none (a .marks .now) (a .bound .now) (n .result) (n .ensures) (c .if2 .taken),
+      two-none (a .marks .now) (a .bound .now) (n .result) (n .ensures) (c .if2 .taken),
     )
 
 add-after : tie.Need-add-after
@@ -21,29 +42,37 @@ add-after c = search needs
 next-free-requires-2 : tie.Need-next-free-requires-2
 next-free-requires-2 c κs = search needs
 
-returns-2 : tie.Need-returns-2
-returns-2 c =
-    let f = c .before .before .before in
-    let a = f .before .before .before .args in
-    let n = f .next-free in
-    let i = c .before .before .if1 .left in
-    let k = c .before .next-free2 in (
-      free-one (a .marks .now) (a .bound .now) (n .result) (n .ensures) i (k .result) (k .ensures) (c .if2 .taken),
-      two-one (a .marks .now) (a .bound .now) (n .result) (n .ensures) i (k .result) (k .ensures) (c .if2 .taken),
-    )
-
 returns-3 : tie.Need-returns-3
 returns-3 c =
     let f = c .before .before .before in
-    let a = f .before .before .before .args in
+    let a = f .before .before .before .before .before .args in
     let n = f .next-free in
-    let i = c .before .before .if1 .left in
+    let i = c .before .before .if2 .left in
     let k = c .before .next-free2 in (
-      free-two (a .marks .now) (a .bound .now) (n .result) (n .ensures) i (k .result) (k .ensures) (c .if2 .left),
-      two-two (a .marks .now) (a .bound .now) (n .result) (n .ensures) i (k .result) (k .ensures) (c .if2 .left),
+      free-one (a .marks .now) (a .bound .now) (n .result) (n .ensures) i (k .result) (k .ensures) (c .if3 .taken),
+      two-one (a .marks .now) (a .bound .now) (n .result) (n .ensures) i (k .result) (k .ensures) (c .if3 .taken),
+    )
+
+returns-4 : tie.Need-returns-4
+returns-4 c =
+    let f = c .before .before .before in
+    let a = f .before .before .before .before .before .args in
+    let n = f .next-free in
+    let i = c .before .before .if2 .left in
+    let k = c .before .next-free2 in (
+      free-two (a .marks .now) (a .bound .now) (n .result) (n .ensures) i (k .result) (k .ensures) (c .if3 .left),
+      two-two (a .marks .now) (a .bound .now) (n .result) (n .ensures) i (k .result) (k .ensures) (c .if3 .left),
     )
 
 pub free-places-spec : {M : Type 1} → statement M
 free-places-spec =
     tie.close
-    (tie.spec next-free-requires returns add-after next-free-requires-2 returns-2 returns-3)
+    (tie.spec
+    all-bound-requires
+    returns
+    next-free-requires
+    returns-2
+    add-after
+    next-free-requires-2
+    returns-3
+    returns-4)

@@ -1,4 +1,6 @@
-use mathlib.Core.Path.{sym}
+use mathlib.Core.Path.{_≡_, sym}
+use mathlib.Core.Logic.{⊎-elim}
+use mathlib.Core.List.{List}
 use Prim.Native.Nat.{ℕ, _-_, _<_, _≤_}
 use native.Mathlib.Omega.{arith}
 use borrow.Author.Count.{below-none, below-more}
@@ -7,20 +9,21 @@ use Rattle.marks.specs.RefusalLaws.{marks-each, other-mark}
 use Rattle.marks.proofs.are_marks.Statement.{statement}
 use Rattle.marks.proofs.are_marks.Tie as tie
 
+-- no mark before i is above the largest, and where that is above 1 some mark is
 abbrev Inv-loop : tie.InvT-loop
-Inv-loop marks i₀ i = (i ≤ length marks) × ((p : ℕ) → p < i → getD marks p 0 < 2)
+Inv-loop marks most₀ i₀ most i = (i ≤ length marks) × ((p : ℕ) → p < i → getD marks p 0 ≤ most) × (1 < most → (p : ℕ) × (1 < getD marks p 0))
 
 abbrev μ-loop : tie.MeasureT-loop
-μ-loop marks i₀ i = length marks - i
+μ-loop marks most₀ i₀ most i = length marks - i
 
 loop-holds : tie.Need-loop-holds Inv-loop μ-loop
-loop-holds c = (omega arith, below-none _)
+loop-holds c = (omega arith, below-none _, λ h. absurd (omega arith))
 
 shared-slice-read-if1 : tie.Need-shared-slice-read-if1 Inv-loop μ-loop
 shared-slice-read-if1 c = omega arith
 
-returns : tie.Need-returns Inv-loop μ-loop
-returns c = sym (other-mark (c .before .before .before .before .args .marks .now) (c .before .before .before .loop .i) (c .if1 .taken))
+shared-slice-read-most : tie.Need-shared-slice-read-most Inv-loop μ-loop
+shared-slice-read-most c = omega arith
 
 add-i : tie.Need-add-i Inv-loop μ-loop
 add-i c = omega arith
@@ -31,12 +34,36 @@ loop-less c = omega arith
 loop-again : tie.Need-loop-again Inv-loop μ-loop
 loop-again c =
     let s = c .before .before .before in
-    (omega arith, below-more (λ p. getD (s .before .args .marks .now) p 0 < 2) (s .loop .i) (s .loop .inv .1) (omega arith))
+    let m : List ℕ = s .before .args .marks .now in
+    let i : ℕ = s .loop .i in
+    let v : ℕ = s .loop .most in
+    ⊎-elim
+    (λ w.
+    let t : v < getD m i 0 = w .0 .taken in
+    let q : c .if1 .most ≡ getD m i 0 = w .2 in (
+      omega arith,
+      below-more (λ p. getD m p 0 ≤ c .if1 .most) i (λ p l. let k = s .loop .inv .1 p l in omega arith) (omega arith),
+      λ h. (i, omega arith),
+    ))
+    (λ w.
+    let t : getD m i 0 ≤ v = w .0 .left in
+    let q : c .if1 .most ≡ v = w .1 in (
+      omega arith,
+      below-more (λ p. getD m p 0 ≤ c .if1 .most) i (λ p l. let k = s .loop .inv .1 p l in omega arith) (omega arith),
+      λ h. s .loop .inv .2 (omega arith),
+    ))
+    (c .if1 .came)
+
+returns : tie.Need-returns Inv-loop μ-loop
+returns c =
+    let s = c .before .before in
+    let o = s .loop .inv .2 (c .if2 .taken) in
+    sym (other-mark (s .before .args .marks .now) (o .0) (o .1))
 
 returns-2 : tie.Need-returns-2 Inv-loop μ-loop
 returns-2 c =
-    let s = c .before in
-    sym (marks-each (s .before .args .marks .now) (λ p l. s .loop .inv .1 p (omega arith)))
+    let s = c .before .before in
+    sym (marks-each (s .before .args .marks .now) (λ p l. let k = s .loop .inv .1 p (omega arith) in omega arith))
 
 pub are-marks-spec : {M : Type 1} → statement M
 are-marks-spec =
@@ -46,8 +73,9 @@ are-marks-spec =
     μ-loop
     loop-holds
     shared-slice-read-if1
-    returns
+    shared-slice-read-most
     add-i
     loop-less
     loop-again
+    returns
     returns-2)
