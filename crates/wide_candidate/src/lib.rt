@@ -10,7 +10,6 @@ ghost use Rattle.code.specs.Combined.{combined};
 ghost use Rattle.code.specs.Lone.{lone};
 ghost use Rattle.code.specs.Stretch.{stretch};
 ghost use Rattle.wide_sums.specs.Survey.{acrossOf};
-ghost use Rattle.wide_sums.specs.Rows.{IsRows};
 ghost use Rattle.erasures.specs.Whole.{BoundAll};
 ghost use Rattle.candidate.specs.Steps.{Blanked, GroupsFilledIn, DirectionIn, AddedIn};
 ghost use Rattle.candidate.specs.Solved.{SolvedIn, SolvedOneIn};
@@ -33,93 +32,20 @@ fn blank_lost(word: &[u16], marks: &[u8], base: &mut [u16])
     }
 }
 
-// Fills the bound places of every group by its own equations, each worked in x by sixteen rows of its places.
-fn fill_groups(
-    m: usize,
-    w: usize,
-    c: usize,
-    bound: &[u8],
-    base: &mut [u16],
-    x: &mut [u16],
-    rows: &[u16],
-)
+// Fills the bound places of every group by its own equations.
+fn fill_groups(m: usize, w: usize, c: usize, bound: &[u8], base: &mut [u16])
     requires { ⌜ GoodIn wideLimits m w c ⌝ }
     requires { ⌜ length (now base) ≡ m * w ⌝ }
     requires { ⌜ length (now bound) ≡ m * w ⌝ }
     requires { ⌜ ((g : ℕ) → g < m → lostIn w (now bound) g ≤ c) ⌝ }
-    requires { ⌜ (length (now x) ≡ w) × (length (now rows) ≡ 16 * w) × IsRows w (now rows) ⌝ }
     ensures { λ _. ⌜ GroupsFilledIn wideEdition m w (now (bound .entry)) (now (base .entry)) (now (base .exit)) ⌝ }
 {
     let mut g: usize = 0;
     while g < m {
         let a = g * w;
         let e = a + w;
-        wide_fill::fill_by(&mut base[a..e], &bound[a..e], x, rows);
+        wide_fill::fill(&mut base[a..e], &bound[a..e]);
         g += 1;
-    }
-}
-
-// The same; x and rows are lent to be worked in.
-fn fill_in(
-    m: usize,
-    w: usize,
-    c: usize,
-    bound: &[u8],
-    base: &mut [u16],
-    x: &mut [u16],
-    rows: &mut [u16],
-)
-    requires { ⌜ GoodIn wideLimits m w c ⌝ }
-    requires { ⌜ length (now base) ≡ m * w ⌝ }
-    requires { ⌜ length (now bound) ≡ m * w ⌝ }
-    requires { ⌜ ((g : ℕ) → g < m → lostIn w (now bound) g ≤ c) ⌝ }
-    requires { ⌜ (length (now x) ≡ w) × (length (now rows) ≡ 16 * w) ⌝ }
-    ensures { λ _. ⌜ GroupsFilledIn wideEdition m w (now (bound .entry)) (now (base .entry)) (now (base .exit)) ⌝ }
-{
-    wide_sums::make_rows(x, rows);
-    fill_groups(m, w, c, bound, base, x, rows);
-}
-
-// The same for groups of at most 16 places.
-fn fill_narrow(m: usize, w: usize, c: usize, bound: &[u8], base: &mut [u16])
-    requires { ⌜ GoodIn wideLimits m w c × (w ≤ 16) ⌝ }
-    requires { ⌜ length (now base) ≡ m * w ⌝ }
-    requires { ⌜ length (now bound) ≡ m * w ⌝ }
-    requires { ⌜ ((g : ℕ) → g < m → lostIn w (now bound) g ≤ c) ⌝ }
-    ensures { λ _. ⌜ GroupsFilledIn wideEdition m w (now (bound .entry)) (now (base .entry)) (now (base .exit)) ⌝ }
-{
-    let mut x = [0u16; 16];
-    let mut rows = [0u16; 256];
-    let e = 16 * w;
-    fill_in(m, w, c, bound, base, &mut x[..w], &mut rows[..e]);
-}
-
-// The same for groups of any width.
-fn fill_broad(m: usize, w: usize, c: usize, bound: &[u8], base: &mut [u16])
-    requires { ⌜ GoodIn wideLimits m w c × (w ≤ 256) ⌝ }
-    requires { ⌜ length (now base) ≡ m * w ⌝ }
-    requires { ⌜ length (now bound) ≡ m * w ⌝ }
-    requires { ⌜ ((g : ℕ) → g < m → lostIn w (now bound) g ≤ c) ⌝ }
-    ensures { λ _. ⌜ GroupsFilledIn wideEdition m w (now (bound .entry)) (now (base .entry)) (now (base .exit)) ⌝ }
-{
-    let mut x = [0u16; 256];
-    let mut rows = [0u16; 4096];
-    let e = 16 * w;
-    fill_in(m, w, c, bound, base, &mut x[..w], &mut rows[..e]);
-}
-
-// Fills the bound places of every group by its own equations.
-fn fill_all(m: usize, w: usize, c: usize, bound: &[u8], base: &mut [u16])
-    requires { ⌜ GoodIn wideLimits m w c ⌝ }
-    requires { ⌜ length (now base) ≡ m * w ⌝ }
-    requires { ⌜ length (now bound) ≡ m * w ⌝ }
-    requires { ⌜ ((g : ℕ) → g < m → lostIn w (now bound) g ≤ c) ⌝ }
-    ensures { λ _. ⌜ GroupsFilledIn wideEdition m w (now (bound .entry)) (now (base .entry)) (now (base .exit)) ⌝ }
-{
-    if w <= 16 {
-        fill_narrow(m, w, c, bound, base);
-    } else {
-        fill_broad(m, w, c, bound, base);
     }
 }
 
@@ -288,7 +214,7 @@ fn rebuild(
     buffers::copy(marks, bound);
     wide_marks::clear_free(m, w, c, bound);
     blank_lost(word, marks, out);
-    fill_all(m, w, c, bound, out);
+    fill_groups(m, w, c, bound, out);
     mend(m, w, c, marks, bound, out);
 }
 

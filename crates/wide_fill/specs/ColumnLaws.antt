@@ -4,7 +4,7 @@ use mathlib.Core.Bool.{true, false, true≢false}
 use mathlib.Core.List.{List, [], _∷_}
 use Prim.Native.Nat.{ℕ, zero, suc, _≤_, _<_}
 use native.Mathlib.Omega.{arith}
-use lib.ListN.{length, getD, replicate}
+use lib.ListN.{length, getD}
 use Rattle.binary_field.specs.Xor.{_⊕_}
 use Rattle.binary_field.specs.XorLaws.{⊕-self}
 use Rattle.binary_field.specs.Sum.{sumBelow}
@@ -23,13 +23,6 @@ unfolding columnOf
 column-at [] i = refl
 column-at (v ∷ vs) zero = refl
 column-at (v ∷ vs) (suc i) = column-at vs i
-
-pub zeros-at : (i : ℕ) → getD {A = ℕ} (replicate 4 0) i 0 ≡ 0
-zeros-at zero = refl
-zeros-at (suc zero) = refl
-zeros-at (suc (suc zero)) = refl
-zeros-at (suc (suc (suc zero))) = refl
-zeros-at (suc (suc (suc (suc i)))) = refl
 
 -- none is lost
 pub filled-none : (E : Edition) (marks xs : List ℕ) (t : ℕ) → t ≡ lostIn (length marks) marks 0 → t ≡ 0 → FilledIn E marks xs xs

@@ -1,13 +1,12 @@
 // Fills the lost places of one group of the sixteen-bit edition from the group's own local equations, of which t lost places take the first t.
 ghost use mathlib.Core.Path.{_≡_};
-ghost use Prim.Native.Nat.{ℕ, _*_, _≤_, _<_};
+ghost use Prim.Native.Nat.{ℕ, _≤_, _<_};
 ghost use lib.ListN.{length, getD};
 ghost use Rattle.fill.specs.Filled.{FilledIn};
 ghost use Rattle.fill.specs.Positions.{Inside, Found};
 ghost use Rattle.fill.specs.Placed.{placed};
 ghost use Rattle.wide_field.specs.LocatorRow.{locatorRow};
 ghost use Rattle.wide_edition.specs.Edition.{wideEdition};
-ghost use Rattle.wide_sums.specs.Rows.{IsRows};
 ghost use Rattle.wide_fill.specs.Column.{columnOf};
 
 // The positions of the first four lost places, in order, and how many places are lost.
@@ -65,35 +64,6 @@ fn locators_of(at: [usize; 4]) -> [u16; 4]
     let c = locator(&row, at[2]);
     let d = locator(&row, at[3]);
     [a, b, c, d]
-}
-
-// The same as fill, worked in x by sixteen rows of the stretch's places.
-pub fn fill_by(part: &mut [u16], marks: &[u8], x: &mut [u16], rows: &[u16])
-    ensures filled { λ _. ⌜ (length (now (x .entry)) ≡ length (now (part .entry)) → length (now (rows .entry)) ≡ 16 * length (now (part .entry)) → IsRows (length (now (part .entry))) (now (rows .entry)) → FilledIn wideEdition (now (marks .entry)) (now (part .entry)) (now (part .exit))) ⌝ }
-    ensures size { λ _. ⌜ length (now (part .exit)) ≡ length (now (part .entry)) ⌝ }
-    ensures room { λ _. ⌜ length (now (x .exit)) ≡ length (now (x .entry)) ⌝ }
-{
-    if 256 < part.len() {
-        return;
-    }
-    if marks.len() != part.len() {
-        return;
-    }
-    let erasures = find(marks);
-    let t = erasures.count;
-    if 4 < t {
-        return;
-    }
-    if t == 0 {
-        return;
-    }
-    let at = erasures.at;
-    let none = [0u16; 4];
-    place(part, at, none, t);
-    let sums = wide_sums::sums_by(part, x, rows, t);
-    let locators = locators_of(at);
-    let u = wide_solve::symbols(locators, sums, t);
-    place(part, at, u, t);
 }
 
 // Fills the lost places, if at most four of at most 256 are lost; what stood there does not count. Else nothing changes.

@@ -2,5 +2,3 @@ pub mod PowerSums
 pub mod PowerSumsLaws
 pub mod Survey
 pub mod SurveyLaws
-pub mod Rows
-pub mod RowsLaws

@@ -24,8 +24,8 @@ keeps k =
     let s = d .before .before .before .before .before .before in
     bound-copy (s .pre .0) (s .pre .1 .1 .0) (d .copy .ensures .0 (s .pre .1 .1 .0 ∙ sym (s .pre .1 .1 .1 .0))) (k .clear-free .ensures .0)
 
-fill-all-requires : tie.Need-fill-all-requires
-fill-all-requires c κs =
+fill-groups-requires : tie.Need-fill-groups-requires
+fill-groups-requires c κs =
     let b = c .before .before .before .before in
     let k = b .before .before .before .before in
     let s = k .before .before .before .before .before .before .before .before .before .before in
@@ -37,7 +37,7 @@ mend-requires c κs =
     let b = f .before .before .before .before .before in
     let k = b .before .before .before .before in
     let s = k .before .before .before .before .before .before .before .before .before .before in
-    (s .pre .0, (f .fill-all .ensures .size ∙ b .blank-lost .ensures .size ∙ s .pre .1 .0, (s .pre .1 .1 .0, keeps k)))
+    (s .pre .0, (f .fill-groups .ensures .size ∙ b .blank-lost .ensures .size ∙ s .pre .1 .0, (s .pre .1 .1 .0, keeps k)))
 
 same-length : tie.Need-same-length
 same-length c = search needs
@@ -57,8 +57,9 @@ returns c =
     let a = s .args in
     is-candidate wide-sound (a .m) (a .w) (a .c) (s .pre .0) (a .marks .now) _ (a .word .now) _ _ _
     (record { size = s .pre .1 .0; each = λ p. x .shared-slice-known .given p .fits })
-    (record { size = f .fill-all .ensures .size ∙ b .blank-lost .ensures .size ∙ s .pre .1 .0; each = λ p. y .slice-known6 .given p .fits }) (s .pre .1 .1 .0)
-    (keeps k) (b .blank-lost .ensures) (f .fill-all .ensures) (e .mend .ensures)
+    (record { size = f .fill-groups .ensures .size ∙ b .blank-lost .ensures .size ∙ s .pre .1 .0; each = λ p. y .slice-known6 .given p .fits })
+    (s .pre .1 .1 .0)
+    (keeps k) (b .blank-lost .ensures) (f .fill-groups .ensures) (e .mend .ensures)
 
 pub rebuild-spec : {M : Type 1} → statement M
 rebuild-spec =
@@ -67,7 +68,7 @@ rebuild-spec =
     copy-requires
     clear-free-requires
     blank-lost-requires
-    fill-all-requires
+    fill-groups-requires
     mend-requires
     same-length
     same-length-2

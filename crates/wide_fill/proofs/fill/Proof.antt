@@ -5,7 +5,7 @@ use native.Mathlib.Omega.{arith}
 use lib.ListN.{length, getD, replicate}
 use Rattle.wide_edition.specs.Edition.{wideEdition}
 use Rattle.fill.proofs.Laws.{unchanged}
-use Rattle.wide_fill.specs.ColumnLaws.{zeros-at, filled-none, filled-by}
+use Rattle.wide_fill.specs.ColumnLaws.{filled-none, filled-by}
 use Rattle.wide_fill.specs.SolvedLaws.{locators-differ, solved-by}
 use borrow.Author.Needs.{needs}
 use Rattle.wide_fill.proofs.fill.Statement.{statement}
@@ -17,6 +17,13 @@ use Rattle.wide_fill.proofs.locators_of.Reads as locators-of-reads
 use Rattle.wide_fill.proofs.place.Reads as place-reads
 use Rattle.wide_solve.proofs.symbols.Reads as symbols-reads
 use Rattle.wide_sums.proofs.power_sums.Reads as power-sums-reads
+
+zeros : (i : ℕ) → getD {A = ℕ} (replicate 4 0) i 0 ≡ 0
+zeros zero = refl
+zeros (suc zero) = refl
+zeros (suc (suc zero)) = refl
+zeros (suc (suc (suc zero))) = refl
+zeros (suc (suc (suc (suc i)))) = refl
 
 returns : tie.Need-returns
 returns c = search needs
@@ -71,7 +78,7 @@ returns-5 c =
     let own = x .locators-of .ensures in
     let apart = locators-differ (f .find .result .at) (x .locators-of .result) t few inside (P .ascending) own in
     filled-by wideEdition (a .marks .now) (a .part .now) (z .place .last .0) (p .place2 .last .0) (f .find .result .at) _ (y .symbols .result) t P
-    (z .place .ensures) (p .place2 .ensures) zeros-at (omega arith)
+    (z .place .ensures) (p .place2 .ensures) zeros (omega arith)
     (solved-by (f .find .result .at) (x .locators-of .result) t few inside (P .ascending) own (z .place .last .0) (y .symbols .result) (q .power-sums .result)
     (q .power-sums .ensures .0 (omega arith) (omega arith)) (y .symbols .ensures .0 few apart))
     w few (rw w at (f .find .ensures .all))

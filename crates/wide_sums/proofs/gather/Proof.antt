@@ -9,19 +9,16 @@ use Rattle.code.specs.Word.{localSum}
 use Rattle.buffers.proofs.Laws.{passed-set}
 use Rattle.wide_edition.specs.Edition.{wideEdition}
 use Rattle.wide_sums.specs.PowerSums.{Raised}
-use Rattle.wide_sums.specs.Rows.{IsRows}
-use Rattle.wide_sums.specs.RowsLaws.{first-row}
 use Rattle.wide_sums.specs.PowerSumsLaws.{raised-none, raised-next, raised-sum}
 use Rattle.wide_sums.proofs.gather.Statement.{statement}
 use Rattle.wide_sums.proofs.gather.Tie as tie
 
 abbrev Inv-loop : tie.InvT-loop
-Inv-loop x₀ rows n sums₀ s e₀ x sums e =
-    (1 ≤ e) × (length sums ≡ 6) × (length x ≡ length x₀) × (IsRows (length x₀) rows → Raised (e - 1) x₀ x)
-    × (IsRows (length x₀) rows → (k : ℕ) → k < e → getD sums k 0 ≡ localSum wideEdition (length x₀) x₀ 0 k)
+Inv-loop x₀ row n sums₀ s e₀ x sums e =
+    (1 ≤ e) × (length sums ≡ 6) × Raised (e - 1) x₀ x × ((k : ℕ) → k < e → getD sums k 0 ≡ localSum wideEdition (length x₀) x₀ 0 k)
 
 abbrev μ-loop : tie.MeasureT-loop
-μ-loop x₀ rows n sums₀ s e₀ x sums e = n - e
+μ-loop x₀ row n sums₀ s e₀ x sums e = n - e
 
 sum-requires : tie.Need-sum-requires Inv-loop μ-loop
 sum-requires c κs = search needs
@@ -35,16 +32,15 @@ loop-holds c =
     let R : Raised 0 x x = raised-none x (λ p. c .before .before .before .slice-known .given p .fits) in (
       omega arith,
       refl,
-      refl,
-      λ I. R,
-      λ I. passed-set (λ k. localSum wideEdition (length x) x 0 k) (replicate 6 0) 0 _ (lit< tt)
-          (c .sum .ensures ∙ raised-sum R) (λ k l. absurd (omega arith)),
+      R,
+      passed-set (λ k. localSum wideEdition (length x) x 0 k) (replicate 6 0) 0 _ (lit< tt) (c .sum .ensures ∙ raised-sum R)
+          (λ k l. absurd (omega arith)),
     )
 
 multiply-requires : tie.Need-multiply-requires Inv-loop μ-loop
 multiply-requires c κs =
     let s = c .before .before in
-    rw (s .loop .inv .2) (s .before .before .before .before .before .pre .0)
+    s .before .before .before .before .before .pre .0 ∙ sym (s .loop .inv .2 .size)
 
 sum-requires-2 : tie.Need-sum-requires-2 Inv-loop μ-loop
 sum-requires-2 c κs = search needs
@@ -69,25 +65,19 @@ loop-again c =
     let e : ℕ = s .loop .e in
     let y : List ℕ = c .before .before .before .before .multiply .last .0 in
     let q : suc (e - 1) ≡ e = omega arith in
-    let m = c .before .before .before .before .multiply in
-    let rows : List ℕ = a .args .rows .now in
-    let same = s .loop .inv .2 in
-    let R : IsRows (length x) rows → Raised e x y =
-    λ I. subst (λ n. Raised n x y) q (raised-next (s .loop .inv .3 I) (first-row (length x) rows I)
-    (m .ensures .1 (subst (λ n. IsRows n rows) (sym same) I))) in
+    let R : Raised e x y = subst (λ n. Raised n x y) q (raised-next (s .loop .inv .2) (a .pre .1 .0) (c .before .before .before .before .multiply .ensures)) in
     let z : e + 1 - 1 ≡ e = omega arith in (
       omega arith,
       simp length-set (s .loop .inv .1),
-      m .ensures .0 ∙ same,
-      λ I. subst (λ n. Raised n x y) (sym z) (R I),
-      λ I. passed-set (λ k. localSum wideEdition (length x) x 0 k) (s .loop .sums) e _ (omega arith) (c .sum2 .ensures ∙ raised-sum (R I)) (s .loop .inv .4 I),
+      subst (λ n. Raised n x y) (sym z) R,
+      passed-set (λ k. localSum wideEdition (length x) x 0 k) (s .loop .sums) e _ (omega arith) (c .sum2 .ensures ∙ raised-sum R) (s .loop .inv .3),
     )
 
 same-length : tie.Need-same-length Inv-loop μ-loop
-same-length c = c .before .loop .inv .2
+same-length c = c .before .loop .inv .2 .size
 
 returns : tie.Need-returns Inv-loop μ-loop
-returns c = (c .before .loop .inv .2, λ I k l. c .before .loop .inv .4 I k (omega arith))
+returns c = λ k l. c .before .loop .inv .3 k (omega arith)
 
 pub gather-spec : {M : Type 1} → statement M
 gather-spec =
