@@ -35,7 +35,7 @@ module _ (E : Edition) where
   abbrev pub firstAcross : ℕ → ℕ → ℕ → List ℕ → ℕ
   firstAcross m w c word = wordSum m w word (λ _. coefficient c)
 
-  -- "the sum over all places, in group i counted from 0, of byte·2^i·b^16"
+  -- "the sum over all places, in group i counted from 0, of byte·2^i·b^16"; b to the small field's size, so b^256 in the sixteen-bit edition
   abbrev pub secondAcross : ℕ → ℕ → ℕ → List ℕ → ℕ
   secondAcross m w c word = wordSum m w word (secondCoefficient c)
 
