@@ -86,7 +86,7 @@ fn next_free(marks: &[u8], bound: &[u8], start: usize) -> usize
     i
 }
 
-// Whether all marks are bound.
+// Whether every mark is bound, so that no place is free.
 fn all_bound(marks: &[u8], bound: &[u8]) -> bool
     ensures { λ r. ⌜ (r ≡ true → (p : ℕ) → p < length (now (marks .entry)) → getD (now (marks .entry)) p 0 ≡ getD (now (bound .entry)) p 0) ⌝ }
 {
