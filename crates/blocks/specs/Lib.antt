@@ -3,3 +3,4 @@ pub mod ColumnsLaws
 pub mod Rebuild
 pub mod Steps
 pub mod RebuildLaws
+pub mod EngineLaws

@@ -256,10 +256,10 @@ module _ (m w c size : ℕ) (blocks marks : List ℕ) where
     pub rebuild-done : (P : Rebuilt → Type 0) → P (contradictionAt m w c size blocks marks) → ((x g : ℕ) → P (Rebuilt.Contradictory x g) → ⊥)
         → rebuildOf m w c size blocks marks ≡ doneRebuild (rebuiltBlocks m w c size blocks marks) marks
     unfolding rebuildOf contradictionAt
-    rebuild-done P p n = rw none (go (ltb (contradictingWord m w c size blocks marks) size) _ _ p)
+    rebuild-done P p n = rw none (go (ltb (contradictingWord m w c size blocks marks) size) _ _ _ p)
       where
-        go : (b : Bool) (y h : ℕ) → P (cond b (Rebuilt.Contradictory y h) Rebuilt.Done)
-            → cond b (contradictoryRebuild y h blocks marks) (doneRebuild (rebuiltBlocks m w c size blocks marks) marks)
+        go : (b : Bool) (y h : ℕ) (o : RebuildOutcome) → P (cond b (Rebuilt.Contradictory y h) Rebuilt.Done)
+            → cond b o (doneRebuild (rebuiltBlocks m w c size blocks marks) marks)
             ≡ doneRebuild (rebuiltBlocks m w c size blocks marks) marks
-        go true y h d = absurd (n y h d)
-        go false y h d = refl
+        go true y h o d = absurd (n y h d)
+        go false y h o d = refl

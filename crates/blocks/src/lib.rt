@@ -5,10 +5,12 @@ ghost use mathlib.Core.Path.{_≡_};
 ghost use Prim.Native.Nat.{ℕ, _*_, _≤_, _<_};
 ghost use lib.ListN.{length};
 ghost use Rattle.shape.specs.Shapes.{Good, placeCount};
+ghost use Rattle.code.specs.Marks.{excess};
 ghost use Rattle.shape.specs.Answers.{mendingAt};
 ghost use Rattle.recover.specs.Recover.{recoverOf};
 ghost use Rattle.blocks.specs.Columns.{blockWord};
 ghost use Rattle.blocks.specs.Rebuild.{blocksRefusal, rebuildRefusal, wordOutcome, rebuiltBlocks, rebuildOf, outcomeRebuilt};
+ghost use Rattle.blocks.specs.Rebuild.{rebuiltNumber, rebuiltWord, rebuiltGroup};
 ghost use Rattle.blocks.specs.Steps.{Lent, Room, contradictionAt, WordRebuilt};
 
 // The answer of a rebuild: done, contradictory with the lowest word that contradicts and its group, or the number of another refusal.
@@ -179,6 +181,46 @@ fn rebuild_words(m: usize, w: usize, c: usize, size: usize, blocks: &mut [u8], m
     }
 }
 
+// The group that word x contradicts with.
+fn group_at(m: usize, w: usize, c: usize, size: usize, x: usize, blocks: &[u8], marks: &[u8]) -> u8
+    requires { ⌜ Room m w c size x (now blocks) (now marks) ⌝ }
+    requires { ⌜ (wordOutcome m w c size (now blocks) (now marks) x) .number ≡ 9 ⌝ }
+    ensures { λ r. ⌜ r ≡ (wordOutcome m w c size (now (blocks .entry)) (now (marks .entry)) x) .group ⌝ }
+{
+    let n = marks.len();
+    let mut word = [0u8; 240];
+    let answer = recover_word(m, w, c, size, x, blocks, marks, &mut word[..n]);
+    if let Mending::Contradictory(g) = answer {
+        return g;
+    }
+    0
+}
+
+// The same as below where no group has lost more than c places, by sums of whole blocks.
+fn rebuild_kept(
+    m: usize,
+    w: usize,
+    c: usize,
+    size: usize,
+    blocks: &mut [u8],
+    marks: &mut [u8],
+) -> Rebuilt
+    requires { ⌜ rebuildRefusal m w c size (length (now blocks)) (now marks) ≡ 0 ⌝ }
+    requires { ⌜ excess m w c (now marks) ≡ 0 ⌝ }
+    ensures answer { λ r. ⌜ r ≡ outcomeRebuilt (rebuildOf m w c size (now (blocks .entry)) (now (marks .entry))) ⌝ }
+    ensures blocks { λ _. ⌜ now (blocks .exit) ≡ (rebuildOf m w c size (now (blocks .entry)) (now (marks .entry))) .blocks ⌝ }
+    ensures marks { λ _. ⌜ now (marks .exit) ≡ (rebuildOf m w c size (now (blocks .entry)) (now (marks .entry))) .marks ⌝ }
+{
+    let x = block_engine::lowest(m, w, c, size, blocks, marks);
+    if x < size {
+        let group = group_at(m, w, c, size, x, blocks, marks);
+        return Rebuilt::Contradictory { word: x, group };
+    }
+    block_engine::restore(m, w, c, size, blocks, marks);
+    buffers::clear_if(true, marks);
+    Rebuilt::Done
+}
+
 // Recovers all words of the blocks and clears the marks, or refuses and changes nothing.
 pub fn rebuild(
     m: usize,
@@ -191,10 +233,16 @@ pub fn rebuild(
     ensures answer { λ r. ⌜ r ≡ outcomeRebuilt (rebuildOf m w c size (now (blocks .entry)) (now (marks .entry))) ⌝ }
     ensures blocks { λ _. ⌜ now (blocks .exit) ≡ (rebuildOf m w c size (now (blocks .entry)) (now (marks .entry))) .blocks ⌝ }
     ensures marks { λ _. ⌜ now (marks .exit) ≡ (rebuildOf m w c size (now (blocks .entry)) (now (marks .entry))) .marks ⌝ }
+    ensures number { λ r. ⌜ rebuiltNumber r ≡ (rebuildOf m w c size (now (blocks .entry)) (now (marks .entry))) .number ⌝ }
+    ensures word { λ r. ⌜ rebuiltWord r ≡ (rebuildOf m w c size (now (blocks .entry)) (now (marks .entry))) .word ⌝ }
+    ensures group { λ r. ⌜ rebuiltGroup r ≡ (rebuildOf m w c size (now (blocks .entry)) (now (marks .entry))) .group ⌝ }
 {
     let r = refusal(m, w, c, size, blocks.len(), marks);
     if r != 0 {
         return Rebuilt::Refused(r);
+    }
+    if marks::excess_of(m, w, c, marks) == 0 {
+        return rebuild_kept(m, w, c, size, blocks, marks);
     }
     let found = first_contradiction(m, w, c, size, blocks, marks);
     if let Rebuilt::Contradictory { word, group } = found {

@@ -22,7 +22,7 @@ returns c =
     let r = c .before .before .before .before .before in
     let a = r .before .before .before .before .before .args in
     let e = r .rebuild .ensures in
-    (c .answer-of .ensures ∙ ap rebuiltAnswer (e .0) ∙ answer-is (a .m) (a .w) (a .c) (a .length) (a .blocks .now) (a .marks .now), (e .1 .0, e .1 .1))
+    (c .answer-of .ensures ∙ ap rebuiltAnswer (e .0) ∙ answer-is (a .m) (a .w) (a .c) (a .length) (a .blocks .now) (a .marks .now), (e .1 .0, e .1 .1 .0))
 
 pub axlebloom-rebuild-spec : {M : Type 1} → statement M
 axlebloom-rebuild-spec =

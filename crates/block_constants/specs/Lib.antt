@@ -1,0 +1,4 @@
+pub mod Reduced
+pub mod ReducedLaws
+pub mod Equations
+pub mod EquationsLaws

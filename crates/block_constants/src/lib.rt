@@ -1,0 +1,103 @@
+// The equations of one group reduced at the places that it keeps, by Gauss-Jordan elimination: from them come all constants of a block rebuild.
+ghost use mathlib.Core.Path.{_≡_};
+ghost use Prim.Native.Nat.{ℕ, _≤_, _<_};
+ghost use lib.ListN.{length, getD};
+ghost use Rattle.binary_field.specs.Xor.{_⊕_};
+ghost use Rattle.byte_edition.specs.Edition.{byteEdition};
+ghost use Rattle.code.specs.Edition.{times};
+ghost use Rattle.code.specs.Marks.{lostIn};
+ghost use Rattle.solve.specs.Elimination.{entry};
+ghost use Rattle.block_constants.specs.Reduced.{ReducedTo, Pivoted};
+ghost use Rattle.block_constants.specs.Equations.{equationOf};
+
+// A row times f.
+pub fn scale(row: [u8; 16], f: u8) -> [u8; 16]
+    ensures { λ r. ⌜ ((j : ℕ) → j < 16 → getD r j 0 ≡ times byteEdition (getD row j 0) f) ⌝ }
+{
+    let mut r = row;
+    let mut j: usize = 0;
+    while j < 16 {
+        r[j] = gf256::shifted_product(row[j], f);
+        j += 1;
+    }
+    r
+}
+
+// A row plus f times the row b.
+fn add(row: [u8; 16], b: [u8; 16], f: u8) -> [u8; 16]
+    ensures { λ r. ⌜ ((j : ℕ) → j < 16 → getD r j 0 ≡ getD row j 0 ⊕ times byteEdition (getD b j 0) f) ⌝ }
+{
+    let mut r = row;
+    let mut j: usize = 0;
+    while j < 16 {
+        r[j] = row[j] ^ gf256::shifted_product(b[j], f);
+        j += 1;
+    }
+    r
+}
+
+// The pivot row b in place of row t, and each other row plus its entry in column p times b.
+fn clear(rows: [[u8; 16]; 6], b: [u8; 16], t: usize, p: usize) -> [[u8; 16]; 6]
+    requires { ⌜ p < 16 ⌝ }
+    ensures { λ r. ⌜ ((i : ℕ) → i < 6 → i ≡ t → (j : ℕ) → j < 16 → entry r i j ≡ getD b j 0) ⌝ }
+    ensures { λ r. ⌜ ((i : ℕ) → i < 6 → (i ≡ t → ⊥) → (j : ℕ) → j < 16 → entry r i j ≡ entry rows i j ⊕ times byteEdition (getD b j 0) (entry rows i p)) ⌝ }
+{
+    let mut r = rows;
+    let mut i: usize = 0;
+    while i < 6 {
+        if i == t {
+            r[i] = b;
+        } else {
+            let row = rows[i];
+            let new = add(row, b, row[p]);
+            r[i] = new;
+        }
+        i += 1;
+    }
+    r
+}
+
+// Row t divided by its entry in column p, and that column cleared in the other rows.
+fn pivot(rows: [[u8; 16]; 6], t: usize, p: usize) -> [[u8; 16]; 6]
+    requires { ⌜ (t < 6) × (p < 16) ⌝ }
+    ensures { λ r. ⌜ Pivoted byteEdition 16 6 p t (entry rows) (entry r) ⌝ }
+{
+    let row = rows[t];
+    let f = gf256::inverse(row[p]);
+    let b = scale(row, f);
+    clear(rows, b, t, p)
+}
+
+// The six equations of a group: the first four local sums, and the two sums across, of which the coefficients are lent.
+fn equations(first: [u8; 16], second: [u8; 16]) -> [[u8; 16]; 6]
+    ensures { λ r. ⌜ ((i : ℕ) → i < 6 → (j : ℕ) → j < 16 → entry r i j ≡ equationOf first second i j) ⌝ }
+{
+    let a = check_rows::power_row(0);
+    let b = check_rows::power_row(1);
+    let c = check_rows::power_row(2);
+    let d = check_rows::power_row(3);
+    [a, b, c, d, first, second]
+}
+
+// The six equations, reduced at its kept places, where these are at most four of at most sixteen.
+pub fn group_rows(kept: &[u8], first: [u8; 16], second: [u8; 16]) -> [[u8; 16]; 6]
+    ensures { λ r. ⌜ (length (now (kept .entry)) ≤ 16 → 1 ≤ length (now (kept .entry)) → lostIn (length (now (kept .entry))) (now (kept .entry)) 0 ≤ 4 → ReducedTo byteEdition (length (now (kept .entry))) 6 (now (kept .entry)) (length (now (kept .entry))) (lostIn (length (now (kept .entry))) (now (kept .entry)) 0) (equationOf first second) (entry r)) ⌝ }
+{
+    let mut rows = equations(first, second);
+    if 16 < kept.len() {
+        return rows;
+    }
+    let mut t: usize = 0;
+    let mut p: usize = 0;
+    while p < kept.len() {
+        if kept[p] == 1 {
+            if t < 4 {
+                let next = pivot(rows, t, p);
+                rows = next;
+                t += 1;
+            }
+        }
+        p += 1;
+    }
+    rows
+}

@@ -1,0 +1,101 @@
+use mathlib.Core.Path.{_≡_, refl, sym, ap}
+use mathlib.Core.Bool.{cond}
+use mathlib.Core.Logic.{_⊎_, inl, inr}
+use mathlib.Core.List.{List}
+use Prim.Native.Nat.{ℕ, _≤_, _<_, _-_}
+use native.Mathlib.Omega.{arith}
+use lib.ListN.{length, getD, set, length-set}
+use borrow.Author.Tests.{eq-eqb, ne-eqb}
+use Rattle.fill.proofs.Laws.{each-set}
+use Rattle.block_engine.specs.Group.{masked}
+use Rattle.block_engine.proofs.pack_row.Statement.{statement}
+use Rattle.block_engine.proofs.pack_row.Tie as tie
+use Rattle.block_engine.proofs.pack_row.Reads as reads
+use Rattle.block_engine.proofs.pack_row.Lts as lts
+
+abbrev Inv-loop : tie.InvT-loop
+Inv-loop kept out₀ row j₀ out j =
+    (j ≤ length kept) × (length out ≡ length out₀) × ((k : ℕ) → k < j → getD out k 0 ≡ masked kept (λ i. getD row i 0) k)
+
+abbrev μ-loop : tie.MeasureT-loop
+μ-loop kept out₀ row j₀ out j = length kept - j
+
+-- src/lib.rt:90:5
+loop-holds : tie.Need-loop-holds Inv-loop μ-loop
+loop-holds c = (omega arith, refl, λ k l. absurd (omega arith))
+
+-- src/lib.rt:91:12
+shared-slice-read-if1 : tie.Need-shared-slice-read-if1 Inv-loop μ-loop
+shared-slice-read-if1 c = omega arith
+
+-- src/lib.rt:92:13
+slice-write-out : tie.Need-slice-write-out Inv-loop μ-loop
+slice-write-out c = omega arith
+
+-- src/lib.rt:94:22
+array-read-out : tie.Need-array-read-out Inv-loop μ-loop
+array-read-out c = omega arith
+
+-- src/lib.rt:94:13
+slice-write-out-2 : tie.Need-slice-write-out-2 Inv-loop μ-loop
+slice-write-out-2 c = omega arith
+
+-- src/lib.rt:96:9
+add-j : tie.Need-add-j Inv-loop μ-loop
+add-j c = omega arith
+
+-- src/lib.rt:90:5
+loop-less : tie.Need-loop-less Inv-loop μ-loop
+loop-less c = omega arith
+
+-- src/lib.rt:90:5
+loop-again : tie.Need-loop-again Inv-loop μ-loop
+loop-again c =
+    let s = c .before .before .before in
+    let a = s .before .args in
+    let k : List ℕ = a .kept .now in
+    let o : List ℕ = s .loop .out in
+    let j : ℕ = s .loop .j in
+    elim (c .if1 .came) [
+      | inl v ↦
+          (let y : c .if1 .out ≡ set o j 0 = v .1 in (
+            omega arith,
+            rw (y, length-set) (s .loop .inv .1),
+            rw y
+                (each-set (λ i b. b ≡ masked k (λ i. getD (a .t1) i 0) i) o j 0 0 (omega arith) (s .loop .inv .2)
+                (sym (ap (λ b. cond b 0 (getD (a .t1) j 0)) (eq-eqb (getD k j 0) 1 (v .0 .taken))))),
+          ))
+      | inr v ↦
+          (let y : c .if1 .out ≡ set o j (getD (a .t1) j 0) = v .1 in (
+            omega arith,
+            rw (y, length-set) (s .loop .inv .1),
+            rw y
+                (each-set (λ i b. b ≡ masked k (λ i. getD (a .t1) i 0) i) o j _ 0 (omega arith) (s .loop .inv .2)
+                (sym (ap (λ b. cond b 0 (getD (a .t1) j 0)) (ne-eqb (getD k j 0) 1 (v .0 .left))))),
+          ))
+    ]
+
+-- src/lib.rt:84:1
+same-length : tie.Need-same-length Inv-loop μ-loop
+same-length c = omega arith
+
+-- src/lib.rt:84:1
+returns : tie.Need-returns Inv-loop μ-loop
+returns c = let l = c .before .loop in (l .inv .1, λ k h. l .inv .2 k (omega arith))
+
+pub pack-row-spec : {M : Type 1} → statement M
+pack-row-spec =
+    tie.close
+    (tie.spec
+    Inv-loop
+    μ-loop
+    loop-holds
+    shared-slice-read-if1
+    slice-write-out
+    array-read-out
+    slice-write-out-2
+    add-j
+    loop-less
+    loop-again
+    same-length
+    returns)

@@ -1,0 +1,127 @@
+use mathlib.Core.Path.{_≡_, sym, ap, _∙_}
+use mathlib.Core.List.{List}
+use Prim.Native.Nat.{ℕ, suc, _≤_, _<_, _+_, _*_, _-_}
+use native.Mathlib.Omega.{arith}
+use lib.ListN.{length}
+use Rattle.shape.specs.Laws.{places-most}
+use Rattle.code.specs.Stretch.{stretch}
+use Rattle.code.specs.StretchLaws.{stretch-length}
+use Rattle.code.specs.LentLaws.{stretch-lent}
+use Rattle.block_engine.specs.Group.{Mendable}
+use Rattle.block_engine.specs.Steps.{Limit, placeSymbol}
+use Rattle.block_engine.specs.StepsLaws.{row-inside, limit-none, limit-more, limit-next}
+use Rattle.block_engine.specs.PassLaws.{given-end, given-few}
+use Rattle.block_engine.proofs.test_groups.Statement.{statement}
+use Rattle.block_engine.proofs.test_groups.Tie as tie
+use Rattle.block_engine.proofs.test_groups.Reads as reads
+use Rattle.block_engine.proofs.test_groups.Lts as lts
+use Rattle.block_engine.proofs.test_group.Reads as test-group-reads
+
+abbrev Inv-loop : tie.InvT-loop
+Inv-loop m w c size blocks kept first second limit₀ g₀ limit g =
+    (g ≤ m) × Limit size limit (λ x. (h : ℕ) → h < g → Mendable w c h (stretch w h kept) (λ j. placeSymbol size blocks x (h * w + j)))
+
+abbrev μ-loop : tie.MeasureT-loop
+μ-loop m w c size blocks kept first second limit₀ g₀ limit g = m - g
+
+-- src/lib.rt:164:5
+loop-holds : tie.Need-loop-holds Inv-loop μ-loop
+loop-holds c = (omega arith, limit-none _ _ (λ x l h b. absurd (omega arith)))
+
+-- src/lib.rt:165:17
+mul-a : tie.Need-mul-a Inv-loop μ-loop
+mul-a c =
+    let s = c .before in
+    let b = s .before .before .before in
+    let h = row-inside (s .loop .g) (b .args .m) (b .args .w) (omega arith) in
+    let p = places-most (b .pre .0 .good) in
+    let k = b .pre .0 .kept-size in
+    omega arith
+
+-- src/lib.rt:166:17
+add-e : tie.Need-add-e Inv-loop μ-loop
+add-e c =
+    let s = c .before in
+    let b = s .before .before .before in
+    let h = row-inside (s .loop .g) (b .args .m) (b .args .w) (omega arith) in
+    let p = places-most (b .pre .0 .good) in
+    let k = b .pre .0 .kept-size in
+    omega arith
+
+-- src/lib.rt:167:48
+sub-test-group : tie.Need-sub-test-group Inv-loop μ-loop
+sub-test-group c = omega arith
+
+-- src/lib.rt:167:48
+part-test-group-start : tie.Need-part-test-group-start Inv-loop μ-loop
+part-test-group-start c = omega arith
+
+-- src/lib.rt:167:48
+part-test-group-end : tie.Need-part-test-group-end Inv-loop μ-loop
+part-test-group-end c =
+    let s = c .before in
+    let b = s .before .before .before in
+    let h = row-inside (s .loop .g) (b .args .m) (b .args .w) (omega arith) in
+    let p = places-most (b .pre .0 .good) in
+    let k = b .pre .0 .kept-size in
+    omega arith
+
+-- src/lib.rt:167:9
+test-group-requires : tie.Need-test-group-requires Inv-loop μ-loop
+test-group-requires c κs =
+    let s = c .before .before in
+    let b = s .before .before .before in
+    let a = b .args in
+    let k : List ℕ = a .kept .now in
+    let g : ℕ = s .loop .g in
+    let G = b .pre .0 in
+    let E = given-end (a .m) (a .w) (a .c) (a .size) g (a .blocks .now) k G (omega arith) in
+    let q = G .good in
+    let f = given-few (a .m) (a .w) (a .c) (a .size) g (a .blocks .now) k G (omega arith) in
+    rw (stretch-lent (a .w) g k, stretch-length (a .w) g k (E .0))
+    ((omega arith, omega arith, omega arith, f), ((omega arith, E .1, G .most, s .loop .inv .1 .most), b .pre .1))
+
+-- src/lib.rt:168:9
+add-g : tie.Need-add-g Inv-loop μ-loop
+add-g c = omega arith
+
+-- src/lib.rt:164:5
+loop-less : tie.Need-loop-less Inv-loop μ-loop
+loop-less c = omega arith
+
+-- src/lib.rt:164:5
+loop-again : tie.Need-loop-again Inv-loop μ-loop
+loop-again c =
+    let f = c in
+    let s = f .before .before .before in
+    let b = s .before .before .before in
+    let a = b .args in
+    let k : List ℕ = a .kept .now in
+    let g : ℕ = s .loop .g in
+    let E = given-end (a .m) (a .w) (a .c) (a .size) g (a .blocks .now) k (b .pre .0) (omega arith) in
+    (omega arith, limit-next g _ (s .loop .inv .1) (rw (stretch-lent (a .w) g k, stretch-length (a .w) g k (E .0)) at (f .test-group .ensures)))
+
+-- src/lib.rt:148:1
+returns : tie.Need-returns Inv-loop μ-loop
+returns c =
+    let s = c .before in
+    let e : s .loop .g ≡ s .before .before .before .args .m = omega arith in
+    rw e at (s .loop .inv .1)
+
+pub test-groups-spec : {M : Type 1} → statement M
+test-groups-spec =
+    tie.close
+    (tie.spec
+    Inv-loop
+    μ-loop
+    loop-holds
+    mul-a
+    add-e
+    sub-test-group
+    part-test-group-start
+    part-test-group-end
+    test-group-requires
+    add-g
+    loop-less
+    loop-again
+    returns)

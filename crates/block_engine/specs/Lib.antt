@@ -1,0 +1,13 @@
+pub mod Group
+pub mod GroupLaws
+pub mod Steps
+pub mod StepsLaws
+pub mod Whole
+pub mod WholeLaws
+pub mod PassLaws
+pub mod Free
+pub mod FreeLaws
+pub mod Rest
+pub mod RestLaws
+pub mod Ready
+pub mod ReadyLaws

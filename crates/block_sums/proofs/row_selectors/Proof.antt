@@ -1,0 +1,129 @@
+use native.Mathlib.Decide.{decLt}
+use Rattle.block_tables.specs.SelectorLaws.{selector-past}
+use mathlib.Core.Path.{_≡_, refl, sym, ap, _∙_}
+use mathlib.Core.List.{List}
+use Prim.Native.Nat.{ℕ, _+_, _*_, _-_, _≤_, _<_}
+use native.Mathlib.Decide.{ℕ-discrete}
+use lib.ListN.{length, getD, length-set}
+use lib.Seq.{getD-set-same, getD-set-other}
+use Rattle.block_tables.specs.Table.{selectorAt}
+use native.Mathlib.Omega.{arith}
+use borrow.Author.Needs.{needs}
+use Rattle.block_sums.proofs.row_selectors.Statement.{statement}
+use Rattle.block_sums.proofs.row_selectors.Tie as tie
+use Rattle.block_sums.proofs.row_selectors.Reads as reads
+use Rattle.block_sums.proofs.row_selectors.Lts as lts
+use Rattle.block_sums.proofs.constant.Reads as constant-reads
+use Rattle.block_sums.proofs.selector.Reads as selector-reads
+
+abbrev Inv-loop : tie.InvT-loop
+Inv-loop k found₀ s₀ found s =
+    (s ≤ 60) × (length found ≡ 60) × ((j : ℕ) → j < s → getD found j 0 ≡ selectorAt k j) × ((j : ℕ) → s ≤ j → j < 60 → getD found j 0 ≡ 0)
+
+abbrev μ-loop : tie.MeasureT-loop
+μ-loop k found₀ s₀ found s = 60 - s
+
+loop-holds : tie.Need-loop-holds Inv-loop μ-loop
+loop-holds c = (omega arith, omega arith, (λ j l. absurd (omega arith)), λ j l b. c .before .before .pre .1 j b)
+
+mul-loop : tie.Need-mul-loop Inv-loop μ-loop
+mul-loop c = omega arith
+
+mul-j : tie.Need-mul-j Inv-loop μ-loop
+mul-j c = omega arith
+
+constant-requires : tie.Need-constant-requires Inv-loop μ-loop
+constant-requires c κs = search needs
+
+add-constant : tie.Need-add-constant Inv-loop μ-loop
+add-constant c = omega arith
+
+constant-requires-2 : tie.Need-constant-requires-2 Inv-loop μ-loop
+constant-requires-2 c κs = omega arith
+
+add-constant-2 : tie.Need-add-constant-2 Inv-loop μ-loop
+add-constant-2 c = omega arith
+
+constant-requires-3 : tie.Need-constant-requires-3 Inv-loop μ-loop
+constant-requires-3 c κs = omega arith
+
+add-constant-3 : tie.Need-add-constant-3 Inv-loop μ-loop
+add-constant-3 c = omega arith
+
+constant-requires-4 : tie.Need-constant-requires-4 Inv-loop μ-loop
+constant-requires-4 c κs = omega arith
+
+selector-requires : tie.Need-selector-requires Inv-loop μ-loop
+selector-requires c κs = search needs
+
+mul-found : tie.Need-mul-found Inv-loop μ-loop
+mul-found c = omega arith
+
+slice-write-found : tie.Need-slice-write-found Inv-loop μ-loop
+slice-write-found c = omega arith
+
+add-s : tie.Need-add-s Inv-loop μ-loop
+add-s c = omega arith
+
+loop-less : tie.Need-loop-less Inv-loop μ-loop
+loop-less c = omega arith
+
+-- the selector stored
+value : (c :
+    lts.After-selector (constant-reads.Asked, constant-reads.Learnt, selector-reads.Asked, selector-reads.Learnt) reads.Pre reads.Post Inv-loop μ-loop)
+    → c .selector .result ≡ selectorAt (c .before .before .before .before .before .before .before .before .before .args .k .now)
+    (c .before .before .before .before .before .before .loop .s)
+unfolding selectorAt
+value c = cc
+
+loop-again : tie.Need-loop-again Inv-loop μ-loop
+loop-again c =
+    let s = c .before .before .before .before .before .before in
+    let l = s .loop in
+    let i : ℕ = l .s in
+    let w = slice-write-found c in (
+      omega arith,
+      simp length-set (l .inv .1),
+      (λ j h. elim (ℕ-discrete j i) [
+        | yes e ↦ (rw e (getD-set-same (l .found) i _ 0 w ∙ value c))
+        | no e ↦ getD-set-other (l .found) i j _ 0 e ∙ l .inv .2 j (omega arith)
+      ]),
+      λ j h b. getD-set-other (l .found) i j _ 0 (λ e. omega arith) ∙ l .inv .3 j (omega arith) b,
+    )
+
+same-length : tie.Need-same-length Inv-loop μ-loop
+same-length c = omega arith
+
+returns : tie.Need-returns Inv-loop μ-loop
+returns c =
+    let l = c .before .loop in
+    let k : List ℕ = c .before .before .before .before .args .k .now in
+    λ s h. elim (decLt s (l .s)) [
+      | yes e ↦ l .inv .2 s e
+      | no e ↦ l .inv .3 s (omega arith) h ∙ sym (selector-past k s (omega arith))
+    ]
+
+pub row-selectors-spec : {M : Type 1} → statement M
+row-selectors-spec =
+    tie.close
+    (tie.spec
+    Inv-loop
+    μ-loop
+    loop-holds
+    mul-loop
+    mul-j
+    constant-requires
+    add-constant
+    constant-requires-2
+    add-constant-2
+    constant-requires-3
+    add-constant-3
+    constant-requires-4
+    selector-requires
+    mul-found
+    slice-write-found
+    add-s
+    loop-less
+    loop-again
+    same-length
+    returns)

@@ -1,0 +1,1 @@
+// Tables of the sums of four blocks: definitions and laws alone.
