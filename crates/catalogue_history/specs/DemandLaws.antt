@@ -109,15 +109,6 @@ compacted-entry cat t name =
     go false true d e l = let k = l d in inr (d, e ∙ rw d, omega arith)
     go false false d e l = inl (e ∙ rw d)
 
--- "the floor never falls"
-pub compacted-floor : (cat : Catalogue) → cat .floor ≤ (compacted cat) .floor
-unfolding compacted
-compacted-floor cat = go (noneGone (cat .list))
-  where
-    go : (b : Bool) → cat .floor ≤ (cond b cat (record { version = 2; floor = max (cat .floor) (largestGone 0 (cat .list)); list = kept (cat .list) })) .floor
-    go true = omega arith
-    go false = omega arith
-
 or-none : (a b : Bool) → (a || b) ≡ false → (a ≡ false) × (b ≡ false)
 or-none true b e = absurd (true≢false e)
 or-none false b e = (refl, e)

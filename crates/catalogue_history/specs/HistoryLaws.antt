@@ -19,7 +19,7 @@ use Rattle.catalogue_text.specs.Catalogue.{Entry, isGone, goodEntry, goodFrom, 
 use Rattle.catalogue_text.specs.LineLaws.{entry-good}
 use Rattle.catalogue_text.specs.CatalogueLaws.{cat-list}
 use Rattle.catalogue_text.specs.Changes.{entryFor, entryIn, putIn, lastRevision, nextEntry, changedBy, compacted}
-use Rattle.catalogue_text.specs.ChangesLaws.{put-found, put-others}
+use Rattle.catalogue_text.specs.ChangesLaws.{put-found, put-others, compacted-floor}
 use Rattle.catalogue_text.specs.Buffers.{formed, catalogueIn}
 use Rattle.catalogue_text.specs.BuffersLaws.{formed-good}
 use Rattle.catalogue.specs.declared.Looked.{Looked}
@@ -29,7 +29,7 @@ use Rattle.catalogue.specs.Calls.{removeRefusal, removeOf, removeBuffer}
 use Rattle.catalogue_compact.specs.declared.Compacted.{Compacted}
 use Rattle.catalogue_compact.specs.Compaction.{compactOf, compactBuffer}
 use Rattle.catalogue_history.specs.Demand.{ChangeDone, ChangeRefused, CompactDone}
-use Rattle.catalogue_history.specs.DemandLaws.{compacted-entry, compacted-floor, last-most, put-done, put-refused, remove-done, remove-refused}
+use Rattle.catalogue_history.specs.DemandLaws.{compacted-entry, last-most, put-done, put-refused, remove-done, remove-refused}
 use Rattle.catalogue_history.specs.DemandLaws.{compact-done}
 use Rattle.catalogue_history.specs.History.{Lent, Call, put, remove, compact, lookup, sizeAfter, sizeCompacted, afterCall, afterCalls, readIn}
 use Rattle.catalogue_history.specs.History.{LineOf, here, there, LineIn, Between, NeverTwo}

@@ -2,18 +2,18 @@
 use mathlib.Core.Path.{_≡_, refl, sym, ap, _∙_, subst}
 use mathlib.Core.Bool.{Bool, true, false, cond, not, false≢true, _&&_}
 use mathlib.Core.List.{List, [], _∷_}
-use Prim.Native.Nat.{ℕ, _≤_, _<_, max}
+use Prim.Native.Nat.{ℕ, _+_, _≤_, _<_, max}
 use native.Mathlib.Omega.{arith}
-use borrow.Author.Tests.{ne-eqb}
+use borrow.Author.Tests.{eq-eqb, ne-eqb}
 use lib.Dec.{T, eqb}
 use Rattle.counting.specs.TestLaws.{and-l, and-r, and-intro}
 use Rattle.text.specs.Fields.{same}
 use Rattle.text.specs.FieldLaws.{same-eq}
 use Rattle.catalogue_text.specs.Names.{before, goodName}
 use Rattle.catalogue_text.specs.NamesLaws.{is-true, true-is, same-refl, same-sym, before-only, before-else, before-trans}
-use Rattle.catalogue_text.specs.Catalogue.{Entry, isGone, goodEntry, goodFrom, goodList, noneGone}
+use Rattle.catalogue_text.specs.Catalogue.{Entry, isGone, goodEntry, goodFrom, goodList, noneGone, Catalogue}
 use Rattle.catalogue_text.specs.LineLaws.{entry-good}
-use Rattle.catalogue_text.specs.Changes.{entryFor, putIn, kept, largestGone}
+use Rattle.catalogue_text.specs.Changes.{entryFor, entryIn, putIn, foundRevision, lastRevision, nextEntry, kept, largestGone, compacted}
 
 pub put-found : (e : Entry) (list : List Entry) → entryFor (e .name) (putIn e list) ≡ e
 unfolding entryFor putIn
@@ -188,3 +188,29 @@ kept-all (e ∷ list) n = go (isGone e) refl n (kept-all list)
         → cond b (kept list) (e ∷ kept list) ≡ e ∷ list
     go true d n i = absurd (false≢true n)
     go false d n i = ap (λ l. e ∷ l) (i n)
+
+-- ---- the revisions
+
+-- "New names start at floor+1"
+pub next-new : (name : List ℕ) (m w c : ℕ) (cat : Catalogue) → (entryIn name cat) .revision ≡ 0 → (nextEntry name m w c cat) .revision ≡ cat .floor + 1
+unfolding nextEntry
+next-new name m w c cat z = rw (eq-eqb ((entryIn name cat) .revision) 0 z)
+
+-- a put and a remove leave "the revision raised by one", of a gone name too
+pub next-raised : (name : List ℕ) (m w c : ℕ) (cat : Catalogue) → ((entryIn name cat) .revision ≡ 0 → ⊥)
+    → (nextEntry name m w c cat) .revision ≡ (entryIn name cat) .revision + 1
+unfolding nextEntry
+next-raised name m w c cat n = rw (ne-eqb ((entryIn name cat) .revision) 0 n)
+
+-- "a put on one expects 0"
+pub gone-expects : (e : Entry) → isGone e ≡ true → foundRevision e ≡ 0
+gone-expects e g = rw g
+
+-- "the floor never falls"
+pub compacted-floor : (cat : Catalogue) → cat .floor ≤ (compacted cat) .floor
+unfolding compacted
+compacted-floor cat = go (noneGone (cat .list))
+  where
+    go : (b : Bool) → cat .floor ≤ (cond b cat (record { version = 2; floor = max (cat .floor) (largestGone 0 (cat .list)); list = kept (cat .list) })) .floor
+    go true = omega arith
+    go false = omega arith
