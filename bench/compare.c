@@ -15,6 +15,7 @@
 #include "axlebloom.h"
 #include "clock.h"
 #include "plain.h"
+#include "record.h"
 #include "stock.h"
 
 enum { BATCH = 4096, CALLS = 128, SINGLES = 16, ANEWS = 1, ROUNDS = 300, SLOT = 64, STRIDE = BATCH + SLOT, WAYS = 8 };
@@ -164,6 +165,15 @@ static void print_line(const struct scene *s, const double value[WAYS]) {
   puts("");
 }
 
+static void record_line(const struct scene *s, const double value[WAYS]) {
+  static const char *ways[] = {"library", "plain C", "ISA-L, batch", "ISA-L, single", "ISA-L, anew", "Jerasure, batch", "Jerasure, single", "Jerasure, anew"};
+  static const char *names[] = {"encode", "recover, excess", "repair of a group"};
+  char name[32];
+  snprintf(name, sizeof name, s->service == RECOVER ? "%s %d" : "%s", names[s->service], s->excess);
+  for (int way = 0; way < WAYS; way++)
+    if (value[way] > 0) record("bytes", name, (size_t)s->m, (size_t)s->w, (size_t)s->c, 1, ways[way], (size_t)(s->to - s->from), value[way]);
+}
+
 static void print_head(const char *title) {
   static const char *ways[] = {"library", "plain C", "I batch", "I single", "I anew", "J batch", "J single", "J anew"};
   printf("\n%s; I is ISA-L, J is Jerasure\n\n| %-17s | %-8s |", title, "service", "shape");
@@ -189,7 +199,7 @@ int main(void) {
     measure(&s[i], time[i]);
   }
   print_head("nanoseconds a word");
-  for (int i = 0; i < LINES; i++) print_line(&s[i], time[i]);
+  for (int i = 0; i < LINES; i++) print_line(&s[i], time[i]), record_line(&s[i], time[i]);
   print_head("the library's time divided by each");
   for (int i = 0; i < LINES; i++) {
     for (int way = 0; way < WAYS; way++) ratio[way] = time[i][way] > 0 ? time[i][0] / time[i][way] : 0;

@@ -4,6 +4,7 @@
 
 #include "axlebloom.h"
 #include "clock.h"
+#include "record.h"
 
 enum { M = 15, W = 16, C = 4, N = M * W, TURNS = 20000 };
 
@@ -32,6 +33,8 @@ int main(void) {
   for (int i = 0; i < TURNS; i++)
     if (axlebloom_serve(&desk, handle, word, N).number) return 4;
   double served = (now() - start) / TURNS * 1e9;
+  record("bytes", "serve, excess 2", M, W, C, 1, "library", N, served);
+  record("bytes", "serve, excess 2", M, W, C, 1, "its own recover", N, plain);
   printf("240 places, excess 2: recover %.0f ns, serve %.0f ns; the tests of the desk and its copies cost %.0f ns\n", plain, served, served - plain);
   return 0;
 }

@@ -5,6 +5,7 @@
 
 #include "axlebloom.h"
 #include "clock.h"
+#include "record.h"
 
 enum { ROUNDS = 400, TURNS = 200, WAYS = 4 };
 
@@ -35,6 +36,9 @@ static int measure(size_t m, size_t w, size_t c) {
       if (time < best[way]) best[way] = time;
     }
   double after = best[2] - best[1];
+  record("bytes", "edit", m, w, c, 1, "library", m * w, best[2]);
+  record("bytes", "edit", m, w, c, 1, "its own encode", m * w, best[0]);
+  record("bytes", "check", m, w, c, 1, "library", m * w, best[1]);
   printf("| %zux%zu c%zu | %.0f | %.0f | %.0f | %.0f | %.0f | %.2f |\n", m, w, c, best[0], best[2], best[1], after, best[3], after / best[3]);
   return 0;
 }

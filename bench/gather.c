@@ -4,6 +4,7 @@
 
 #include "axlebloom.h"
 #include "clock.h"
+#include "record.h"
 
 enum { M = 15, W = 16, C = 3, N = M * W, K = M * (W - C) - 2, TURNS = 20000 };
 
@@ -31,6 +32,9 @@ static int measure(const char *what, const int *lost) {
     if (axlebloom_gather_finish(&gather, mended, N).number) return 5;
   }
   double all = (now() - start) / TURNS * 1e9;
+  const char *service = lost[0] ? "gather, excess 2" : "gather, all come";
+  record("bytes", service, M, W, C, 1, "library", N, all);
+  record("bytes", service, M, W, C, 1, "its own recover", N, plain);
   printf("240 places in 15 stretches, %s: recover %.0f ns; gather %.0f ns, of which begin and takes %.0f ns\n", what, plain, all, takes / TURNS * 1e9);
   return memcmp(mended, word, N) ? 6 : 0;
 }

@@ -16,6 +16,7 @@
 
 #include "axlebloom_wide.h"
 #include "clock.h"
+#include "record.h"
 #include "wide_plain.h"
 
 enum { BATCH = 512, SLOT = 32, CALLS = 64, ROUNDS = 60, ROWS = 6, WAYS = 4 };
@@ -180,6 +181,16 @@ static struct scene scene(enum service service, const int shape[3], int excess) 
   return s;
 }
 
+static void record_line(const struct scene *s, const double value[WAYS]) {
+  static const char *ways[] = {"library", "plain C", "Jerasure, batch", "Jerasure, single"};
+  static const char *names[] = {"check", "encode", "recover, excess", "repair of a group"};
+  char name[32];
+  snprintf(name, sizeof name, s->service == RECOVER ? "%s %d" : "%s", names[s->service], s->excess);
+  size_t bytes = 2 * (size_t)(s->service == REPAIR ? s->w : s->n);
+  for (int way = 0; way < WAYS; way++)
+    if (value[way] < 1e17) record("sixteen bits", name, (size_t)s->m, (size_t)s->w, (size_t)s->c, 1, ways[way], bytes, value[way]);
+}
+
 static void print_line(const struct scene *s, const double value[WAYS]) {
   static const char *names[] = {"check", "encode", "recover, excess", "repair, c lost"};
   char name[32];
@@ -245,6 +256,7 @@ int main(void) {
       s = scene(kind == 0 ? CHECK : kind == 1 ? ENCODE : kind == 5 ? REPAIR : RECOVER, sold, kind == 3 || kind == 4 ? kind - 2 : 0);
       measure(&s, best);
       print_line(&s, best);
+      record_line(&s, best);
     }
   print_stack();
   return 0;

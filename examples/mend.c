@@ -7,7 +7,9 @@
 enum { M = 4, W = 8, C = 2, N = M * W };
 
 static int stopped(const char *step, uint8_t number) {
-  if (number) printf("%s: refused %d\n", step, number);
+  char text[AXLEBLOOM_TEXT_SIZE];
+  axlebloom_text(number, text, sizeof text);
+  if (number) printf("%s: refused %d, %s\n", step, number, text);
   return number;
 }
 

@@ -10,7 +10,9 @@ static uint16_t data[K], word[N], back[K];
 static uint8_t marks[N];
 
 static int stopped(const char *step, uint8_t number) {
-  if (number) printf("%s: refused %d\n", step, number);
+  char text[AXLEBLOOM_TEXT_SIZE];
+  axlebloom_text(number, text, sizeof text);
+  if (number) printf("%s: refused %d, %s\n", step, number, text);
   return number;
 }
 

@@ -1,12 +1,18 @@
-/* Axlebloom, block rebuild: many words at once, for the archive box. A library of its own, libaxlebloom_blocks.a, which needs no other; it may be
- * linked beside libaxlebloom.a.
+/* axlebloom_blocks.h - block rebuild for the archive box: many words at once
  *
- * n = m*w blocks of equal length stand end to end; byte x of every block makes word x, a word of the shape m, w, c as in axlebloom.h. Marks are n
- * bytes, 1 for a lost block and 0 for one that is present.
+ * This is a library of its own, libaxlebloom_blocks, which needs no other and may be linked beside
+ * libaxlebloom:
  *
- * The call answers whatever values it is given, provided that the pointers are as follows. A row of bytes comes with its length, which is tested;
- * it must really be that long, and it may be null if the length is 0. Blocks and marks must not overlap. Nothing is kept between calls and no
- * memory is allocated; two threads may call at once on buffers of their own.
+ *     cc program.c $(pkg-config --cflags --libs axlebloom_blocks)
+ *
+ * n = m*w blocks of equal length stand end to end; byte x of every block makes word x, a word of the
+ * shape m, w, c as in axlebloom.h. Marks are n bytes, 1 for a lost block and 0 for one that is
+ * present. The bytes of a lost block have no effect on any answer.
+ *
+ * What axlebloom.h says of pointers, refusals and threads holds here too: a buffer must really be as
+ * long as the length beside it, and may be NULL if that is 0; blocks and marks must not overlap; a
+ * refused call changes nothing; nothing is kept between calls and no memory is allocated, so threads
+ * may call at once on buffers of their own.
  */
 #ifndef AXLEBLOOM_BLOCKS_H
 #define AXLEBLOOM_BLOCKS_H
@@ -18,26 +24,59 @@
 extern "C" {
 #endif
 
-/* What a rebuild gives back. number is 0 for done, or that of a refusal; on a refusal nothing that was lent is changed:
- *  1 to 4  the shape is not good
- *  5       there are not n marks
- *  6       a mark is neither 0 nor 1
- *  27      the blocks are not n*length bytes, or length is 0, or n*length is above 65536
- *  8       too much is lost: what is present doesn't settle the words; find another disk
- *  9       some word contradicts: its present bytes fit no codeword. word is the lowest such x, and group the lowest group of that word that
- *          breaks its own checks, or m if only the checks across fail; at least one present byte at x of some block is wrong
- * With any other number word and group are 0. */
+/* The version of this header, as 10000*major + 100*minor + patch, and that of the library. The two
+ * libraries of one release have the same version. */
+#define AXLEBLOOM_BLOCKS_VERSION 10000
+uint32_t axlebloom_blocks_version(void);
+
+/* The most bytes of all blocks together. */
+#define AXLEBLOOM_BLOCKS_MAX_BYTES 65536
+
+/* The refusal that only a rebuild gives: the blocks are not n*length bytes, or length is 0, or
+ * n*length is above 65536. The other numbers are those of enum axlebloom_number in axlebloom.h. */
+enum axlebloom_blocks_number { AXLEBLOOM_BLOCKS_LENGTH = 27 };
+
+/* What a rebuild gives back. */
 struct axlebloom_rebuild_answer {
-  size_t word;
-  uint8_t number;
-  uint8_t group;
+  size_t word;    /* with a 9 the lowest x whose word contradicts; with any other number 0 */
+  uint8_t number; /* 0, or the number of a refusal */
+  uint8_t group;  /* with a 9 the group of that word, as axlebloom_recover names it; else 0 */
 };
 
-/* Recovers every word and clears the marks, or changes nothing. The bytes of a lost block have no effect.
+/* Mends every word and clears the marks, or changes nothing.
  *
- * To encode a batch, put the data into the data places, mark the check places, which axlebloom_extract skips, and rebuild. */
-struct axlebloom_rebuild_answer axlebloom_rebuild(size_t m, size_t w, size_t c, size_t length, uint8_t *blocks, size_t blocks_length, uint8_t *marks,
-                                                  size_t marks_length);
+ *   m, w, c        the shape, as in axlebloom.h
+ *   length         the bytes of one block
+ *   blocks         blocks_length bytes, which must be n*length; the lost blocks are written
+ *   marks          marks_length bytes, which must be n; all are cleared
+ *
+ * Refused, in this order, by
+ *
+ *   1 to 4  the shape is not good
+ *   5       there are not n marks
+ *   6       a mark is neither 0 nor 1
+ *   27      see above
+ *   8       too much is lost: what is present doesn't settle the words; find another disk
+ *   9       some word contradicts: its present bytes fit no codeword, so at least one byte at x of
+ *           a present block is wrong
+ *
+ * To encode a batch, put the data into the data places, mark the check places, which
+ * axlebloom_extract skips, and rebuild:
+ *
+ * @code
+ *   uint8_t blocks[6 * 4] = "one.two.", marks[6] = {0, 0, 1, 1, 1, 1};
+ *   struct axlebloom_rebuild_answer answer;
+ *   answer = axlebloom_rebuild(2, 3, 1, 4, blocks, sizeof blocks, marks, sizeof marks);
+ *   assert(answer.number == 0);
+ *   memset(blocks, 0, 12);
+ *   marks[0] = marks[1] = marks[2] = 1;
+ *   answer = axlebloom_rebuild(2, 3, 1, 4, blocks, sizeof blocks, marks, sizeof marks);
+ *   assert(answer.number == 0 && memcmp(blocks, "one.two.", 8) == 0);
+ * @endcode
+ */
+struct axlebloom_rebuild_answer axlebloom_rebuild(size_t m, size_t w, size_t c, size_t length,
+                                                  uint8_t *blocks, size_t blocks_length,
+                                                  uint8_t *marks, size_t marks_length);
 
 #ifdef __cplusplus
 }

@@ -1,5 +1,5 @@
 //! The library and the program beside the second program, on cases of these kinds, all random but the first and the last:
-//!   patterns  every loss pattern of some small shapes, through every service
+//!   patterns  every loss pattern of some small shapes, through every service; asked for by name, of every shape of at most 14 places
 //!   services  every service, with shapes, words, marks and lists of groups good and bad
 //!   desks     long lists of calls on a desk, with every byte of it compared after every call
 //!   sessions  lines of text, through the program as a process
@@ -9,7 +9,8 @@
 //!   namings   every list of five puts, removes and compactions on two names, on a few texts, in the same way
 //!
 //! Arguments: SEED COUNT [KIND [INDEX]]: all patterns, all namings and so many cases of each other kind, or so many of one kind, from that index on.
-//! A case depends on nothing but the seed, its kind and its index. For millions: tests/compare/many SEED COUNT, which builds all that is
+//! The argument patterns alone prints how many patterns there are.
+//! A case depends on nothing but the seed, its kind and its index. For millions: tests/many, which builds all that is
 //! needed and runs this program.
 //! A mismatch prints the smallest case that was found to show it, and the command that repeats the case it was found from.
 
@@ -61,6 +62,10 @@ fn wanted() -> Option<Wanted> {
     let arguments: Vec<String> = std::env::args().skip(1).collect();
     let number = |i: usize| arguments.get(i).map(|argument| argument.parse().ok());
     let kind = arguments.get(2).cloned();
+    if arguments == ["patterns"] {
+        println!("{}", services::pattern_counts().1);
+        std::process::exit(0);
+    }
     if arguments.len() > 4 || kind.as_ref().is_some_and(|kind| !KINDS.contains(&kind.as_str())) {
         return None;
     }
@@ -101,9 +106,10 @@ fn random_cases<C: Case>(kind: &str, wanted: &Wanted) -> Tally {
     compare(kind, wanted, |index| Some(C::random(&mut Random::of_case(wanted.seed, kind, index))))
 }
 
-/// Every case of a kind that has only so many, unless the arguments ask for some of them.
+/// Every case of a kind that has only so many, unless the arguments ask for some of them; of patterns, those of the small shapes.
 fn every_case<C: Case>(kind: &str, wanted: &Wanted, draw: impl Fn(u64) -> Option<C>) -> Tally {
-    let count = if wanted.kind.is_none() { u64::MAX } else { wanted.count };
+    let all = if kind == "patterns" { services::pattern_counts().0 } else { u64::MAX };
+    let count = if wanted.kind.is_none() { all } else { wanted.count };
     compare(kind, &Wanted { count, ..wanted.clone() }, draw)
 }
 

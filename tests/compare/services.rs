@@ -217,20 +217,37 @@ fn places_kept(from: Shape, to: Shape, marks: &[u8]) -> Vec<u8> {
     (0..to.0 * to.1).map(|p| marks[p / to.1 * from.1 + p % to.1]).collect()
 }
 
-/// Small shapes of which every loss pattern is compared.
+/// Small shapes of which every loss pattern is compared in every run.
 const PATTERN_SHAPES: [Shape; 6] = [(1, 4, 1), (2, 3, 1), (3, 3, 1), (2, 4, 2), (1, 6, 3), (2, 5, 2)];
 
-/// Every loss pattern of those shapes, on a codeword and on one with a byte changed; none past the last.
+/// Those, and then every other good shape of at most 14 places.
+fn pattern_shapes() -> &'static [Shape] {
+    static SHAPES: std::sync::OnceLock<Vec<Shape>> = std::sync::OnceLock::new();
+    SHAPES.get_or_init(|| {
+        let all = (1..=15).flat_map(|m| (1..=16).flat_map(move |w| (1..=4).map(move |c| (m, w, c))));
+        let others = all.filter(|s| s.0 * s.1 <= 14 && figures(*s).is_some() && !PATTERN_SHAPES.contains(s));
+        PATTERN_SHAPES.into_iter().chain(others).collect()
+    })
+}
+
+/// How many cases there are of the first shapes, and of all.
+pub fn pattern_counts() -> (u64, u64) {
+    let count = |shapes: &[Shape]| shapes.iter().map(|s| 2 << (s.0 * s.1)).sum();
+    (count(&PATTERN_SHAPES), count(pattern_shapes()))
+}
+
+/// Every loss pattern of those shapes, on a codeword and on one with a byte changed, with a repair of every group; none past the last.
 pub fn pattern(index: u64) -> Option<Services> {
     let mut left = index as usize / 2;
-    for shape in PATTERN_SHAPES {
-        let (n, k) = figures(shape).expect("a good shape");
+    for &shape in pattern_shapes() {
+        let n = shape.0 * shape.1;
         if left < 1 << n {
+            let (_, k) = figures(shape).expect("a good shape");
             let data: Vec<u8> = (0..k as u8).map(|i| i.wrapping_mul(37).wrapping_add(11)).collect();
             let mut word = codeword(shape, &data);
             word[left % n] ^= (index % 2) as u8;
             let marks = (0..n).map(|p| (left >> p & 1) as u8).collect();
-            return Some(Services { shape, data, word, marks, list: vec![0, shape.0 - 1, 0] });
+            return Some(Services { shape, data, word, marks, list: (0..shape.0).rev().chain([0]).collect() });
         }
         left -= 1 << n;
     }

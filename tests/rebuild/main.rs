@@ -1,5 +1,5 @@
 //! Block rebuild, the library and the program, beside the second program: seeded random cases, good and bad.
-//! Arguments: SEED COUNT.
+//! Arguments: SEED COUNT [INDEX [calls]]: so many cases from that index on; with calls the library alone, and not the program.
 
 #[path = "../compare/library.rs"]
 #[allow(dead_code)]
@@ -24,6 +24,7 @@ struct Answer {
 }
 
 extern "C" {
+    fn axlebloom_text(number: usize, text: *mut u8, size: usize) -> usize;
     fn axlebloom_rebuild(m: usize, w: usize, c: usize, length: usize, b: *mut u8, all: usize, l: *mut u8, n: usize) -> Answer;
 }
 
@@ -139,11 +140,19 @@ fn run(r: &mut Random, input: &[u8]) -> std::io::Result<(Vec<u8>, Vec<u8>)> {
     Ok((output.stdout, output.stderr))
 }
 
+/// What a refused run writes to standard error: the line of the refusal, and then what its number means.
+fn explained(refusal: &[u8]) -> Vec<u8> {
+    let number = std::str::from_utf8(refusal).ok().and_then(|line| line.trim_end().split('\t').nth(1)?.parse().ok()).expect("a number");
+    let mut text = [0u8; 64];
+    let length = unsafe { axlebloom_text(number, text.as_mut_ptr(), text.len()) };
+    [refusal, b"rebuild: ", &text[..length], b"\n"].concat()
+}
+
 /// The program writes what the second program does, and a refusal on standard error too.
 fn compare_run(r: &mut Random, input: &[u8]) -> Result<(), String> {
     let (theirs, refused) = second::rebuild_run(input);
     let (ours, errors) = run(r, input).map_err(|error| error.to_string())?;
-    let expected: &[u8] = if refused { &theirs } else { b"" };
+    let expected = if refused { explained(&theirs) } else { Vec::new() };
     if ours != theirs || errors != expected {
         let show = |bytes: &[u8]| bytes[..bytes.len().min(60)].escape_ascii().to_string();
         return Err(format!("program {}, errors {}, second program {}", show(&ours), show(&errors), show(&theirs)));
@@ -152,14 +161,20 @@ fn compare_run(r: &mut Random, input: &[u8]) -> Result<(), String> {
 }
 
 fn main() {
-    let arguments: Vec<u64> = std::env::args().skip(1).map(|argument| argument.parse().expect("a number")).collect();
-    let [seed, count] = arguments[..] else { panic!("arguments: SEED COUNT") };
+    let mut words: Vec<String> = std::env::args().skip(1).collect();
+    let calls_alone = words.len() == 4 && words.pop().as_deref() == Some("calls");
+    let arguments: Vec<u64> = words.iter().map(|argument| argument.parse().expect("a number")).collect();
+    let (seed, count, from) = match arguments[..] {
+        [seed, count] => (seed, count, 0),
+        [seed, count, from] => (seed, count, from),
+        _ => panic!("arguments: SEED COUNT [INDEX [calls]]"),
+    };
     let mut numbers = [0u64; 32];
-    for index in 0..count {
+    for index in from..from + count {
         let mut r = Random::of_case(seed, "rebuild", index);
         let case = call(&mut r);
         let text = input(&mut r, &case);
-        let verdict = compare_call(&case).and_then(|number| compare_run(&mut r, &text).map(|()| number));
+        let verdict = compare_call(&case).and_then(|number| if calls_alone { Ok(number) } else { compare_run(&mut r, &text).map(|()| number) });
         match verdict {
             Ok(number) => numbers[number as usize] += 1,
             Err(difference) => {
@@ -172,7 +187,7 @@ fn main() {
     let met: Vec<String> = (0..32).filter(|&i| numbers[i] > 0).map(|i| format!("{i}: {}", numbers[i])).collect();
     println!("rebuild: {count} calls and runs from seed {seed}, all alike; by number: {}", met.join(", "));
     let missing: Vec<usize> = [0, 1, 2, 3, 4, 5, 6, 8, 9, 27].into_iter().filter(|&i| numbers[i] == 0).collect();
-    if count >= 1000 && !missing.is_empty() {
+    if from == 0 && count >= 1000 && !missing.is_empty() {
         println!("FAILED: never answered: {missing:?}");
         std::process::exit(1);
     }

@@ -1,4 +1,5 @@
 //! The sixteen-bit edition of the library beside its second program: all patterns of small shapes, and random words and losses up to 4,096 places.
+//! Arguments: none, or SEED COUNT INDEX for so many random cases from that index on.
 #[path = "../second/wide.rs"]
 mod second;
 use second::{Field, Shape};
@@ -89,8 +90,47 @@ fn losses(s: Shape, r: &mut Random) -> Vec<u8> {
     marks
 }
 
+/// A word with random losses, and the same with a symbol changed.
+fn random_words(f: &Field, s: Shape, r: &mut Random, rounds: usize) {
+    let (Shape { m, w, .. }, word) = (s, codeword(f, s, r));
+    for _ in 0..rounds {
+        let marks = losses(s, r);
+        let mut x: Vec<u16> = (0..m * w).map(|p| if marks[p] == 1 { r.below(65536) as u16 } else { word[p] }).collect();
+        compare(f, s, &x, &marks, r);
+        x[r.below((m * w) as u64) as usize] ^= 1 << r.below(16);
+        compare(f, s, &x, &marks, r);
+    }
+}
+
+/// A good shape, mostly a small one.
+fn good_shape(r: &mut Random) -> Shape {
+    loop {
+        let (groups, room) = if r.below(200) == 0 { (255, 250) } else { (6, 8) };
+        let c = 1 + r.below(4) as usize;
+        let s = Shape { m: 1 + r.below(groups) as usize, w: c + 2 + r.below(room) as usize, c };
+        if second::refusal(s.m, s.w, s.c) == 0 {
+            return s;
+        }
+    }
+}
+
+/// So many random words from an index on, each of a seed of its own; a case is a word with its losses and the same with a symbol changed.
+fn many(f: &Field, seed: u64, count: u64, from: u64) {
+    for index in from..from + count {
+        let mut r = Random((seed.wrapping_mul(0x9E37_79B9_7F4A_7C15) ^ index.wrapping_add(1).wrapping_mul(0xBF58_476D_1CE4_E5B9)) | 1);
+        (0..8).for_each(|_| _ = r.below(2));
+        let s = good_shape(&mut r);
+        random_words(f, s, &mut r, 1);
+    }
+    println!("sixteen bits: {count} cases from seed {seed} and index {from}, all alike");
+}
+
 fn main() {
     let f = Field::new();
+    let arguments: Vec<u64> = std::env::args().skip(1).map(|argument| argument.parse().expect("a number")).collect();
+    if let [seed, count, from] = arguments[..] {
+        return many(&f, seed, count, from);
+    }
     assert_eq!((f.mul(2, 32768), f.pow(2, 257)), (4107, 5726));
     let mut r = Random(88172645463325252);
     for (m, w, c) in (0..600).flat_map(|m| [0, 1, 2, 3, 4, 5, 6, 16, 17, 255, 256, 257, 300, 65536 + 20].map(|w| (m, w))).flat_map(|(m, w)| (0..7).map(move |c| (m, w, c))) {
@@ -113,15 +153,8 @@ fn main() {
     for round in 0..24 {
         let (m, w, c) = if round < 8 { shapes[round] } else { (1 + r.below(20) as usize, 6 + r.below(40) as usize, 1 + r.below(4) as usize) };
         let s = Shape { m, w, c };
-        let word = codeword(&f, s, &mut r);
-        for _ in 0..3 {
-            let marks = losses(s, &mut r);
-            let mut x: Vec<u16> = (0..m * w).map(|p| if marks[p] == 1 { r.below(65536) as u16 } else { word[p] }).collect();
-            compare(&f, s, &x, &marks, &mut r);
-            x[r.below((m * w) as u64) as usize] ^= 1 << r.below(16);
-            compare(&f, s, &x, &marks, &mut r);
-            cases += 2;
-        }
+        random_words(&f, s, &mut r, 3);
+        cases += 6;
     }
     println!("sixteen bits: {cases} words alike");
 }

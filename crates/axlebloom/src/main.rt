@@ -30,7 +30,7 @@ fn turn(state: State) -> Run {
 }
 
 // A proved loop has to end, and nothing says that the input does: so it counts its turns down, from a number that no run uses up.
-fn main() {
+fn run_all() {
     let mut run = Run {
         state: stream::start(),
         on: true,
@@ -39,5 +39,29 @@ fn main() {
     while turns > 0 && run.on {
         run = turn(run.state);
         turns -= 1;
+    }
+}
+
+fn main() {
+    if command_line::is_run(
+        b"\
+usage: axlebloom < INPUT > OUTPUT\n\
+\n\
+Erasure repair over text lines. A line is a name and numbers from 0 to 255, with a\n\
+tab before each, and is answered by one line.\n\
+\n\
+\x20 shape m w c   the shape from now on: m groups of w bytes, c checks in each;\n\
+\x20               answered by: ok n k, the bytes of a word and of the data in it\n\
+\x20 data ...      k bytes to encode; answered by: word and n bytes\n\
+\x20 word ...      n bytes to recover, - for a lost one; answered by: word and n bytes\n\
+\n\
+A line that can't be answered so is answered by: refused and a number; 9 has a\n\
+group after it. docs/PROGRAMS.md shows a session, docs/SIGNING.md the numbers.\n\
+\n\
+\x20 --help        writes this\n\
+\x20 --version     writes the version\n",
+        b"axlebloom 1.0.0\n",
+    ) {
+        run_all();
     }
 }

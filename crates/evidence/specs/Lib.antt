@@ -7,6 +7,7 @@ pub mod AcrossServices
 pub mod AcrossServicesLaws
 pub mod BytesLaws
 pub mod WideLaws
+pub mod QuotientLaws
 pub mod PaperSession
 pub mod PaperSessionLaws
 pub mod NineLines

@@ -1,6 +1,6 @@
 use native.Mathlib.Omega.{arith}
-use Rattle.axlebloom.proofs.main.Statement.{statement}
-use Rattle.axlebloom.proofs.main.Tie as tie
+use Rattle.axlebloom.proofs.run_all.Statement.{statement}
+use Rattle.axlebloom.proofs.run_all.Tie as tie
 
 abbrev Inv-loop : tie.InvT-loop
 Inv-loop run₀ turns₀ run turns = Unit {0}
@@ -32,8 +32,8 @@ returns c = tt
 returns-2 : tie.Need-returns-2 Inv-loop μ-loop
 returns-2 c = tt
 
-pub main-spec : {M : Type 1} → statement M
-main-spec =
+pub run-all-spec : {M : Type 1} → statement M
+run-all-spec =
     tie.close
     (tie.spec
     Inv-loop

@@ -4,8 +4,8 @@ use native.Mathlib.Omega.{arith}
 use lib.ListN.{length, length-replicate}
 use lib.Seq.{length-take-le}
 use borrow.Author.Needs.{needs}
-use Rattle.rebuild.proofs.main.Statement.{statement}
-use Rattle.rebuild.proofs.main.Tie as tie
+use Rattle.rebuild.proofs.run_all.Statement.{statement}
+use Rattle.rebuild.proofs.run_all.Tie as tie
 
 abbrev Inv-loop : tie.InvT-loop
 Inv-loop input₀ run₀ turns₀ input run turns = (length input ≡ 68612) × (run .used ≤ 68612)
@@ -13,27 +13,21 @@ Inv-loop input₀ run₀ turns₀ input run turns = (length input ≡ 68612) × 
 abbrev μ-loop : tie.MeasureT-loop
 μ-loop input₀ run₀ turns₀ input run turns = turns
 
--- src/main.rt:85:5
 loop-holds : tie.Need-loop-holds Inv-loop μ-loop
 loop-holds c = (length-replicate {A = ℕ} 68612 0, omega arith)
 
--- src/main.rt:86:20
 slice-aggregate-turn : tie.Need-slice-aggregate-turn Inv-loop μ-loop
 slice-aggregate-turn c = sym (c .before .before .before .loop .inv .0)
 
--- src/main.rt:86:9
 turn-requires : tie.Need-turn-requires Inv-loop μ-loop
 turn-requires c κs = let l = c .before .before .before .loop in let k = l .inv .0 in let m = l .inv .1 in omega arith
 
--- src/main.rt:87:9
 sub-turns : tie.Need-sub-turns Inv-loop μ-loop
 sub-turns c = omega arith
 
--- src/main.rt:85:5
 loop-less : tie.Need-loop-less Inv-loop μ-loop
 loop-less c = omega arith
 
--- src/main.rt:85:5
 loop-again : tie.Need-loop-again Inv-loop μ-loop
 loop-again c =
     let l = c .before .before .before .before .before .loop in
@@ -42,28 +36,23 @@ loop-again c =
     let e = c .before .turn .ensures in
     (omega arith, omega arith)
 
--- src/main.rt:91:16
 array-borrow-prefix-input : tie.Need-array-borrow-prefix-input Inv-loop μ-loop
 array-borrow-prefix-input c = let l = c .before .before .loop in let k = l .inv .0 in let m = l .inv .1 in omega arith
 
--- src/main.rt:91:16
 slice-aggregate-finish : tie.Need-slice-aggregate-finish Inv-loop μ-loop
 slice-aggregate-finish c = sym (length-take-le _ _ (array-borrow-prefix-input (c .before)))
 
--- src/main.rt:91:9
 finish-requires : tie.Need-finish-requires Inv-loop μ-loop
 finish-requires c κs = search needs
 
--- src/main.rt:77:1
 returns : tie.Need-returns Inv-loop μ-loop
 returns c = search needs
 
--- src/main.rt:77:1
 returns-2 : tie.Need-returns-2 Inv-loop μ-loop
 returns-2 c = search needs
 
-pub main-spec : {M : Type 1} → statement M
-main-spec =
+pub run-all-spec : {M : Type 1} → statement M
+run-all-spec =
     tie.close
     (tie.spec
     Inv-loop

@@ -1,0 +1,30 @@
+-- The texts as the code keeps them: end to end, with the places where they start.
+use mathlib.Core.Bool.{cond}
+use mathlib.Core.List.{List, [], _∷_, _++_}
+use Prim.Native.Nat.{ℕ, _+_, _-_}
+use Prim.Native.String.{String}
+use lib.Dec.{ltb}
+use lib.ListN.{take, drop, getD}
+use Rattle.release.specs.Texts.{bytesOf, texts, other}
+
+-- texts end to end, and last that of any other number
+abbrev pub endToEnd : List String → List ℕ
+endToEnd [] = bytesOf other
+endToEnd (t ∷ ts) = bytesOf t ++ endToEnd ts
+
+unfoldable pub joined : List ℕ
+joined = endToEnd texts
+
+-- where each starts, and where the last one ends
+unfoldable pub starts : List ℕ
+starts =
+    0 ∷ 4 ∷ 40 ∷ 82 ∷ 113 ∷ 143 ∷ 176 ∷ 201 ∷ 223 ∷ 247 ∷ 280 ∷ 315 ∷ 352 ∷ 379 ∷ 427 ∷ 450 ∷ 477 ∷ 516 ∷ 534 ∷ 564
+    ∷ 600 ∷ 626 ∷ 647 ∷ 669 ∷ 701 ∷ 735 ∷ 761 ∷ 796 ∷ 834 ∷ 868 ∷ 901 ∷ 930 ∷ 951 ∷ 979 ∷ []
+
+-- the row of a number: its own, or the last one
+unfoldable pub rowOf : ℕ → ℕ
+rowOf number = cond (ltb number 32) number 32
+
+-- what stands in a row
+abbrev pub rowText : ℕ → List ℕ
+rowText i = take (getD starts (i + 1) 0 - getD starts i 0) (drop (getD starts i 0) joined)

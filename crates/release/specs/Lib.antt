@@ -1,0 +1,4 @@
+pub mod Version
+pub mod Texts
+pub mod Joined
+pub mod JoinedLaws

@@ -1,0 +1,63 @@
+-- The numbers that calls give back, in English.
+use mathlib.Core.List.{List, [], _∷_, _++_}
+use Prim.Native.Nat.{ℕ}
+use Prim.Native.Char.{code}
+use Prim.Native.String.{String}
+use Prim.Native.String as string
+use lib.ListN.{length, take, getD}
+use Rattle.text.specs.Written.{written}
+
+-- a text as bytes
+abbrev pub bytesOf : String → List ℕ
+bytesOf string.[] = []
+bytesOf (string._∷_ x s) = code x ∷ bytesOf s
+
+-- the texts of 0 to 31, in this order
+unfoldable pub texts : List String
+texts =
+    "done"
+    ∷ "the number of groups is out of range"
+    ∷ "the number of local checks is out of range"
+    ∷ "the group width is out of range"
+    ∷ "the shape has no room for data"
+    ∷ "a length does not match the shape"
+    ∷ "a mark is neither 0 nor 1"
+    ∷ "there is no such group"
+    ∷ "too many places are lost"
+    ∷ "the present bytes fit no codeword"
+    ∷ "the desk has issued all its handles"
+    ∷ "the desk is full: eight jobs are open"
+    ∷ "no open job has this handle"
+    ∷ "the job has served as many words as it can count"
+    ∷ "the line cannot be read"
+    ∷ "no shape has been given yet"
+    ∷ "the catalogue's text is not of its form"
+    ∷ "this is not a name"
+    ∷ "the catalogue has no such name"
+    ∷ "the revision is not the expected one"
+    ∷ "the revision is at its end"
+    ∷ "the catalogue is full"
+    ∷ "the gather is finished"
+    ∷ "the stretch ends beyond the word"
+    ∷ "a place of the stretch came before"
+    ∷ "the word has no such place"
+    ∷ "the shape has more than 4096 places"
+    ∷ "the blocks are not of the length given"
+    ∷ "the losses are outside the profile"
+    ∷ "four local checks are out of sale"
+    ∷ "there is no such byte of data"
+    ∷ "the desk is not sound"
+    ∷ []
+
+-- and that of a number that no call gives back
+abbrev pub other : String
+other = "not a number of this library"
+
+-- the text of a number
+unfoldable pub textOf : ℕ → List ℕ
+textOf number = bytesOf (getD texts number other)
+
+-- a buffer with a text at its start, cut where it has no room, and a zero byte after it; one of no bytes stays
+abbrev pub lentText : List ℕ → List ℕ → List ℕ
+lentText text [] = []
+lentText text (b ∷ bs) = written (b ∷ bs) 0 (take (length bs) text ++ (0 ∷ []))
