@@ -4,7 +4,8 @@
  * symbols, group after group: n = m*w symbols in all, k = m*(w-c) - 2 of them data. Marks are n
  * bytes, 1 for a lost symbol and 0 for one that is present.
  *
- * Lengths count symbols (uint16_t), or marks; they don't count bytes. Symbols are numbers of the
+ * Lengths count symbols (uint16_t), or marks; they don't count bytes. Pointers to symbols are
+ * aligned as uint16_t asks. Symbols are numbers of the
  * machine: whoever stores them as bytes chooses the byte order. What axlebloom.h says of pointers,
  * refusals and threads, and of the group that a 9 names, holds here too. There is no desk, no
  * gather, no profile and no edit in this edition. Calls take less than 32 KB of stack.

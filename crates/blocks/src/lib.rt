@@ -210,6 +210,9 @@ fn rebuild_kept(
     ensures answer { λ r. ⌜ r ≡ outcomeRebuilt (rebuildOf m w c size (now (blocks .entry)) (now (marks .entry))) ⌝ }
     ensures blocks { λ _. ⌜ now (blocks .exit) ≡ (rebuildOf m w c size (now (blocks .entry)) (now (marks .entry))) .blocks ⌝ }
     ensures marks { λ _. ⌜ now (marks .exit) ≡ (rebuildOf m w c size (now (blocks .entry)) (now (marks .entry))) .marks ⌝ }
+    ensures number { λ r. ⌜ rebuiltNumber r ≡ (rebuildOf m w c size (now (blocks .entry)) (now (marks .entry))) .number ⌝ }
+    ensures word { λ r. ⌜ rebuiltWord r ≡ (rebuildOf m w c size (now (blocks .entry)) (now (marks .entry))) .word ⌝ }
+    ensures group { λ r. ⌜ rebuiltGroup r ≡ (rebuildOf m w c size (now (blocks .entry)) (now (marks .entry))) .group ⌝ }
 {
     let x = block_engine::lowest(m, w, c, size, blocks, marks);
     if x < size {

@@ -49,7 +49,10 @@ returns c =
     (t .if1 .taken) in (
       ap (Rebuilt.Contradictory (l .lowest .result)) (c .group-at .ensures)
           ∙ ap outcomeRebuilt (sym e),
-      (ap (λ o. o .blocks) (sym e), ap (λ o. o .marks) (sym e)),
+      (
+        ap (λ o. o .blocks) (sym e),
+        (ap (λ o. o .marks) (sym e), (ap (λ o. o .number) (sym e), (ap (λ o. o .word) (sym e), c .group-at .ensures ∙ ap (λ o. o .group) (sym e)))),
+      ),
     )
 
 restore-requires : tie.Need-restore-requires
@@ -82,7 +85,10 @@ returns-2 c =
         kept-written (a .m) (a .w) (a .c) (a .size) (a .blocks .now) (a .marks .now) (b .pre .0) (b .pre .1) small (l .lowest .result) F (t .if1 .left) _
             (r .restore .ensures .0 Y)
             ∙ ap (λ o. o .blocks) (sym e),
-        z .clear-if .ensures .0 refl ∙ ap (λ o. o .marks) (sym e),
+        (
+          z .clear-if .ensures .0 refl ∙ ap (λ o. o .marks) (sym e),
+          (ap (λ o. o .number) (sym e), (ap (λ o. o .word) (sym e), ap (λ o. o .group) (sym e))),
+        ),
       ),
     )
 
