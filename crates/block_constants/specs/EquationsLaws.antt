@@ -38,16 +38,16 @@ equation-local first second (suc (suc zero)) l j = refl
 equation-local first second (suc (suc (suc zero))) l j = refl
 equation-local first second (suc (suc (suc (suc e)))) l j = absurd (omega arith)
 
--- a step of the reduction at a kept place
-module _ (first second kept : List ℕ) (w p t : ℕ) (rows₀ rows next : List (List ℕ)) (wide : 1 ≤ w) (narrow : w ≤ 16) (inside : p < w) (few : t < 4)
+-- a step of the reduction at a bound place
+module _ (first second bound : List ℕ) (w p t : ℕ) (rows₀ rows next : List (List ℕ)) (wide : 1 ≤ w) (narrow : w ≤ 16) (inside : p < w) (few : t < 4)
     (rows-are : (i : ℕ) → i < 6 → (j : ℕ) → j < 16 → entry rows₀ i j ≡ equationOf first second i j)
-    (small : (i : ℕ) → i < 6 → entry rows i p < 256) (here : lost kept p ≡ true) where
+    (small : (i : ℕ) → i < 6 → entry rows i p < 256) (here : lost bound p ≡ true) where
   restricted : Pivoted byteEdition 16 6 p t (entry rows) (entry next) → Pivoted byteEdition w 6 p t (entry rows) (entry next)
   restricted P = record { own = λ j l. P .own j (omega arith); other = λ i l d j h. P .other i l d j (omega arith) }
 
-  pub equations-step : ReducedTo byteEdition w 6 kept p t (entry rows₀) (entry rows) → Pivoted byteEdition 16 6 p t (entry rows) (entry next)
-      → ReducedTo byteEdition w 6 kept (suc p) (suc t) (entry rows₀) (entry next)
+  pub equations-step : ReducedTo byteEdition w 6 bound p t (entry rows₀) (entry rows) → Pivoted byteEdition 16 6 p t (entry rows) (entry next)
+      → ReducedTo byteEdition w 6 bound (suc p) (suc t) (entry rows₀) (entry next)
   equations-step R P =
-      reduced-more byteEdition w bytes-sound 6 kept p t (entry rows₀) (entry rows) (entry next) R (restricted P) inside (omega arith) small here
-      (pivot-some w kept byteEdition bytes-sound wide narrow 6 p t (entry rows₀) (entry rows) R
+      reduced-more byteEdition w bytes-sound 6 bound p t (entry rows₀) (entry rows) (entry next) R (restricted P) inside (omega arith) small here
+      (pivot-some w bound byteEdition bytes-sound wide narrow 6 p t (entry rows₀) (entry rows) R
       (λ e l j h. rows-are e (omega arith) j (omega arith) ∙ equation-local first second e (omega arith) j) inside (omega arith) here)

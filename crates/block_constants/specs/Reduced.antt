@@ -1,5 +1,5 @@
--- The equations of one group reduced at the places that it keeps: each of the first t equations gives one kept place as a sum over the
--- places that are not kept, and the kept places stand in no other equation.
+-- The equations of one group reduced at the places that it keeps: each of the first t equations gives one bound place as a sum over the
+-- places that are not bound, and the bound places stand in no other equation.
 use mathlib.Core.Path.{_≡_}
 use mathlib.Core.Bool.{true}
 use mathlib.Core.List.{List}
@@ -21,13 +21,13 @@ module _ (E : Edition) (w : ℕ) where
   abbrev pub Meets : ℕ → (ℕ → ℕ) → (ℕ → ℕ → ℕ) → Type 0
   Meets t y H = (e : ℕ) → e < t → dot y (H e) ≡ 0
 
-  module _ (n : ℕ) (kept : List ℕ) where
-    -- the rows M of the n equations H, reduced at the kept places below p, of which there are t: in the column of a kept place stands 1 in
+  module _ (n : ℕ) (bound : List ℕ) where
+    -- the rows M of the n equations H, reduced at the bound places below p, of which there are t: in the column of a bound place stands 1 in
     -- the row of its own number and 0 in every other; the first t rows hold where the first t equations do, and only there; and where
     -- they hold every other row sums up to what its equation does
     pub record ReducedTo (p t : ℕ) (H M : ℕ → ℕ → ℕ) : Type 0 where
-      pub count : t ≡ countBelow p (lost kept)
-      pub unit : (q : ℕ) → q < p → lost kept q ≡ true → (i : ℕ) → i < n → M i q ≡ identity i (countBelow q (lost kept))
+      pub count : t ≡ countBelow p (lost bound)
+      pub unit : (q : ℕ) → q < p → lost bound q ≡ true → (i : ℕ) → i < n → M i q ≡ identity i (countBelow q (lost bound))
       pub forth : (y : ℕ → ℕ) → Meets t y H → Meets t y M
       pub back : (y : ℕ → ℕ) → Meets t y M → Meets t y H
       pub rest : (y : ℕ → ℕ) → Meets t y H → (i : ℕ) → t ≤ i → i < n → dot y (M i) ≡ dot y (H i)

@@ -33,20 +33,20 @@ use Rattle.solve.specs.Steps.{identity}
 use Rattle.solve.specs.StepsLaws.{identity-same, identity-other}
 use Rattle.block_constants.specs.Reduced.{dot, Meets, ReducedTo, Pivoted}
 
-pub count-here : (kept : List ℕ) (p : ℕ) → lost kept p ≡ true → countBelow (suc p) (lost kept) ≡ suc (countBelow p (lost kept))
-count-here kept p e =
-    let s : countBelow (suc p) (lost kept) ≡ countBelow p (lost kept) + 1 = total-suc p (λ i. one (lost kept i))
-    ∙ ap (λ b. countBelow p (lost kept) + one b) e in
+pub count-here : (bound : List ℕ) (p : ℕ) → lost bound p ≡ true → countBelow (suc p) (lost bound) ≡ suc (countBelow p (lost bound))
+count-here bound p e =
+    let s : countBelow (suc p) (lost bound) ≡ countBelow p (lost bound) + 1 = total-suc p (λ i. one (lost bound i))
+    ∙ ap (λ b. countBelow p (lost bound) + one b) e in
     omega arith
 
--- the kept places below p are no more than those up to it
-pub count-down : (kept : List ℕ) (p n : ℕ) → countBelow (p + 1) (lost kept) ≤ n → countBelow p (lost kept) ≤ n
-count-down kept p n l = let k = total-mono {i = p} {n = p + 1} (λ i. one (lost kept i)) (omega arith) in omega arith
+-- the bound places below p are no more than those up to it
+pub count-down : (bound : List ℕ) (p n : ℕ) → countBelow (p + 1) (lost bound) ≤ n → countBelow p (lost bound) ≤ n
+count-down bound p n l = let k = total-mono {i = p} {n = p + 1} (λ i. one (lost bound i)) (omega arith) in omega arith
 
-pub count-past : (kept : List ℕ) (p : ℕ) → lost kept p ≡ false → countBelow (suc p) (lost kept) ≡ countBelow p (lost kept)
-count-past kept p e =
-    let s : countBelow (suc p) (lost kept) ≡ countBelow p (lost kept) + 0 = total-suc p (λ i. one (lost kept i))
-    ∙ ap (λ b. countBelow p (lost kept) + one b) e in
+pub count-past : (bound : List ℕ) (p : ℕ) → lost bound p ≡ false → countBelow (suc p) (lost bound) ≡ countBelow p (lost bound)
+count-past bound p e =
+    let s : countBelow (suc p) (lost bound) ≡ countBelow p (lost bound) + 0 = total-suc p (λ i. one (lost bound i))
+    ∙ ap (λ b. countBelow p (lost bound) + one b) e in
     omega arith
 
 module _ (E : Edition) (w : ℕ) where
@@ -68,8 +68,8 @@ module _ (E : Edition) (w : ℕ) where
   dot-lt y h = sum-lt (E .bits) w _ (λ j _. product-lt (E .bits) (E .poly) (y j) (h j))
 
   -- one step
-  module _ (S : Sound E) (n : ℕ) (kept : List ℕ) (p t : ℕ) (H M M′ : ℕ → ℕ → ℕ) (R : ReducedTo E w n kept p t H M) (P : Pivoted E w n p t M M′)
-      (inside : p < w) (t-less : t < n) (small : (i : ℕ) → i < n → M i p < 2 ^ E .bits) (lost-here : lost kept p ≡ true) (some : M t p ≡ 0 → ⊥) where
+  module _ (S : Sound E) (n : ℕ) (bound : List ℕ) (p t : ℕ) (H M M′ : ℕ → ℕ → ℕ) (R : ReducedTo E w n bound p t H M) (P : Pivoted E w n p t M M′)
+      (inside : p < w) (t-less : t < n) (small : (i : ℕ) → i < n → M i p < 2 ^ E .bits) (lost-here : lost bound p ≡ true) (some : M t p ≡ 0 → ⊥) where
     f : ℕ
     f = inverse (E .bits) (E .poly) (M t p)
 
@@ -129,11 +129,11 @@ module _ (E : Edition) (w : ℕ) where
     unfolding f
     pivot-here = P .own p inside ∙ unit-here
 
-    unit′ : (q : ℕ) → q < suc p → lost kept q ≡ true → (i : ℕ) → i < n → M′ i q ≡ identity i (countBelow q (lost kept))
+    unit′ : (q : ℕ) → q < suc p → lost bound q ≡ true → (i : ℕ) → i < n → M′ i q ≡ identity i (countBelow q (lost bound))
     unfolding f
     unit′ q l e i b = elim (ℕ-discrete q p) [
       | yes d ↦
-          (let c : countBelow q (lost kept) ≡ t = ap (λ k. countBelow k (lost kept)) d ∙ sym (R .count) in
+          (let c : countBelow q (lost bound) ≡ t = ap (λ k. countBelow k (lost bound)) d ∙ sym (R .count) in
           elim (ℕ-discrete i t) [
             | yes s ↦ ap₂ M′ s d ∙ pivot-here ∙ sym (identity-same i _ (s ∙ sym c))
             | no s ↦
@@ -142,7 +142,7 @@ module _ (E : Edition) (w : ℕ) where
           ])
       | no d ↦
           (let h : q < w = omega arith in
-          let c : countBelow q (lost kept) < t = subst (λ k. countBelow q (lost kept) < k) (sym (R .count)) (count-next q p (lost kept) (omega arith) e) in
+          let c : countBelow q (lost bound) < t = subst (λ k. countBelow q (lost bound) < k) (sym (R .count)) (count-next q p (lost bound) (omega arith) e) in
           let z : M t q ≡ 0 = R .unit q (omega arith) e t t-less ∙ identity-other t _ (λ s. omega arith) in
           let o : M′ t q ≡ 0 = P .own q h ∙ ap (λ a. times E a f) z ∙ zero-product (E .bits) (E .poly) f in
           elim (ℕ-discrete i t) [
@@ -153,9 +153,9 @@ module _ (E : Edition) (w : ℕ) where
           ])
     ]
 
-    pub reduced-more : ReducedTo E w n kept (suc p) (suc t) H M′
+    pub reduced-more : ReducedTo E w n bound (suc p) (suc t) H M′
     reduced-more = record {
-      count = ap suc (R .count) ∙ sym (count-here kept p lost-here);
+      count = ap suc (R .count) ∙ sym (count-here bound p lost-here);
       unit = unit′;
       forth = forth′;
       back = back′;
@@ -163,9 +163,9 @@ module _ (E : Edition) (w : ℕ) where
     }
 
   -- before the first place
-  pub reduced-none : (n : ℕ) (kept : List ℕ) (H M : ℕ → ℕ → ℕ) → ((i : ℕ) → i < n → (j : ℕ) → j < w → M i j ≡ H i j) → ReducedTo E w n kept 0 0 H M
-  reduced-none n kept H M same = record {
-    count = sym (total-none (λ i. one (lost kept i)));
+  pub reduced-none : (n : ℕ) (bound : List ℕ) (H M : ℕ → ℕ → ℕ) → ((i : ℕ) → i < n → (j : ℕ) → j < w → M i j ≡ H i j) → ReducedTo E w n bound 0 0 H M
+  reduced-none n bound H M same = record {
+    count = sym (total-none (λ i. one (lost bound i)));
     unit = λ q l. absurd (omega arith);
     forth = λ y z i l. absurd (omega arith);
     back = λ y z i l. absurd (omega arith);
@@ -173,9 +173,9 @@ module _ (E : Edition) (w : ℕ) where
   }
 
   -- equations with the same coefficients
-  pub reduced-ext : (n : ℕ) (kept : List ℕ) (p t : ℕ) (H K M : ℕ → ℕ → ℕ) → t ≤ n → ((i : ℕ) → i < n → (j : ℕ) → j < w → H i j ≡ K i j)
-      → ReducedTo E w n kept p t H M → ReducedTo E w n kept p t K M
-  reduced-ext n kept p t H K M few same R = record {
+  pub reduced-ext : (n : ℕ) (bound : List ℕ) (p t : ℕ) (H K M : ℕ → ℕ → ℕ) → t ≤ n → ((i : ℕ) → i < n → (j : ℕ) → j < w → H i j ≡ K i j)
+      → ReducedTo E w n bound p t H M → ReducedTo E w n bound p t K M
+  reduced-ext n bound p t H K M few same R = record {
     count = R .count;
     unit = R .unit;
     forth = λ y z. R .forth y (λ e l. swap y e (omega arith) ∙ z e l);
@@ -186,13 +186,13 @@ module _ (E : Edition) (w : ℕ) where
       swap : (y : ℕ → ℕ) (i : ℕ) → i < n → dot E w y (H i) ≡ dot E w y (K i)
       swap y i l = dot-ext y y (H i) (K i) (λ _ _. refl) (same i l)
 
-  -- a place that is not kept changes nothing
-  pub reduced-past : (n : ℕ) (kept : List ℕ) (p t : ℕ) (H M : ℕ → ℕ → ℕ) → lost kept p ≡ false → ReducedTo E w n kept p t H M
-      → ReducedTo E w n kept (suc p) t H M
-  reduced-past n kept p t H M e R = record {
-    count = R .count ∙ sym (count-past kept p e);
+  -- a place that is not bound changes nothing
+  pub reduced-past : (n : ℕ) (bound : List ℕ) (p t : ℕ) (H M : ℕ → ℕ → ℕ) → lost bound p ≡ false → ReducedTo E w n bound p t H M
+      → ReducedTo E w n bound (suc p) t H M
+  reduced-past n bound p t H M e R = record {
+    count = R .count ∙ sym (count-past bound p e);
     unit = λ q l f i b. elim (ℕ-discrete q p) [
-      | yes d ↦ absurd (true≢false (sym f ∙ ap (lost kept) d ∙ e))
+      | yes d ↦ absurd (true≢false (sym f ∙ ap (lost bound) d ∙ e))
       | no d ↦ R .unit q (omega arith) f i b
     ];
     forth = R .forth;
@@ -201,20 +201,20 @@ module _ (E : Edition) (w : ℕ) where
   }
 
 -- ---- the pivot is not 0
-module _ (w : ℕ) (kept : List ℕ) where
-  -- the kept places below n
+module _ (w : ℕ) (bound : List ℕ) where
+  -- the bound places below n
   upTo : ℕ → List ℕ
-  upTo n = listOf w (λ q. cond (ltb q n) (getD kept q 0) 0)
+  upTo n = listOf w (λ q. cond (ltb q n) (getD bound q 0) 0)
 
-  up-lost : (n q : ℕ) → q < w → q < n → lost (upTo n) q ≡ lost kept q
+  up-lost : (n q : ℕ) → q < w → q < n → lost (upTo n) q ≡ lost bound q
   unfolding upTo
-  up-lost n q l h = ap (λ b. eqb b 1) (list-at w _ q l ∙ ap (λ b. cond b (getD kept q 0) 0) (lt-ltb q n h))
+  up-lost n q l h = ap (λ b. eqb b 1) (list-at w _ q l ∙ ap (λ b. cond b (getD bound q 0) 0) (lt-ltb q n h))
 
   up-past : (n q : ℕ) → q < w → n ≤ q → lost (upTo n) q ≡ false
   unfolding upTo
-  up-past n q l h = ap (λ b. eqb b 1) (list-at w _ q l ∙ ap (λ b. cond b (getD kept q 0) 0) (le-ltb q n h))
+  up-past n q l h = ap (λ b. eqb b 1) (list-at w _ q l ∙ ap (λ b. cond b (getD bound q 0) 0) (le-ltb q n h))
 
-  up-count : (n : ℕ) → n ≤ w → lostIn w (upTo n) 0 ≡ countBelow n (lost kept)
+  up-count : (n : ℕ) → n ≤ w → lostIn w (upTo n) 0 ≡ countBelow n (lost bound)
   unfolding lostIn
   up-count n l =
       let e : w ≡ n + (w - n) = omega arith in
@@ -223,14 +223,14 @@ module _ (w : ℕ) (kept : List ℕ) where
       ∙ ap (λ k. countBelow n (lost (upTo n)) + k) (total-zero (w - n) _ (λ q b. ap one (up-past n (n + q) (omega arith) (omega arith))))
       ∙ add-zero _ ∙ count-ext n _ _ (λ q b. up-lost n q (omega arith) b)
 
-  module _ (E : Edition) (S : Sound E) (wide : 0 < w) (narrow : w ≤ E .small) (n p t : ℕ) (H M : ℕ → ℕ → ℕ) (R : ReducedTo E w n kept p t H M)
+  module _ (E : Edition) (S : Sound E) (wide : 0 < w) (narrow : w ≤ E .small) (n p t : ℕ) (H M : ℕ → ℕ → ℕ) (R : ReducedTo E w n bound p t H M)
       (powers : (e : ℕ) → e ≤ t → (j : ℕ) → j < w → H e j ≡ raised E (E .locator j) e) (inside : p < w) (t-less : t < n)
-      (lost-here : lost kept p ≡ true) where
+      (lost-here : lost bound p ≡ true) where
     local-dot : (h : List ℕ) (e : ℕ) → e ≤ t → localSum E w h 0 e ≡ dot E w (λ j. getD h j 0) (H e)
     unfolding groupSum dot
     local-dot h e l = sum-ext w _ _ (λ j b. ap₂ (times E) (ap (λ i. getD h i 0) (own-place w j)) (sym (powers e l j b)))
 
-    -- a way of p has nothing outside the kept places below p and p itself
+    -- a way of p has nothing outside the bound places below p and p itself
     off : (W : LocalWay E w (upTo p) p) (j : ℕ) → j < w → lost (upTo (suc p)) j ≡ false → getD (W .h) j 0 ≡ 0
     off W j l e = W .off j l (go j l e) (λ q. true≢false (sym (up-lost (suc p) p inside (omega arith) ∙ lost-here) ∙ ap (lost (upTo (suc p))) (sym q) ∙ e))
       where
@@ -243,14 +243,14 @@ module _ (w : ℕ) (kept : List ℕ) where
     same : (W : LocalWay E w (upTo p) p) (j : ℕ) → j < w → lost (upTo (suc p)) (0 * w + j) ≡ false → getD (W .h) (0 * w + j) 0 ≡ getD (blank w) (0 * w + j) 0
     same W j l e = ap (λ i. getD (W .h) i 0) (own-place w j) ∙ off W j l (ap (lost (upTo (suc p))) (sym (own-place w j)) ∙ e) ∙ sym (blank-at w (0 * w + j))
 
-    -- row t has nothing at the kept places below p
+    -- row t has nothing at the bound places below p
     row-off : M t p ≡ 0 → (j : ℕ) → j < w → lost (upTo (suc p)) j ≡ true → M t j ≡ 0
     row-off z j l e = elim (ℕ-discrete j p) [
       | yes d ↦ ap (M t) d ∙ z
       | no d ↦ elim (decLt j p) [
         | yes b ↦
-            (let k : lost kept j ≡ true = sym (up-lost (suc p) j l (omega arith)) ∙ e in
-            let c = count-next j p (lost kept) b k in
+            (let k : lost bound j ≡ true = sym (up-lost (suc p) j l (omega arith)) ∙ e in
+            let c = count-next j p (lost bound) b k in
             let f = R .count in
             R .unit j b k t t-less ∙ identity-other t _ (λ s. omega arith))
         | no b ↦ absurd (true≢false (sym e ∙ up-past (suc p) j l (omega arith)))
@@ -272,7 +272,7 @@ module _ (w : ℕ) (kept : List ℕ) where
         let c : lostIn w (upTo p) 0 ≡ t = up-count p (omega arith) ∙ sym (R .count) in
         let low : Meets E w t h H = λ e l. sym (local-dot (W .h) e (omega arith)) ∙ W .zero e (subst (λ k. e < k) (sym c) l) in
         let last : dot E w h (H t) ≡ 0 = sym (R .rest h low t (omega arith) t-less) ∙ none z W in
-        let k : lostIn w (upTo (suc p)) 0 ≡ suc t = up-count (suc p) inside ∙ count-here kept p lost-here ∙ ap suc (sym (R .count)) in
+        let k : lostIn w (upTo (suc p)) 0 ≡ suc t = up-count (suc p) inside ∙ count-here bound p lost-here ∙ ap suc (sym (R .count)) in
         let u = local-unique E S w (suc t) 0 wide narrow (upTo (suc p)) (W .h) (blank w) (W .symbols .each)
         (λ q. subst (λ b. b < 2 ^ E .bits) (sym (blank-at w q)) (pow-pos (E .bits)))
         (λ e l. elim (ℕ-discrete e t) [

@@ -79,18 +79,18 @@ fn equations(first: [u8; 16], second: [u8; 16]) -> [[u8; 16]; 6]
     [a, b, c, d, first, second]
 }
 
-// The six equations, reduced at its kept places, where these are at most four of at most sixteen.
-pub fn group_rows(kept: &[u8], first: [u8; 16], second: [u8; 16]) -> [[u8; 16]; 6]
-    ensures { λ r. ⌜ (length (now (kept .entry)) ≤ 16 → 1 ≤ length (now (kept .entry)) → lostIn (length (now (kept .entry))) (now (kept .entry)) 0 ≤ 4 → ReducedTo byteEdition (length (now (kept .entry))) 6 (now (kept .entry)) (length (now (kept .entry))) (lostIn (length (now (kept .entry))) (now (kept .entry)) 0) (equationOf first second) (entry r)) ⌝ }
+// The six equations, reduced at its bound places, where these are at most four of at most sixteen.
+pub fn group_rows(bound: &[u8], first: [u8; 16], second: [u8; 16]) -> [[u8; 16]; 6]
+    ensures { λ r. ⌜ (length (now (bound .entry)) ≤ 16 → 1 ≤ length (now (bound .entry)) → lostIn (length (now (bound .entry))) (now (bound .entry)) 0 ≤ 4 → ReducedTo byteEdition (length (now (bound .entry))) 6 (now (bound .entry)) (length (now (bound .entry))) (lostIn (length (now (bound .entry))) (now (bound .entry)) 0) (equationOf first second) (entry r)) ⌝ }
 {
     let mut rows = equations(first, second);
-    if 16 < kept.len() {
+    if 16 < bound.len() {
         return rows;
     }
     let mut t: usize = 0;
     let mut p: usize = 0;
-    while p < kept.len() {
-        if kept[p] == 1 {
+    while p < bound.len() {
+        if bound[p] == 1 {
             if t < 4 {
                 let next = pivot(rows, t, p);
                 rows = next;

@@ -6,7 +6,7 @@ use Prim.Native.Nat.{ℕ, _<_}
 use Rattle.code.specs.Marks.{lost}
 use Rattle.block_engine.specs.Whole.{rowSum}
 
-module _ (n : ℕ) (marks kept : List ℕ) where
+module _ (n : ℕ) (marks bound : List ℕ) where
   -- the same at every present place
   abbrev pub PresentSame : (ℕ → ℕ) → (ℕ → ℕ) → Type 0
   PresentSame v z = (p : ℕ) → p < n → lost marks p ≡ false → v p ≡ z p

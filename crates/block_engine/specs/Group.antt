@@ -1,4 +1,4 @@
--- One group of a block rebuild: its six equations, and the constants that stand for them at the places that are not kept.
+-- One group of a block rebuild: its six equations, and the constants that stand for them at the places that are not bound.
 use mathlib.Core.Path.{_≡_}
 use mathlib.Core.Bool.{true, false, cond}
 use mathlib.Core.List.{List}
@@ -23,33 +23,33 @@ checkOf c g (suc (suc (suc (suc (suc i))))) j = secondCoefficient byteEdition c 
 abbrev pub groupOf : ℕ → ℕ → List ℕ → ℕ → ℕ
 groupOf w g word j = getD word (g * w + j) 0
 
--- a row with 0 at the kept places
+-- a row with 0 at the bound places
 abbrev pub masked : List ℕ → (ℕ → ℕ) → ℕ → ℕ
-masked kept row j = cond (lost kept j) 0 (row j)
+masked bound row j = cond (lost bound j) 0 (row j)
 
-module _ (w c g : ℕ) (kept : List ℕ) where
-  -- y meets as many of the group's local equations as places are kept, and is v at every place that is not
+module _ (w c g : ℕ) (bound : List ℕ) where
+  -- y meets as many of the group's local equations as places are bound, and is v at every place that is not
   pub record Fills (v y : ℕ → ℕ) : Type 0 where
     pub small : (j : ℕ) → y j < 256
-    pub same : (j : ℕ) → j < w → lost kept j ≡ false → y j ≡ v j
-    pub meets : Meets byteEdition w (lostIn w kept 0) y (checkOf c g)
+    pub same : (j : ℕ) → j < w → lost bound j ≡ false → y j ≡ v j
+    pub meets : Meets byteEdition w (lostIn w bound 0) y (checkOf c g)
 
-  -- y meets all local equations of the group, and is v at every place that is not kept
+  -- y meets all local equations of the group, and is v at every place that is not bound
   pub record AgreesIn (v y : ℕ → ℕ) : Type 0 where
     pub small : (j : ℕ) → y j < 256
-    pub same : (j : ℕ) → j < w → lost kept j ≡ false → y j ≡ v j
+    pub same : (j : ℕ) → j < w → lost bound j ≡ false → y j ≡ v j
     pub meets : Meets byteEdition w c y (checkOf c g)
 
   -- some y does
   abbrev pub Mendable : (ℕ → ℕ) → Type 0
   Mendable v = (y : ℕ → ℕ) × AgreesIn v y
 
-  -- constants that stand for equation i: 0 at the kept places, and the same sum with whatever fills v
+  -- constants that stand for equation i: 0 at the bound places, and the same sum with whatever fills v
   pub record StandsFor (i : ℕ) (a : ℕ → ℕ) : Type 0 where
-    pub none : (j : ℕ) → j < w → lost kept j ≡ true → a j ≡ 0
+    pub none : (j : ℕ) → j < w → lost bound j ≡ true → a j ≡ 0
     pub sum : (v y : ℕ → ℕ) → Fills v y → dot byteEdition w y (checkOf c g i) ≡ dot byteEdition w v a
 
-  -- constants that give the symbol of the kept place j
+  -- constants that give the symbol of the bound place j
   pub record Gives (j : ℕ) (a : ℕ → ℕ) : Type 0 where
-    pub none : (i : ℕ) → i < w → lost kept i ≡ true → a i ≡ 0
+    pub none : (i : ℕ) → i < w → lost bound i ≡ true → a i ≡ 0
     pub sum : (v y : ℕ → ℕ) → Fills v y → y j ≡ dot byteEdition w v a

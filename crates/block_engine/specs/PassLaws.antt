@@ -34,68 +34,68 @@ unfolding blockSum dot
 sum-dot size blocks first w constants i x a e =
     sum-ext w _ _ (λ j l. ap (λ k. product 8 285 k (getD blocks ((first + j) * size + x) 0)) (e j l) ∙ product-comm 8 285 (a j) _)
 
-pub stands-ext : (w c g : ℕ) (kept : List ℕ) (i : ℕ) (a b : ℕ → ℕ) → ((j : ℕ) → j < w → a j ≡ b j) → StandsFor w c g kept i a → StandsFor w c g kept i b
-stands-ext w c g kept i a b e A = record {
+pub stands-ext : (w c g : ℕ) (bound : List ℕ) (i : ℕ) (a b : ℕ → ℕ) → ((j : ℕ) → j < w → a j ≡ b j) → StandsFor w c g bound i a → StandsFor w c g bound i b
+stands-ext w c g bound i a b e A = record {
   none = λ j l k. sym (e j l) ∙ A .none j l k;
   sum = λ v y F. A .sum v y F ∙ dot-ext byteEdition w v v a b (λ _ _. refl) e;
 }
 
-module _ (w c g : ℕ) (wide : 1 ≤ w) (narrow : w ≤ 16) (kept : List ℕ) (checks : c ≤ 4) (within : lostIn w kept 0 ≤ c) (size : ℕ) (blocks : List ℕ)
+module _ (w c g : ℕ) (wide : 1 ≤ w) (narrow : w ≤ 16) (bound : List ℕ) (checks : c ≤ 4) (within : lostIn w bound 0 ≤ c) (size : ℕ) (blocks : List ℕ)
     (small : (i : ℕ) → getD blocks i 0 < 256) where
   abbrev v : ℕ → ℕ → ℕ
   v x j = placeSymbol size blocks x (g * w + j)
 
   -- a group that has lost c places can be mended in every word
-  pub group-all : lostIn w kept 0 ≡ c → (limit : ℕ) → Limit limit limit (λ x. Mendable w c g kept (λ j. placeSymbol size blocks x (g * w + j)))
+  pub group-all : lostIn w bound 0 ≡ c → (limit : ℕ) → Limit limit limit (λ x. Mendable w c g bound (λ j. placeSymbol size blocks x (g * w + j)))
   group-all e limit = limit-none limit _ (λ x l.
-      mendable w c g wide narrow kept (omega arith) (v x) (λ j. small _) checks within (λ _ _. 0) (λ k h b. absurd (omega arith))
+      mendable w c g wide narrow bound (omega arith) (v x) (λ j. small _) checks within (λ _ _. 0) (λ k h b. absurd (omega arith))
       (λ k h b. absurd (omega arith)))
 
-  module _ (M : ℕ → ℕ → ℕ) (R : ReducedTo byteEdition w 6 kept w (lostIn w kept 0) (checkOf c g) M) (constants : List ℕ) where
+  module _ (M : ℕ → ℕ → ℕ) (R : ReducedTo byteEdition w 6 bound w (lostIn w bound 0) (checkOf c g) M) (constants : List ℕ) where
     -- the words below the limit that can be mended
-    pub group-limit : ((r : ℕ) → r < c - lostIn w kept 0 → (j : ℕ) → j < w → getD constants (r * w + j) 0 ≡ masked kept (M (lostIn w kept 0 + r)) j)
-        → (limit r : ℕ) → ZeroUntil size blocks (g * w) w (c - lostIn w kept 0) constants limit r
-        → Limit limit r (λ x. Mendable w c g kept (λ j. placeSymbol size blocks x (g * w + j)))
+    pub group-limit : ((r : ℕ) → r < c - lostIn w bound 0 → (j : ℕ) → j < w → getD constants (r * w + j) 0 ≡ masked bound (M (lostIn w bound 0 + r)) j)
+        → (limit r : ℕ) → ZeroUntil size blocks (g * w) w (c - lostIn w bound 0) constants limit r
+        → Limit limit r (λ x. Mendable w c g bound (λ j. placeSymbol size blocks x (g * w + j)))
     group-limit packed limit r Z = record {
       most = Z .most;
       holds = λ x l.
-          mendable w c g wide narrow kept (omega arith) (v x) (λ j. small _) checks within rows stand (λ e h b.
-          sym (row e h b x) ∙ Z .zero x l (e - lostIn w kept 0) (omega arith));
+          mendable w c g wide narrow bound (omega arith) (v x) (λ j. small _) checks within rows stand (λ e h b.
+          sym (row e h b x) ∙ Z .zero x l (e - lostIn w bound 0) (omega arith));
       stops = λ l q.
           Z .stop l (λ i h.
-          let e : lostIn w kept 0 + i - lostIn w kept 0 ≡ i = omega arith in
-          ap (λ k. blockSum size blocks (g * w) w constants k r) (sym e) ∙ row (lostIn w kept 0 + i) (omega arith) (omega arith) r
-          ∙ mended w c g wide narrow kept (omega arith) (v r) (λ j. small _) checks within rows stand q (lostIn w kept 0 + i) (omega arith) (omega arith));
+          let e : lostIn w bound 0 + i - lostIn w bound 0 ≡ i = omega arith in
+          ap (λ k. blockSum size blocks (g * w) w constants k r) (sym e) ∙ row (lostIn w bound 0 + i) (omega arith) (omega arith) r
+          ∙ mended w c g wide narrow bound (omega arith) (v r) (λ j. small _) checks within rows stand q (lostIn w bound 0 + i) (omega arith) (omega arith));
     }
       where
         rows : ℕ → ℕ → ℕ
-        rows e = masked kept (M e)
+        rows e = masked bound (M e)
 
-        stand : (e : ℕ) → lostIn w kept 0 ≤ e → e < c → StandsFor w c g kept e (rows e)
-        stand e h b = stands w c g kept M R e h (omega arith)
+        stand : (e : ℕ) → lostIn w bound 0 ≤ e → e < c → StandsFor w c g bound e (rows e)
+        stand e h b = stands w c g bound M R e h (omega arith)
 
-        row : (e : ℕ) → lostIn w kept 0 ≤ e → e < c → (x : ℕ) → blockSum size blocks (g * w) w constants (e - lostIn w kept 0) x
+        row : (e : ℕ) → lostIn w bound 0 ≤ e → e < c → (x : ℕ) → blockSum size blocks (g * w) w constants (e - lostIn w bound 0) x
             ≡ dot byteEdition w (v x) (rows e)
         row e h b x =
-            let k : lostIn w kept 0 + (e - lostIn w kept 0) ≡ e = omega arith in
-            sum-dot size blocks (g * w) w constants (e - lostIn w kept 0) x (rows e)
-            (λ j l. packed (e - lostIn w kept 0) (omega arith) j l ∙ ap (λ i. masked kept (M i) j) k)
+            let k : lostIn w bound 0 + (e - lostIn w bound 0) ≡ e = omega arith in
+            sum-dot size blocks (g * w) w constants (e - lostIn w bound 0) x (rows e)
+            (λ j l. packed (e - lostIn w bound 0) (omega arith) j l ∙ ap (λ i. masked bound (M i) j) k)
 
-    -- the same, with the number of kept places under another name
-    pub group-limit-at : (t : ℕ) → t ≡ lostIn w kept 0 → ((r : ℕ) → r < c - t → (j : ℕ) → j < w → getD constants (r * w + j) 0 ≡ masked kept (M (t + r)) j)
+    -- the same, with the number of bound places under another name
+    pub group-limit-at : (t : ℕ) → t ≡ lostIn w bound 0 → ((r : ℕ) → r < c - t → (j : ℕ) → j < w → getD constants (r * w + j) 0 ≡ masked bound (M (t + r)) j)
         → (limit r : ℕ) → ZeroUntil size blocks (g * w) w (c - t) constants limit r
-        → Limit limit r (λ x. Mendable w c g kept (λ j. placeSymbol size blocks x (g * w + j)))
+        → Limit limit r (λ x. Mendable w c g bound (λ j. placeSymbol size blocks x (g * w + j)))
     group-limit-at t e =
-        subst (λ t. ((r : ℕ) → r < c - t → (j : ℕ) → j < w → getD constants (r * w + j) 0 ≡ masked kept (M (t + r)) j)
+        subst (λ t. ((r : ℕ) → r < c - t → (j : ℕ) → j < w → getD constants (r * w + j) 0 ≡ masked bound (M (t + r)) j)
         → (limit r : ℕ) → ZeroUntil size blocks (g * w) w (c - t) constants limit r
-        → Limit limit r (λ x. Mendable w c g kept (λ j. placeSymbol size blocks x (g * w + j)))) (sym e) group-limit
+        → Limit limit r (λ x. Mendable w c g bound (λ j. placeSymbol size blocks x (g * w + j)))) (sym e) group-limit
 
     -- ---- the second pass
-    module _ (to after : List ℕ) (packed : (r : ℕ) → r < lostIn w kept 0 → (j : ℕ) → j < w → getD constants (r * w + j) 0 ≡ masked kept (M r) j)
-        (T : Targets (g * w) kept to w (lostIn w kept 0)) where
-      module _ (W : SumsWritten size blocks (g * w) w (lostIn w kept 0) constants to after) where
+    module _ (to after : List ℕ) (packed : (r : ℕ) → r < lostIn w bound 0 → (j : ℕ) → j < w → getD constants (r * w + j) 0 ≡ masked bound (M r) j)
+        (T : Targets (g * w) bound to w (lostIn w bound 0)) where
+      module _ (W : SumsWritten size blocks (g * w) w (lostIn w bound 0) constants to after) where
         -- a place that is no target stays
-        stays : (p x : ℕ) → x < size → ((i : ℕ) → i < lostIn w kept 0 → getD to i 0 ≡ p → ⊥) → placeSymbol size after x p ≡ placeSymbol size blocks x p
+        stays : (p x : ℕ) → x < size → ((i : ℕ) → i < lostIn w bound 0 → getD to i 0 ≡ p → ⊥) → placeSymbol size after x p ≡ placeSymbol size blocks x p
         stays p x l n = W .other (p * size + x) (λ i h. side (getD to i 0) (n i h))
           where
             side : (q : ℕ) → (q ≡ p → ⊥) → (p * size + x < q * size) ⊎ ((q + 1) * size ≤ p * size + x)
@@ -116,38 +116,38 @@ module _ (w c g : ℕ) (wide : 1 ≤ w) (narrow : w ≤ 16) (kept : List ℕ) (c
                 next : (q : ℕ) → (q + 1) * size ≡ q * size + size
                 next q = let e : q + 1 ≡ suc q = omega arith in ap (λ k. k * size) e ∙ suc-mul q size
 
-        pub group-filled : GroupFilled w c size g kept blocks after
+        pub group-filled : GroupFilled w c size g bound blocks after
         group-filled = record {
           long = W .long;
-          here = λ x l y A j h. go x l y A j h (lost kept j) refl;
+          here = λ x l y A j h. go x l y A j h (lost bound j) refl;
           other = λ p x l n. stays p x l (λ i h e. let t = T .each i h in n (t .0) (t .1) (sym e ∙ t .3));
         }
           where
-            go : (x : ℕ) → x < size → (y : ℕ → ℕ) → AgreesIn w c g kept (v x) y → (j : ℕ) → j < w → (b : Bool) → lost kept j ≡ b
+            go : (x : ℕ) → x < size → (y : ℕ → ℕ) → AgreesIn w c g bound (v x) y → (j : ℕ) → j < w → (b : Bool) → lost bound j ≡ b
                 → placeSymbol size after x (g * w + j) ≡ y j
             go x l y A j h false e =
                 stays (g * w + j) x l (λ i b q.
                 let t = T .each i b in
                 let s : t .0 ≡ j = (let z : g * w + t .0 ≡ g * w + j = sym (t .3) ∙ q in omega arith) in
-                true≢false (sym (t .2) ∙ ap (lost kept) s ∙ e))
+                true≢false (sym (t .2) ∙ ap (lost bound) s ∙ e))
                 ∙ sym (A .same j h e)
             go x l y A j h true e =
-                let r : ℕ = countBelow j (lost kept) in
-                let few : r < lostIn w kept 0 = (let z = count-next j w (lost kept) h e in let q = R .count in omega arith) in
+                let r : ℕ = countBelow j (lost bound) in
+                let few : r < lostIn w bound 0 = (let z = count-next j w (lost bound) h e in let q = R .count in omega arith) in
                 let o : getD to r 0 ≡ g * w + j = T .own j h e in
                 ap (λ p. placeSymbol size after x p) (sym o)
                 ∙ W .here r few (λ k a b q.
                 let t = T .each k b in
                 let s : t .0 ≡ j = (let z : g * w + t .0 ≡ g * w + j = sym (t .3) ∙ q ∙ o in omega arith) in
-                let u : k ≡ r = sym (t .4) ∙ ap (λ i. countBelow i (lost kept)) s in
+                let u : k ≡ r = sym (t .4) ∙ ap (λ i. countBelow i (lost bound)) s in
                 omega arith) x l
-                ∙ sum-dot size blocks (g * w) w constants r x (masked kept (M r)) (packed r few)
-                ∙ sym (gives w c g kept M R j h e (omega arith) .sum (v x) y (agrees-fills w c g kept (v x) y within A))
+                ∙ sum-dot size blocks (g * w) w constants r x (masked bound (M r)) (packed r few)
+                ∙ sym (gives w c g bound M R j h e (omega arith) .sum (v x) y (agrees-fills w c g bound (v x) y within A))
 
 -- the targets lie within the blocks
-pub aimed-at : (w g : ℕ) (kept : List ℕ) (size : ℕ) (blocks to : List ℕ) (t : ℕ) → t ≡ lostIn w kept 0 → Targets (g * w) kept to w (lostIn w kept 0)
+pub aimed-at : (w g : ℕ) (bound : List ℕ) (size : ℕ) (blocks to : List ℕ) (t : ℕ) → t ≡ lostIn w bound 0 → Targets (g * w) bound to w (lostIn w bound 0)
     → (g * w + w) * size ≤ length blocks → Aimed size blocks t to
-aimed-at w g kept size blocks to t e T fits = record {
+aimed-at w g bound size blocks to t e T fits = record {
   inside = λ i l.
       let q = T .each i (omega arith) in
       let z : getD to i 0 ≡ g * w + q .0 = q .3 in
@@ -156,26 +156,26 @@ aimed-at w g kept size blocks to t e T fits = record {
       omega arith;
 }
 
--- the same, with the number of kept places under another name
-pub group-filled-at : (w c g : ℕ) → 1 ≤ w → w ≤ 16 → (kept : List ℕ) → c ≤ 4 → lostIn w kept 0 ≤ c → (size : ℕ) (blocks : List ℕ)
+-- the same, with the number of bound places under another name
+pub group-filled-at : (w c g : ℕ) → 1 ≤ w → w ≤ 16 → (bound : List ℕ) → c ≤ 4 → lostIn w bound 0 ≤ c → (size : ℕ) (blocks : List ℕ)
     → ((i : ℕ) → getD blocks i 0 < 256)
-    → (M : ℕ → ℕ → ℕ) → ReducedTo byteEdition w 6 kept w (lostIn w kept 0) (checkOf c g) M → (constants to after : List ℕ) (t : ℕ) → t ≡ lostIn w kept 0
-    → ((r : ℕ) → r < t → (j : ℕ) → j < w → getD constants (r * w + j) 0 ≡ masked kept (M (0 + r)) j) → Targets (g * w) kept to w (lostIn w kept 0)
-    → SumsWritten size blocks (g * w) w t constants to after → GroupFilled w c size g kept blocks after
-group-filled-at w c g wide narrow kept checks within size blocks small M R constants to after t e packed T W =
-    group-filled w c g wide narrow kept checks within size blocks small M R constants to after
-    (λ r l j h. packed r (omega arith) j h ∙ ap (λ k. masked kept (M k) j) (zero-add r)) T
+    → (M : ℕ → ℕ → ℕ) → ReducedTo byteEdition w 6 bound w (lostIn w bound 0) (checkOf c g) M → (constants to after : List ℕ) (t : ℕ) → t ≡ lostIn w bound 0
+    → ((r : ℕ) → r < t → (j : ℕ) → j < w → getD constants (r * w + j) 0 ≡ masked bound (M (0 + r)) j) → Targets (g * w) bound to w (lostIn w bound 0)
+    → SumsWritten size blocks (g * w) w t constants to after → GroupFilled w c size g bound blocks after
+group-filled-at w c g wide narrow bound checks within size blocks small M R constants to after t e packed T W =
+    group-filled w c g wide narrow bound checks within size blocks small M R constants to after
+    (λ r l j h. packed r (omega arith) j h ∙ ap (λ k. masked bound (M k) j) (zero-add r)) T
     (subst (λ n. SumsWritten size blocks (g * w) w n constants to after) e W)
 
--- no place is kept: nothing is to be done
-pub group-whole : (w c size g : ℕ) (kept blocks : List ℕ) → lostIn w kept 0 ≡ 0 → ((j : ℕ) → j < w → lost kept j ≡ false)
-    → GroupFilled w c size g kept blocks blocks
-group-whole w c size g kept blocks e none = record { long = refl; here = λ x l y A j h. sym (A .same j h (none j h)); other = λ p x l n. refl }
+-- no place is bound: nothing is to be done
+pub group-whole : (w c size g : ℕ) (bound blocks : List ℕ) → lostIn w bound 0 ≡ 0 → ((j : ℕ) → j < w → lost bound j ≡ false)
+    → GroupFilled w c size g bound blocks blocks
+group-whole w c size g bound blocks e none = record { long = refl; here = λ x l y A j h. sym (A .same j h (none j h)); other = λ p x l n. refl }
 
 -- ---- group after group
-module _ (w c size g : ℕ) (kept before middle after : List ℕ) where
-  pub groups-more : GroupsFilled w c size g kept before middle → GroupFilled w c size g (stretch w g kept) middle after
-      → GroupsFilled w c size (g + 1) kept before after
+module _ (w c size g : ℕ) (bound before middle after : List ℕ) where
+  pub groups-more : GroupsFilled w c size g bound before middle → GroupFilled w c size g (stretch w g bound) middle after
+      → GroupsFilled w c size (g + 1) bound before after
   groups-more S F = record {
     long = F .long ∙ S .long;
     here = λ h l x b y A j k. elim (ℕ-discrete h g) [
@@ -191,37 +191,37 @@ module _ (w c size g : ℕ) (kept before middle after : List ℕ) where
       next : (g + 1) * w ≡ g * w + w
       next = let e : g + 1 ≡ suc g = omega arith in ap (λ k. k * w) e ∙ suc-mul g w
 
-      own : (h : ℕ) → h ≡ g → (x : ℕ) → x < size → (y : ℕ → ℕ) → AgreesIn w c h (stretch w h kept) (λ j. placeSymbol size before x (h * w + j)) y
+      own : (h : ℕ) → h ≡ g → (x : ℕ) → x < size → (y : ℕ → ℕ) → AgreesIn w c h (stretch w h bound) (λ j. placeSymbol size before x (h * w + j)) y
           → (j : ℕ) → j < w → placeSymbol size after x (h * w + j) ≡ y j
       own h q x b y A j k =
           ap (λ i. placeSymbol size after x (i * w + j)) q
-          ∙ F .here x b y (moved (subst (λ i. AgreesIn w c i (stretch w i kept) (λ j. placeSymbol size before x (i * w + j)) y) q A)) j k
+          ∙ F .here x b y (moved (subst (λ i. AgreesIn w c i (stretch w i bound) (λ j. placeSymbol size before x (i * w + j)) y) q A)) j k
         where
-          moved : AgreesIn w c g (stretch w g kept) (λ j. placeSymbol size before x (g * w + j)) y
-              → AgreesIn w c g (stretch w g kept) (λ j. placeSymbol size middle x (g * w + j)) y
+          moved : AgreesIn w c g (stretch w g bound) (λ j. placeSymbol size before x (g * w + j)) y
+              → AgreesIn w c g (stretch w g bound) (λ j. placeSymbol size middle x (g * w + j)) y
           moved A = record { small = A .small; same = λ i a e. A .same i a e ∙ sym (S .other (g * w + i) x b (omega arith)); meets = A .meets }
 
 -- ---- the rows across
-module _ (m w c g : ℕ) (kept before after : List ℕ) (less : g < m) where
-  pub across-more : AcrossUpTo m w c g kept before → AcrossPut m w c g (stretch w g kept) before after → AcrossUpTo m w c (g + 1) kept after
+module _ (m w c g : ℕ) (bound before after : List ℕ) (less : g < m) where
+  pub across-more : AcrossUpTo m w c g bound before → AcrossPut m w c g (stretch w g bound) before after → AcrossUpTo m w c (g + 1) bound after
   across-more S P = record {
     long = P .long ∙ S .long;
     first = λ h l. elim (ℕ-discrete h g) [
-      | yes q ↦ subst (λ i. StandsFor w c i (stretch w i kept) 4 (λ j. getD after (i * w + j) 0)) (sym q) (P .first)
-      | no q ↦ stands-ext w c h (stretch w h kept) 4 _ _ (λ j b. sym (P .other h j q (λ z. omega arith) b)) (S .first h (omega arith))
+      | yes q ↦ subst (λ i. StandsFor w c i (stretch w i bound) 4 (λ j. getD after (i * w + j) 0)) (sym q) (P .first)
+      | no q ↦ stands-ext w c h (stretch w h bound) 4 _ _ (λ j b. sym (P .other h j q (λ z. omega arith) b)) (S .first h (omega arith))
     ];
     second = λ h l. elim (ℕ-discrete h g) [
-      | yes q ↦ subst (λ i. StandsFor w c i (stretch w i kept) 5 (λ j. getD after ((m + i) * w + j) 0)) (sym q) (P .second)
-      | no q ↦ stands-ext w c h (stretch w h kept) 5 _ _ (λ j b. sym (P .other (m + h) j (λ z. omega arith) (λ z. q (omega arith)) b))
+      | yes q ↦ subst (λ i. StandsFor w c i (stretch w i bound) 5 (λ j. getD after ((m + i) * w + j) 0)) (sym q) (P .second)
+      | no q ↦ stands-ext w c h (stretch w h bound) 5 _ _ (λ j b. sym (P .other (m + h) j (λ z. omega arith) (λ z. q (omega arith)) b))
           (S .second h (omega arith))
     ];
   }
 
 -- the parts of the rows, written one after the other
-module _ (m w c g : ℕ) (kept : List ℕ) (M : ℕ → ℕ → ℕ) (R : ReducedTo byteEdition w 6 kept w (lostIn w kept 0) (checkOf c g) M) (few : lostIn w kept 0 ≤ 4)
+module _ (m w c g : ℕ) (bound : List ℕ) (M : ℕ → ℕ → ℕ) (R : ReducedTo byteEdition w 6 bound w (lostIn w bound 0) (checkOf c g) M) (few : lostIn w bound 0 ≤ 4)
     (before a b : List ℕ) (some : 1 ≤ m) (fits : suc g * w ≤ length before) (fits′ : suc (m + g) * w ≤ length before) (long-a : length a ≡ w)
     (long-b : length b ≡ w)
-    (first : (j : ℕ) → j < w → getD a j 0 ≡ masked kept (M 4) j) (second : (j : ℕ) → j < w → getD b j 0 ≡ masked kept (M 5) j) where
+    (first : (j : ℕ) → j < w → getD a j 0 ≡ masked bound (M 4) j) (second : (j : ℕ) → j < w → getD b j 0 ≡ masked bound (M 5) j) where
   middle : List ℕ
   middle = withStretch w g before a
 
@@ -232,40 +232,40 @@ module _ (m w c g : ℕ) (kept : List ℕ) (M : ℕ → ℕ → ℕ) (R : Reduce
   fits″ : suc (m + g) * w ≤ length middle
   fits″ = subst (λ n. suc (m + g) * w ≤ n) (sym middle-long) fits′
 
-  pub across-put : AcrossPut m w c g kept before (withStretch w (m + g) (withStretch w g before a) b)
+  pub across-put : AcrossPut m w c g bound before (withStretch w (m + g) (withStretch w g before a) b)
   unfolding middle
   across-put = record {
     long = with-length w (m + g) middle fits″ b long-b ∙ middle-long;
-    first = stands-ext w c g kept 4 _ _ (λ j l.
+    first = stands-ext w c g bound 4 _ _ (λ j l.
         sym (other-stretch w (m + g) middle b fits″ long-b g j (λ q. omega arith) l ∙ with-inside w g before fits a long-a j l ∙ first j l))
-        (stands w c g kept M R 4 (omega arith) (omega arith));
-    second = stands-ext w c g kept 5 _ _ (λ j l. sym (with-inside w (m + g) middle fits″ b long-b j l ∙ second j l))
-        (stands w c g kept M R 5 (omega arith) (omega arith));
+        (stands w c g bound M R 4 (omega arith) (omega arith));
+    second = stands-ext w c g bound 5 _ _ (λ j l. sym (with-inside w (m + g) middle fits″ b long-b j l ∙ second j l))
+        (stands w c g bound M R 5 (omega arith) (omega arith));
     other = λ k j n n′ l. other-stretch w (m + g) middle b fits″ long-b k j n′ l ∙ other-stretch w g before a fits long-a k j n l;
   }
 
 -- ---- the targets
-module _ (base : ℕ) (kept to : List ℕ) (j : ℕ) where
-  pub targets-none : Targets base kept to 0 0
+module _ (base : ℕ) (bound to : List ℕ) (j : ℕ) where
+  pub targets-none : Targets base bound to 0 0
   targets-none = record { own = λ q l. absurd (omega arith); each = λ i l. absurd (omega arith) }
 
-  pub targets-past : (n : ℕ) → lost kept j ≡ false → Targets base kept to j n → Targets base kept to (j + 1) n
+  pub targets-past : (n : ℕ) → lost bound j ≡ false → Targets base bound to j n → Targets base bound to (j + 1) n
   targets-past n e T = record {
     own = λ q l f. elim (ℕ-discrete q j) [
-      | yes d ↦ absurd (true≢false (sym f ∙ ap (lost kept) d ∙ e))
+      | yes d ↦ absurd (true≢false (sym f ∙ ap (lost bound) d ∙ e))
       | no d ↦ T .own q (omega arith) f
     ];
     each = λ i l. let t = T .each i l in (t .0, (let b = t .1 in omega arith), t .2, t .3, t .4);
   }
 
-  pub targets-next : (n : ℕ) → n ≡ countBelow j (lost kept) → n < length to → lost kept j ≡ true → Targets base kept to j n
-      → Targets base kept (set to n (base + j)) (j + 1) (n + 1)
+  pub targets-next : (n : ℕ) → n ≡ countBelow j (lost bound) → n < length to → lost bound j ≡ true → Targets base bound to j n
+      → Targets base bound (set to n (base + j)) (j + 1) (n + 1)
   targets-next n e h f T = record {
     own = λ q l k. elim (ℕ-discrete q j) [
-      | yes d ↦ (ap (λ i. getD (set to n (base + j)) i 0) (ap (λ i. countBelow i (lost kept)) d ∙ sym e) ∙ here ∙ ap (λ i. base + i) (sym d))
+      | yes d ↦ (ap (λ i. getD (set to n (base + j)) i 0) (ap (λ i. countBelow i (lost bound)) d ∙ sym e) ∙ here ∙ ap (λ i. base + i) (sym d))
       | no d ↦
-          (let z = count-next q j (lost kept) (omega arith) k in
-          getD-set-other to n (countBelow q (lost kept)) (base + j) 0 (λ w. omega arith) ∙ T .own q (omega arith) k)
+          (let z = count-next q j (lost bound) (omega arith) k in
+          getD-set-other to n (countBelow q (lost bound)) (base + j) 0 (λ w. omega arith) ∙ T .own q (omega arith) k)
     ];
     each = λ i l. elim (ℕ-discrete i n) [
       | yes d ↦ (j, omega arith, f, ap (λ i. getD (set to n (base + j)) i 0) d ∙ here, sym e ∙ sym d)
@@ -279,23 +279,23 @@ module _ (base : ℕ) (kept to : List ℕ) (j : ℕ) where
       here = getD-set-same to n (base + j) 0 h
 
 -- ---- what a group is lent
-pub given-end : (m w c size g : ℕ) (blocks kept : List ℕ) → Given m w c size blocks kept → g < m → (suc g * w ≤ length kept)
+pub given-end : (m w c size g : ℕ) (blocks bound : List ℕ) → Given m w c size blocks bound → g < m → (suc g * w ≤ length bound)
     × ((g * w + w) * size ≤ length blocks)
-given-end m w c size g blocks kept G l =
-    let e = G .kept-size in
+given-end m w c size g blocks bound G l =
+    let e = G .bound-size in
     let f = G .blocks-size in
     let k : suc g * w ≤ m * w = mul-le-mul-right w l in
     let s = suc-mul g w in
     let h : (g * w + w) * size ≤ m * w * size = mul-le-mul-right size (omega arith) in
     (omega arith, omega arith)
 
-pub given-few : (m w c size g : ℕ) (blocks kept : List ℕ) → Given m w c size blocks kept → g < m → lostIn w (stretch w g kept) 0 ≤ c
-given-few m w c size g blocks kept G l = subst (λ n. n ≤ c) (sym (stretch-count w g kept)) (G .few g l)
+pub given-few : (m w c size g : ℕ) (blocks bound : List ℕ) → Given m w c size blocks bound → g < m → lostIn w (stretch w g bound) 0 ≤ c
+given-few m w c size g blocks bound G l = subst (λ n. n ≤ c) (sym (stretch-count w g bound)) (G .few g l)
 
--- where no place is kept, none is lost
-pub none-lost : (w : ℕ) (kept : List ℕ) → lostIn w kept 0 ≡ 0 → (j : ℕ) → j < w → lost kept j ≡ false
-none-lost w kept e j l = go (lost kept j) refl
+-- where no place is bound, none is lost
+pub none-lost : (w : ℕ) (bound : List ℕ) → lostIn w bound 0 ≡ 0 → (j : ℕ) → j < w → lost bound j ≡ false
+none-lost w bound e j l = go (lost bound j) refl
   where
-    go : (b : Bool) → lost kept j ≡ b → lost kept j ≡ false
+    go : (b : Bool) → lost bound j ≡ b → lost bound j ≡ false
     go false f = f
-    go true f = let z = count-next j w (lost kept) l f in let q = lost-below kept w in absurd (omega arith)
+    go true f = let z = count-next j w (lost bound) l f in let q = lost-below bound w in absurd (omega arith)

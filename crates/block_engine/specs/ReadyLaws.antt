@@ -46,13 +46,13 @@ module _ (m w c size lent : ℕ) (marks : List ℕ) (R : Ready m w c size lent m
   unfolding excess
   few-lost g l = let z = total-part m (groupExcess w c marks) (R .none-free) g l in omega arith
 
-  -- every lost place is kept
-  pub all-kept : BoundAll m w c marks marks
-  all-kept = record {
+  -- every lost place is bound
+  pub all-bound : BoundAll m w c marks marks
+  all-bound = record {
     size = refl;
-    kept-lost = λ p l e. e;
-    kept-few = few-lost;
-    kept-full = λ g j l h e f. absurd (true≢false (sym e ∙ f));
+    bound-lost = λ p l e. e;
+    bound-few = few-lost;
+    bound-full = λ g j l h e f. absurd (true≢false (sym e ∙ f));
     free-count = total-zero (m * w) _ (λ p _. go (lost marks p)) ∙ sym (R .none-free);
   }
     where
@@ -63,7 +63,7 @@ module _ (m w c size lent : ℕ) (marks : List ℕ) (R : Ready m w c size lent m
 pub given-of : (m w c size : ℕ) (blocks marks : List ℕ) → Ready m w c size (length blocks) marks → Given m w c size blocks marks
 given-of m w c size blocks marks R = record {
   good = R .good;
-  kept-size = R .marks-size;
+  bound-size = R .marks-size;
   few = few-lost m w c size (length blocks) marks R;
   some = R .some;
   blocks-size = R .blocks-size;
@@ -71,17 +71,17 @@ given-of m w c size blocks marks R = record {
 }
 
 -- the rows across as functions of the place
-module _ (m w c : ℕ) (kept rows : List ℕ) (A : AcrossRows m w c kept rows) where
-  pub across-first : Across m w c kept 4 (firstOf rows)
+module _ (m w c : ℕ) (bound rows : List ℕ) (A : AcrossRows m w c bound rows) where
+  pub across-first : Across m w c bound 4 (firstOf rows)
   across-first g l = A .first g l
 
-  pub across-second : Across m w c kept 5 (secondOf (m * w) rows)
+  pub across-second : Across m w c bound 5 (secondOf (m * w) rows)
   across-second g l =
-      stands-ext w c g (stretch w g kept) 5 _ _ (λ j h. ap (λ k. getD rows k 0) (ap (λ k. k + j) (add-mul m g w) ∙ add-assoc (m * w) (g * w) j)) (A .second g l)
+      stands-ext w c g (stretch w g bound) 5 _ _ (λ j h. ap (λ k. getD rows k 0) (ap (λ k. k + j) (add-mul m g w) ∙ add-assoc (m * w) (g * w) j)) (A .second g l)
 
 module _ (m w c size : ℕ) (blocks marks : List ℕ) (R : Ready m w c size (length blocks) marks) (small : (i : ℕ) → getD blocks i 0 < 256) where
   K : BoundAll m w c marks marks
-  K = all-kept m w c size (length blocks) marks R
+  K = all-bound m w c size (length blocks) marks R
 
   -- a word passes every test exactly if a codeword agrees with it
   pub lowest-is : (rows : List ℕ) → AcrossRows m w c marks rows → (limit r : ℕ)

@@ -18,11 +18,11 @@ pub record Coefficients (c : ℕ) (first second : List ℕ) : Type 0 where
   pub first-at : (j : ℕ) → j < 16 → getD first j 0 ≡ coefficient byteEdition c j
   pub second-at : (j : ℕ) → j < 16 → getD second j 0 ≡ raised byteEdition (coefficient byteEdition c j) 16
 
--- n blocks of length size, at most 65,536 bytes in all, and marks of the kept places, at most c in each group
-pub record Given (m w c size : ℕ) (blocks kept : List ℕ) : Type 0 where
+-- n blocks of length size, at most 65,536 bytes in all, and marks of the bound places, at most c in each group
+pub record Given (m w c size : ℕ) (blocks bound : List ℕ) : Type 0 where
   pub good : Good m w c
-  pub kept-size : length kept ≡ m * w
-  pub few : (g : ℕ) → g < m → lostIn w kept g ≤ c
+  pub bound-size : length bound ≡ m * w
+  pub few : (g : ℕ) → g < m → lostIn w bound g ≤ c
   pub some : 1 ≤ size
   pub blocks-size : length blocks ≡ m * w * size
   pub most : length blocks ≤ 65536
@@ -37,39 +37,39 @@ pub record Limit (limit r : ℕ) (P : ℕ → Type 0) : Type 0 where
 abbrev pub placeSymbol : ℕ → List ℕ → ℕ → ℕ → ℕ
 placeSymbol size blocks x p = getD blocks (p * size + x) 0
 
--- the kept places of a group, in order, counted from base on
-pub record Targets (base : ℕ) (kept to : List ℕ) (w t : ℕ) : Type 0 where
-  pub own : (j : ℕ) → j < w → lost kept j ≡ true → getD to (countBelow j (lost kept)) 0 ≡ base + j
-  pub each : (i : ℕ) → i < t → (j : ℕ) × (j < w) × (lost kept j ≡ true) × (getD to i 0 ≡ base + j) × (countBelow j (lost kept) ≡ i)
+-- the bound places of a group, in order, counted from base on
+pub record Targets (base : ℕ) (bound to : List ℕ) (w t : ℕ) : Type 0 where
+  pub own : (j : ℕ) → j < w → lost bound j ≡ true → getD to (countBelow j (lost bound)) 0 ≡ base + j
+  pub each : (i : ℕ) → i < t → (j : ℕ) × (j < w) × (lost bound j ≡ true) × (getD to i 0 ≡ base + j) × (countBelow j (lost bound) ≡ i)
 
 -- what group g has in the two rows across is written; the rest is as it was
-pub record AcrossPut (m w c g : ℕ) (kept before after : List ℕ) : Type 0 where
+pub record AcrossPut (m w c g : ℕ) (bound before after : List ℕ) : Type 0 where
   pub long : length after ≡ length before
-  pub first : StandsFor w c g kept 4 (λ j. getD after (g * w + j) 0)
-  pub second : StandsFor w c g kept 5 (λ j. getD after ((m + g) * w + j) 0)
+  pub first : StandsFor w c g bound 4 (λ j. getD after (g * w + j) 0)
+  pub second : StandsFor w c g bound 5 (λ j. getD after ((m + g) * w + j) 0)
   pub other : (k j : ℕ) → ¬ (k ≡ g) → ¬ (k ≡ m + g) → j < w → getD after (k * w + j) 0 ≡ getD before (k * w + j) 0
 
 -- so every group below n
-pub record AcrossUpTo (m w c n : ℕ) (kept out : List ℕ) : Type 0 where
+pub record AcrossUpTo (m w c n : ℕ) (bound out : List ℕ) : Type 0 where
   pub long : length out ≡ 480
-  pub first : (g : ℕ) → g < n → StandsFor w c g (stretch w g kept) 4 (λ j. getD out (g * w + j) 0)
-  pub second : (g : ℕ) → g < n → StandsFor w c g (stretch w g kept) 5 (λ j. getD out ((m + g) * w + j) 0)
+  pub first : (g : ℕ) → g < n → StandsFor w c g (stretch w g bound) 4 (λ j. getD out (g * w + j) 0)
+  pub second : (g : ℕ) → g < n → StandsFor w c g (stretch w g bound) 5 (λ j. getD out ((m + g) * w + j) 0)
 
 -- every group
 abbrev pub AcrossRows : ℕ → ℕ → ℕ → List ℕ → List ℕ → Type 0
-AcrossRows m w c kept out = AcrossUpTo m w c m kept out
+AcrossRows m w c bound out = AcrossUpTo m w c m bound out
 
--- the kept blocks of group g are filled: in every word whatever meets the group's local equations and has the symbols that are not kept
+-- the bound blocks of group g are filled: in every word whatever meets the group's local equations and has the symbols that are not bound
 -- stands in the group; the other places are as they were
-pub record GroupFilled (w c size g : ℕ) (kept before after : List ℕ) : Type 0 where
+pub record GroupFilled (w c size g : ℕ) (bound before after : List ℕ) : Type 0 where
   pub long : length after ≡ length before
-  pub here : (x : ℕ) → x < size → (y : ℕ → ℕ) → AgreesIn w c g kept (λ j. placeSymbol size before x (g * w + j)) y
+  pub here : (x : ℕ) → x < size → (y : ℕ → ℕ) → AgreesIn w c g bound (λ j. placeSymbol size before x (g * w + j)) y
       → (j : ℕ) → j < w → placeSymbol size after x (g * w + j) ≡ y j
   pub other : (p x : ℕ) → x < size → ((j : ℕ) → j < w → p ≡ g * w + j → ⊥) → placeSymbol size after x p ≡ placeSymbol size before x p
 
 -- so every group below n
-pub record GroupsFilled (w c size n : ℕ) (kept before after : List ℕ) : Type 0 where
+pub record GroupsFilled (w c size n : ℕ) (bound before after : List ℕ) : Type 0 where
   pub long : length after ≡ length before
-  pub here : (g : ℕ) → g < n → (x : ℕ) → x < size → (y : ℕ → ℕ) → AgreesIn w c g (stretch w g kept) (λ j. placeSymbol size before x (g * w + j)) y
+  pub here : (g : ℕ) → g < n → (x : ℕ) → x < size → (y : ℕ → ℕ) → AgreesIn w c g (stretch w g bound) (λ j. placeSymbol size before x (g * w + j)) y
       → (j : ℕ) → j < w → placeSymbol size after x (g * w + j) ≡ y j
   pub other : (p x : ℕ) → x < size → n * w ≤ p → placeSymbol size after x p ≡ placeSymbol size before x p

@@ -76,9 +76,9 @@ module _ (c g : ℕ) (first second s : List ℕ) (C : Coefficients c first secon
   equation-check (suc (suc (suc (suc (suc i))))) l j h =
       scaled j h ∙ ap (λ a. times byteEdition a (power 8 285 2 g)) (C .second-at j h) ∙ product-comm 8 285 _ (power 8 285 2 g)
 
-  pub reduced-check : (w : ℕ) (kept : List ℕ) (t : ℕ) (M : ℕ → ℕ → ℕ) → w ≤ 16 → t ≤ 4 → ReducedTo byteEdition w 6 kept w t (equationOf first s) M
-      → ReducedTo byteEdition w 6 kept w t (checkOf c g) M
-  reduced-check w kept t M narrow few R = reduced-ext byteEdition w 6 kept w t (equationOf first s) (checkOf c g) M (omega arith)
+  pub reduced-check : (w : ℕ) (bound : List ℕ) (t : ℕ) (M : ℕ → ℕ → ℕ) → w ≤ 16 → t ≤ 4 → ReducedTo byteEdition w 6 bound w t (equationOf first s) M
+      → ReducedTo byteEdition w 6 bound w t (checkOf c g) M
+  reduced-check w bound t M narrow few R = reduced-ext byteEdition w 6 bound w t (equationOf first s) (checkOf c g) M (omega arith)
       (λ i l j h. equation-check i l j (omega arith)) R
 
 -- ---- limits

@@ -14,4 +14,4 @@ rowSum n v a = sumBelow n (λ p. times byteEdition (v p) (a p))
 
 -- constants that stand for equation i in every group
 abbrev pub Across : ℕ → ℕ → ℕ → List ℕ → ℕ → (ℕ → ℕ) → Type 0
-Across m w c kept i a = (g : ℕ) → g < m → StandsFor w c g (stretch w g kept) i (λ j. a (g * w + j))
+Across m w c bound i a = (g : ℕ) → g < m → StandsFor w c g (stretch w g bound) i (λ j. a (g * w + j))

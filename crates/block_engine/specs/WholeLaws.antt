@@ -42,21 +42,21 @@ check-second : (c g : ℕ) (j : ℕ) → checkOf c g 5 j ≡ secondCoefficient b
 unfolding checkOf
 check-second c g j = refl
 
-module _ (m w c : ℕ) (wide : 0 < w) (checks : c ≤ 4) (kept : List ℕ) (within : (g : ℕ) → g < m → lostIn w kept g ≤ c) where
-  within-part : (g : ℕ) → g < m → lostIn w (stretch w g kept) 0 ≤ c
-  within-part g l = subst (λ n. n ≤ c) (sym (stretch-count w g kept)) (within g l)
+module _ (m w c : ℕ) (wide : 0 < w) (checks : c ≤ 4) (bound : List ℕ) (within : (g : ℕ) → g < m → lostIn w bound g ≤ c) where
+  within-part : (g : ℕ) → g < m → lostIn w (stretch w g bound) 0 ≤ c
+  within-part g l = subst (λ n. n ≤ c) (sym (stretch-count w g bound)) (within g l)
 
   -- the sum of a row that stands for equation i, and of the equation, over all groups
-  module _ (i : ℕ) (a : ℕ → ℕ) (A : Across m w c kept i a) (v : ℕ → ℕ) (Y : ℕ → ℕ → ℕ)
-      (same : (g : ℕ) → g < m → AgreesIn w c g (stretch w g kept) (λ j. v (g * w + j)) (Y g)) where
+  module _ (i : ℕ) (a : ℕ → ℕ) (A : Across m w c bound i a) (v : ℕ → ℕ) (Y : ℕ → ℕ → ℕ)
+      (same : (g : ℕ) → g < m → AgreesIn w c g (stretch w g bound) (λ j. v (g * w + j)) (Y g)) where
     pub across-sum : sumBelow m (λ g. dot byteEdition w (Y g) (checkOf c g i)) ≡ rowSum (m * w) v a
     unfolding rowSum dot
     across-sum =
-        sum-ext m _ _ (λ g l. A g l .sum (λ j. v (g * w + j)) (Y g) (agrees-fills w c g (stretch w g kept) _ (Y g) (within-part g l) (same g l)))
+        sum-ext m _ _ (λ g l. A g l .sum (λ j. v (g * w + j)) (Y g) (agrees-fills w c g (stretch w g bound) _ (Y g) (within-part g l) (same g l)))
         ∙ sym (sum-rows m w (λ p. times byteEdition (v p) (a p)))
 
   -- ---- a word from its groups
-  module _ (v : ℕ → ℕ) (Y : ℕ → ℕ → ℕ) (same : (g : ℕ) → g < m → AgreesIn w c g (stretch w g kept) (λ j. v (g * w + j)) (Y g)) where
+  module _ (v : ℕ → ℕ) (Y : ℕ → ℕ → ℕ) (same : (g : ℕ) → g < m → AgreesIn w c g (stretch w g bound) (λ j. v (g * w + j)) (Y g)) where
     joined : List ℕ
     joined = listOf (m * w) (λ p. Y (p / w) (p % w))
 
@@ -67,13 +67,13 @@ module _ (m w c : ℕ) (wide : 0 < w) (checks : c ≤ 4) (kept : List ℕ) (with
     joined-sum : (g : ℕ) → g < m → (h : ℕ → ℕ) → groupSum byteEdition w joined g h ≡ dot byteEdition w (Y g) h
     joined-sum g l h = group-dot w g joined h ∙ dot-ext byteEdition w _ (Y g) h h (λ j b. joined-at g j l b) (λ _ _. refl)
 
-    joined-same : (p : ℕ) → p < m * w → lost kept p ≡ false → getD joined p 0 ≡ v p
+    joined-same : (p : ℕ) → p < m * w → lost bound p ≡ false → getD joined p 0 ≡ v p
     joined-same p l e =
         let g : p / w < m = div-lt-iff-lt-mul wide .1 l in
         let j : p % w < w = mod-lt p wide in
         let d : p / w * w + p % w ≡ p = div-add-mod' p w in
         ap (λ q. getD joined q 0) (sym d) ∙ joined-at (p / w) (p % w) g j
-        ∙ same (p / w) g .same (p % w) j (ap (λ b. eqb b 1) (stretch-at w (p / w) kept (p % w) j) ∙ ap (lost kept) d ∙ e) ∙ ap v d
+        ∙ same (p / w) g .same (p % w) j (ap (λ b. eqb b 1) (stretch-at w (p / w) bound (p % w) j) ∙ ap (lost bound) d ∙ e) ∙ ap v d
 
     joined-symbols : Symbols byteEdition (m * w) joined
     unfolding joined
@@ -89,8 +89,8 @@ module _ (m w c : ℕ) (wide : 0 < w) (checks : c ≤ 4) (kept : List ℕ) (with
         ]
 
     -- it is a codeword where the rows across come to 0
-    pub joined-codeword : (a b : ℕ → ℕ) → Across m w c kept 4 a → Across m w c kept 5 b → rowSum (m * w) v a ≡ 0 → rowSum (m * w) v b ≡ 0
-        → (y : List ℕ) × Codeword byteEdition m w c y × ((p : ℕ) → p < m * w → lost kept p ≡ false → getD y p 0 ≡ v p)
+    pub joined-codeword : (a b : ℕ → ℕ) → Across m w c bound 4 a → Across m w c bound 5 b → rowSum (m * w) v a ≡ 0 → rowSum (m * w) v b ≡ 0
+        → (y : List ℕ) × Codeword byteEdition m w c y × ((p : ℕ) → p < m * w → lost bound p ≡ false → getD y p 0 ≡ v p)
     unfolding wordSum
     joined-codeword a b A B za zb = (
       joined,
@@ -112,25 +112,25 @@ module _ (m w c : ℕ) (wide : 0 < w) (checks : c ≤ 4) (kept : List ℕ) (with
     )
 
   -- ---- a codeword and its groups
-  module _ (y : List ℕ) (C : Codeword byteEdition m w c y) (v : ℕ → ℕ) (same : (p : ℕ) → p < m * w → lost kept p ≡ false → getD y p 0 ≡ v p) where
-    pub codeword-group : (g : ℕ) → g < m → AgreesIn w c g (stretch w g kept) (λ j. v (g * w + j)) (groupOf w g y)
+  module _ (y : List ℕ) (C : Codeword byteEdition m w c y) (v : ℕ → ℕ) (same : (p : ℕ) → p < m * w → lost bound p ≡ false → getD y p 0 ≡ v p) where
+    pub codeword-group : (g : ℕ) → g < m → AgreesIn w c g (stretch w g bound) (λ j. v (g * w + j)) (groupOf w g y)
     codeword-group g l = record {
       small = λ j. C .symbols .each (g * w + j);
-      same = λ j h e. same (g * w + j) (place-less m w g j l h) (ap (λ b. eqb b 1) (sym (stretch-at w g kept j h)) ∙ e);
+      same = λ j h e. same (g * w + j) (place-less m w g j l h) (ap (λ b. eqb b 1) (sym (stretch-at w g bound j h)) ∙ e);
       meets = λ e h.
           dot-ext byteEdition w _ _ (checkOf c g e) _ (λ _ _. refl) (λ j _. check-local c g e (omega arith) j) ∙ sym (group-dot w g y _)
           ∙ equations byteEdition m w c y (C .zero) .locals g l e h;
     }
 
     -- the rows across come to 0
-    pub codeword-first : (a : ℕ → ℕ) → Across m w c kept 4 a → rowSum (m * w) v a ≡ 0
+    pub codeword-first : (a : ℕ → ℕ) → Across m w c bound 4 a → rowSum (m * w) v a ≡ 0
     unfolding wordSum
     codeword-first a A =
         sym (across-sum 4 a A v (λ g. groupOf w g y) codeword-group)
         ∙ sum-ext m _ _ (λ g l. dot-ext byteEdition w _ _ (checkOf c g 4) _ (λ _ _. refl) (λ j _. check-first c g j) ∙ sym (group-dot w g y _))
         ∙ equations byteEdition m w c y (C .zero) .first
 
-    pub codeword-second : (a : ℕ → ℕ) → Across m w c kept 5 a → rowSum (m * w) v a ≡ 0
+    pub codeword-second : (a : ℕ → ℕ) → Across m w c bound 5 a → rowSum (m * w) v a ≡ 0
     unfolding wordSum
     codeword-second a A =
         sym (across-sum 5 a A v (λ g. groupOf w g y) codeword-group)

@@ -56,26 +56,26 @@ fn second_row(i: usize) -> [u8; 16]
     r
 }
 
-// The equations of group g, reduced at its kept places.
-fn group_rows(c: usize, g: usize, kept: &[u8], first: [u8; 16], second: [u8; 16]) -> [[u8; 16]; 6]
-    requires { ⌜ (1 ≤ length (now kept)) × (length (now kept) ≤ 16) × (lostIn (length (now kept)) (now kept) 0 ≤ 4) ⌝ }
+// The equations of group g, reduced at its bound places.
+fn group_rows(c: usize, g: usize, bound: &[u8], first: [u8; 16], second: [u8; 16]) -> [[u8; 16]; 6]
+    requires { ⌜ (1 ≤ length (now bound)) × (length (now bound) ≤ 16) × (lostIn (length (now bound)) (now bound) 0 ≤ 4) ⌝ }
     requires { ⌜ Coefficients c first second ⌝ }
-    ensures { λ r. ⌜ ReducedTo byteEdition (length (now (kept .entry))) 6 (now (kept .entry)) (length (now (kept .entry))) (lostIn (length (now (kept .entry))) (now (kept .entry)) 0) (checkOf c g) (entry r) ⌝ }
+    ensures { λ r. ⌜ ReducedTo byteEdition (length (now (bound .entry))) 6 (now (bound .entry)) (length (now (bound .entry))) (lostIn (length (now (bound .entry))) (now (bound .entry)) 0) (checkOf c g) (entry r) ⌝ }
 {
     let f = gf256::power_of_two(g);
     let s = block_constants::scale(second, f);
-    block_constants::group_rows(kept, first, s)
+    block_constants::group_rows(bound, first, s)
 }
 
-// Writes a row, with 0 at the kept places.
-fn pack_row(row: [u8; 16], kept: &[u8], out: &mut [u8])
-    requires { ⌜ (length (now kept) ≤ 16) × (length (now out) ≡ length (now kept)) ⌝ }
+// Writes a row, with 0 at the bound places.
+fn pack_row(row: [u8; 16], bound: &[u8], out: &mut [u8])
+    requires { ⌜ (length (now bound) ≤ 16) × (length (now out) ≡ length (now bound)) ⌝ }
     ensures { λ _. ⌜ length (now (out .exit)) ≡ length (now (out .entry)) ⌝ }
-    ensures { λ _. ⌜ ((j : ℕ) → j < length (now (kept .entry)) → getD (now (out .exit)) j 0 ≡ masked (now (kept .entry)) (λ i. getD row i 0) j) ⌝ }
+    ensures { λ _. ⌜ ((j : ℕ) → j < length (now (bound .entry)) → getD (now (out .exit)) j 0 ≡ masked (now (bound .entry)) (λ i. getD row i 0) j) ⌝ }
 {
     let mut j: usize = 0;
-    while j < kept.len() {
-        if kept[j] == 1 {
+    while j < bound.len() {
+        if bound[j] == 1 {
             out[j] = 0;
         } else {
             out[j] = row[j];
@@ -85,18 +85,18 @@ fn pack_row(row: [u8; 16], kept: &[u8], out: &mut [u8])
 }
 
 // Writes count rows, from row from on, one after another.
-fn pack(rows: [[u8; 16]; 6], kept: &[u8], from: usize, count: usize, out: &mut [u8])
-    requires { ⌜ (length (now kept) ≤ 16) × (from ≤ 4) × (from + count ≤ 4) × (length (now out) ≡ 64) ⌝ }
+fn pack(rows: [[u8; 16]; 6], bound: &[u8], from: usize, count: usize, out: &mut [u8])
+    requires { ⌜ (length (now bound) ≤ 16) × (from ≤ 4) × (from + count ≤ 4) × (length (now out) ≡ 64) ⌝ }
     ensures { λ _. ⌜ length (now (out .exit)) ≡ 64 ⌝ }
-    ensures { λ _. ⌜ ((r : ℕ) → r < count → (j : ℕ) → j < length (now (kept .entry)) → getD (now (out .exit)) (r * length (now (kept .entry)) + j) 0 ≡ masked (now (kept .entry)) (entry rows (from + r)) j) ⌝ }
+    ensures { λ _. ⌜ ((r : ℕ) → r < count → (j : ℕ) → j < length (now (bound .entry)) → getD (now (out .exit)) (r * length (now (bound .entry)) + j) 0 ≡ masked (now (bound .entry)) (entry rows (from + r)) j) ⌝ }
 {
-    let w = kept.len();
+    let w = bound.len();
     let mut r: usize = 0;
     while r < count {
         let row = rows[from + r];
         let a = r * w;
         let e = a + w;
-        pack_row(row, kept, &mut out[a..e]);
+        pack_row(row, bound, &mut out[a..e]);
         r += 1;
     }
 }
@@ -107,25 +107,25 @@ fn test_group(
     g: usize,
     size: usize,
     blocks: &[u8],
-    kept: &[u8],
+    bound: &[u8],
     first: [u8; 16],
     second: [u8; 16],
     limit: usize,
 ) -> usize
-    requires { ⌜ (1 ≤ length (now kept)) × (length (now kept) ≤ 16) × (c ≤ 4) × (lostIn (length (now kept)) (now kept) 0 ≤ c) ⌝ }
-    requires { ⌜ (g < 15) × ((g * length (now kept) + length (now kept)) * size ≤ length (now blocks)) × (length (now blocks) ≤ 65536) × (limit ≤ size) ⌝ }
+    requires { ⌜ (1 ≤ length (now bound)) × (length (now bound) ≤ 16) × (c ≤ 4) × (lostIn (length (now bound)) (now bound) 0 ≤ c) ⌝ }
+    requires { ⌜ (g < 15) × ((g * length (now bound) + length (now bound)) * size ≤ length (now blocks)) × (length (now blocks) ≤ 65536) × (limit ≤ size) ⌝ }
     requires { ⌜ Coefficients c first second ⌝ }
-    ensures { λ r. ⌜ Limit limit r (λ x. Mendable (length (now (kept .entry))) c g (now (kept .entry)) (λ j. placeSymbol size (now (blocks .entry)) x (g * length (now (kept .entry)) + j))) ⌝ }
+    ensures { λ r. ⌜ Limit limit r (λ x. Mendable (length (now (bound .entry))) c g (now (bound .entry)) (λ j. placeSymbol size (now (blocks .entry)) x (g * length (now (bound .entry)) + j))) ⌝ }
 {
-    let w = kept.len();
-    let t = marks::lost_in(kept);
+    let w = bound.len();
+    let t = marks::lost_in(bound);
     if t == c {
         return limit;
     }
-    let rows = group_rows(c, g, kept, first, second);
+    let rows = group_rows(c, g, bound, first, second);
     let mut constants = [0u8; 64];
     let count = c - t;
-    pack(rows, kept, t, count, &mut constants);
+    pack(rows, bound, t, count, &mut constants);
     let from = g * w;
     block_sums::zero_until(blocks, size, from, w, count, &constants, limit)
 }
@@ -137,20 +137,20 @@ fn test_groups(
     c: usize,
     size: usize,
     blocks: &[u8],
-    kept: &[u8],
+    bound: &[u8],
     first: [u8; 16],
     second: [u8; 16],
 ) -> usize
-    requires { ⌜ Given m w c size (now blocks) (now kept) ⌝ }
+    requires { ⌜ Given m w c size (now blocks) (now bound) ⌝ }
     requires { ⌜ Coefficients c first second ⌝ }
-    ensures { λ r. ⌜ Limit size r (λ x. (g : ℕ) → g < m → Mendable w c g (stretch w g (now (kept .entry))) (λ j. placeSymbol size (now (blocks .entry)) x (g * w + j))) ⌝ }
+    ensures { λ r. ⌜ Limit size r (λ x. (g : ℕ) → g < m → Mendable w c g (stretch w g (now (bound .entry))) (λ j. placeSymbol size (now (blocks .entry)) x (g * w + j))) ⌝ }
 {
     let mut limit = size;
     let mut g: usize = 0;
     while g < m {
         let a = g * w;
         let e = a + w;
-        limit = test_group(c, g, size, blocks, &kept[a..e], first, second, limit);
+        limit = test_group(c, g, size, blocks, &bound[a..e], first, second, limit);
         g += 1;
     }
     limit
@@ -161,59 +161,59 @@ fn put_across(
     m: usize,
     c: usize,
     g: usize,
-    kept: &[u8],
+    bound: &[u8],
     first: [u8; 16],
     second: [u8; 16],
     out: &mut [u8],
 )
-    requires { ⌜ (1 ≤ length (now kept)) × (length (now kept) ≤ 16) × (lostIn (length (now kept)) (now kept) 0 ≤ 4) × (m ≤ 15) × (g < m) × (length (now out) ≡ 480) ⌝ }
+    requires { ⌜ (1 ≤ length (now bound)) × (length (now bound) ≤ 16) × (lostIn (length (now bound)) (now bound) 0 ≤ 4) × (m ≤ 15) × (g < m) × (length (now out) ≡ 480) ⌝ }
     requires { ⌜ Coefficients c first second ⌝ }
-    ensures { λ _. ⌜ AcrossPut m (length (now (kept .entry))) c g (now (kept .entry)) (now (out .entry)) (now (out .exit)) ⌝ }
+    ensures { λ _. ⌜ AcrossPut m (length (now (bound .entry))) c g (now (bound .entry)) (now (out .entry)) (now (out .exit)) ⌝ }
 {
-    let w = kept.len();
-    let rows = group_rows(c, g, kept, first, second);
+    let w = bound.len();
+    let rows = group_rows(c, g, bound, first, second);
     let a = g * w;
     let e = a + w;
-    pack_row(rows[4], kept, &mut out[a..e]);
+    pack_row(rows[4], bound, &mut out[a..e]);
     let b = (m + g) * w;
     let f = b + w;
-    pack_row(rows[5], kept, &mut out[b..f]);
+    pack_row(rows[5], bound, &mut out[b..f]);
 }
 
-// Writes the two rows across, one after the other: 0 at the kept places.
+// Writes the two rows across, one after the other: 0 at the bound places.
 fn across_rows(
     m: usize,
     w: usize,
     c: usize,
-    kept: &[u8],
+    bound: &[u8],
     first: [u8; 16],
     second: [u8; 16],
     out: &mut [u8],
 )
     requires { ⌜ Good m w c ⌝ }
-    requires { ⌜ (length (now kept) ≡ m * w) × ((g : ℕ) → g < m → lostIn w (now kept) g ≤ c) × (length (now out) ≡ 480) ⌝ }
+    requires { ⌜ (length (now bound) ≡ m * w) × ((g : ℕ) → g < m → lostIn w (now bound) g ≤ c) × (length (now out) ≡ 480) ⌝ }
     requires { ⌜ Coefficients c first second ⌝ }
-    ensures { λ _. ⌜ AcrossRows m w c (now (kept .entry)) (now (out .exit)) ⌝ }
+    ensures { λ _. ⌜ AcrossRows m w c (now (bound .entry)) (now (out .exit)) ⌝ }
 {
     let mut g: usize = 0;
     while g < m {
         let a = g * w;
         let e = a + w;
-        put_across(m, c, g, &kept[a..e], first, second, out);
+        put_across(m, c, g, &bound[a..e], first, second, out);
         g += 1;
     }
 }
 
-// The kept places of a group, in order, counted from base on.
-fn targets(base: usize, kept: &[u8]) -> [usize; 4]
-    requires { ⌜ (base ≤ 240) × (length (now kept) ≤ 16) ⌝ }
-    ensures { λ r. ⌜ (lostIn (length (now (kept .entry))) (now (kept .entry)) 0 ≤ 4 → Targets base (now (kept .entry)) r (length (now (kept .entry))) (lostIn (length (now (kept .entry))) (now (kept .entry)) 0)) ⌝ }
+// The bound places of a group, in order, counted from base on.
+fn targets(base: usize, bound: &[u8]) -> [usize; 4]
+    requires { ⌜ (base ≤ 240) × (length (now bound) ≤ 16) ⌝ }
+    ensures { λ r. ⌜ (lostIn (length (now (bound .entry))) (now (bound .entry)) 0 ≤ 4 → Targets base (now (bound .entry)) r (length (now (bound .entry))) (lostIn (length (now (bound .entry))) (now (bound .entry)) 0)) ⌝ }
 {
     let mut to = [0usize; 4];
     let mut n: usize = 0;
     let mut j: usize = 0;
-    while j < kept.len() {
-        if kept[j] == 1 {
+    while j < bound.len() {
+        if bound[j] == 1 {
             if n < 4 {
                 to[n] = base + j;
             }
@@ -224,54 +224,54 @@ fn targets(base: usize, kept: &[u8]) -> [usize; 4]
     to
 }
 
-// Fills the kept blocks of group g.
+// Fills the bound blocks of group g.
 fn fill_group(
     c: usize,
     g: usize,
     size: usize,
     blocks: &mut [u8],
-    kept: &[u8],
+    bound: &[u8],
     first: [u8; 16],
     second: [u8; 16],
 )
-    requires { ⌜ (1 ≤ length (now kept)) × (length (now kept) ≤ 16) × (c ≤ 4) × (lostIn (length (now kept)) (now kept) 0 ≤ c) ⌝ }
-    requires { ⌜ (g < 15) × ((g * length (now kept) + length (now kept)) * size ≤ length (now blocks)) × (length (now blocks) ≤ 65536) ⌝ }
+    requires { ⌜ (1 ≤ length (now bound)) × (length (now bound) ≤ 16) × (c ≤ 4) × (lostIn (length (now bound)) (now bound) 0 ≤ c) ⌝ }
+    requires { ⌜ (g < 15) × ((g * length (now bound) + length (now bound)) * size ≤ length (now blocks)) × (length (now blocks) ≤ 65536) ⌝ }
     requires { ⌜ Coefficients c first second ⌝ }
-    ensures { λ _. ⌜ GroupFilled (length (now (kept .entry))) c size g (now (kept .entry)) (now (blocks .entry)) (now (blocks .exit)) ⌝ }
+    ensures { λ _. ⌜ GroupFilled (length (now (bound .entry))) c size g (now (bound .entry)) (now (blocks .entry)) (now (blocks .exit)) ⌝ }
 {
-    let w = kept.len();
-    let t = marks::lost_in(kept);
+    let w = bound.len();
+    let t = marks::lost_in(bound);
     if t == 0 {
         return;
     }
-    let rows = group_rows(c, g, kept, first, second);
+    let rows = group_rows(c, g, bound, first, second);
     let mut constants = [0u8; 64];
-    pack(rows, kept, 0, t, &mut constants);
+    pack(rows, bound, 0, t, &mut constants);
     let from = g * w;
-    let to = targets(from, kept);
+    let to = targets(from, bound);
     block_sums::write_sums(blocks, size, from, w, t, &constants, to);
 }
 
-// Fills the kept blocks of every group.
+// Fills the bound blocks of every group.
 fn fill_groups(
     m: usize,
     w: usize,
     c: usize,
     size: usize,
     blocks: &mut [u8],
-    kept: &[u8],
+    bound: &[u8],
     first: [u8; 16],
     second: [u8; 16],
 )
-    requires { ⌜ Given m w c size (now blocks) (now kept) ⌝ }
+    requires { ⌜ Given m w c size (now blocks) (now bound) ⌝ }
     requires { ⌜ Coefficients c first second ⌝ }
-    ensures { λ _. ⌜ GroupsFilled w c size m (now (kept .entry)) (now (blocks .entry)) (now (blocks .exit)) ⌝ }
+    ensures { λ _. ⌜ GroupsFilled w c size m (now (bound .entry)) (now (blocks .entry)) (now (blocks .exit)) ⌝ }
 {
     let mut g: usize = 0;
     while g < m {
         let a = g * w;
         let e = a + w;
-        fill_group(c, g, size, blocks, &kept[a..e], first, second);
+        fill_group(c, g, size, blocks, &bound[a..e], first, second);
         g += 1;
     }
 }

@@ -27,12 +27,12 @@ use Rattle.block_constants.proofs.equations.Reads as equations-reads
 use Rattle.block_constants.proofs.pivot.Reads as pivot-reads
 
 abbrev Inv-loop : tie.InvT-loop
-Inv-loop kept rows₀ t₀ p₀ rows t p =
-    (p ≤ length kept) × (t ≤ 4) × ((i : ℕ) → i < 6 → Small 8 (row rows i))
-    × (countBelow p (lost kept) ≤ 4 → ReducedTo byteEdition (length kept) 6 kept p t (entry rows₀) (entry rows))
+Inv-loop bound rows₀ t₀ p₀ rows t p =
+    (p ≤ length bound) × (t ≤ 4) × ((i : ℕ) → i < 6 → Small 8 (row rows i))
+    × (countBelow p (lost bound) ≤ 4 → ReducedTo byteEdition (length bound) 6 bound p t (entry rows₀) (entry rows))
 
 abbrev μ-loop : tie.MeasureT-loop
-μ-loop kept rows₀ t₀ p₀ rows t p = length kept - p
+μ-loop bound rows₀ t₀ p₀ rows t p = length bound - p
 
 -- src/lib.rt:86:9
 equations-requires : tie.Need-equations-requires Inv-loop μ-loop
@@ -78,7 +78,7 @@ loop-again c =
     let s = c .before .before .before in
     let q = s .before .before in
     let a = q .before .before .args in
-    let k : List ℕ = a .kept .now in
+    let k : List ℕ = a .bound .now in
     let p : ℕ = s .loop .p in
     let t : ℕ = s .loop .t in
     let next : suc p ≡ p + 1 = omega arith in
@@ -126,7 +126,7 @@ returns-2 c =
     let s = c .before in
     let q = s .before .before in
     let a = q .before .before .args in
-    let k : List ℕ = a .kept .now in
+    let k : List ℕ = a .bound .now in
     let e : s .loop .p ≡ length k = omega arith in
     let n : countBelow (length k) (lost k) ≡ lostIn (length k) k 0 = lost-below k (length k) in
     λ narrow wide few.

@@ -18,10 +18,10 @@ use Rattle.block_engine.proofs.across_rows.Lts as lts
 use Rattle.block_engine.proofs.put_across.Reads as put-across-reads
 
 abbrev Inv-loop : tie.InvT-loop
-Inv-loop m w c kept first second out₀ g₀ out g = (g ≤ m) × AcrossUpTo m w c g kept out
+Inv-loop m w c bound first second out₀ g₀ out g = (g ≤ m) × AcrossUpTo m w c g bound out
 
 abbrev μ-loop : tie.MeasureT-loop
-μ-loop m w c kept first second out₀ g₀ out g = m - g
+μ-loop m w c bound first second out₀ g₀ out g = m - g
 
 -- src/lib.rt:213:5
 loop-holds : tie.Need-loop-holds Inv-loop μ-loop
@@ -68,7 +68,7 @@ put-across-requires c κs =
     let s = c .before .before .before in
     let b = s .before .before .before in
     let a = b .args in
-    let k : List ℕ = a .kept .now in
+    let k : List ℕ = a .bound .now in
     let g : ℕ = s .loop .g in
     let q = b .pre .0 in
     let z = b .pre .1 .0 .0 in
@@ -93,7 +93,7 @@ loop-again c =
     let s = f .before .before .before .before in
     let b = s .before .before .before in
     let a = b .args in
-    let k : List ℕ = a .kept .now in
+    let k : List ℕ = a .bound .now in
     let g : ℕ = s .loop .g in
     let z = b .pre .1 .0 .0 in
     let fits : suc g * a .w ≤ length k = (let h : suc g * a .w ≤ a .m * a .w = mul-le-mul-right (a .w) (omega arith) in omega arith) in (

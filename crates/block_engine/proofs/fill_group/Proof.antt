@@ -28,7 +28,7 @@ returns c =
     let l = c .before in
     let b = l .before .before .before in
     let a = b .args in
-    let k : List ℕ = a .kept .now in
+    let k : List ℕ = a .bound .now in
     let e : lostIn (length k) k 0 ≡ 0 = sym (l .lost-in .ensures) ∙ c .if1 .taken in
     group-whole (length k) (a .c) (a .size) (a .g) k (a .blocks .now) e (none-lost (length k) k e)
 
@@ -49,7 +49,7 @@ mul-from : tie.Need-mul-from
 mul-from c =
     let b = c .before .before .before .before .before .before .before .before in
     let a = b .args in
-    let i = mul-within (a .g) (length (a .kept .now)) 15 16 (omega arith) (omega arith) in
+    let i = mul-within (a .g) (length (a .bound .now)) 15 16 (omega arith) (omega arith) in
     omega arith
 
 -- src/lib.rt:265:9
@@ -57,7 +57,7 @@ targets-requires : tie.Need-targets-requires
 targets-requires c κs =
     let b = c .before .before .before .before .before .before .before .before in
     let a = b .args in
-    let i = mul-within (a .g) (length (a .kept .now)) 15 16 (omega arith) (omega arith) in
+    let i = mul-within (a .g) (length (a .bound .now)) 15 16 (omega arith) (omega arith) in
     (omega arith, omega arith)
 
 -- src/lib.rt:266:42
@@ -82,7 +82,7 @@ returns-2 c =
     let l = q .before .before in
     let b = l .before .before .before in
     let a = b .args in
-    let k : List ℕ = a .kept .now in
+    let k : List ℕ = a .bound .now in
     let w : ℕ = length k in
     let p = b .pre .0 in
     let t : ℕ = l .lost-in .result in

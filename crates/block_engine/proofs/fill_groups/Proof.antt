@@ -16,10 +16,10 @@ use Rattle.block_engine.proofs.fill_groups.Lts as lts
 use Rattle.block_engine.proofs.fill_group.Reads as fill-group-reads
 
 abbrev Inv-loop : tie.InvT-loop
-Inv-loop m w c size blocks₀ kept first second g₀ blocks g = (g ≤ m) × GroupsFilled w c size g kept blocks₀ blocks
+Inv-loop m w c size blocks₀ bound first second g₀ blocks g = (g ≤ m) × GroupsFilled w c size g bound blocks₀ blocks
 
 abbrev μ-loop : tie.MeasureT-loop
-μ-loop m w c size blocks₀ kept first second g₀ blocks g = m - g
+μ-loop m w c size blocks₀ bound first second g₀ blocks g = m - g
 
 -- src/lib.rt:285:5
 loop-holds : tie.Need-loop-holds Inv-loop μ-loop
@@ -32,7 +32,7 @@ mul-a c =
     let b = s .before .before .before in
     let h = row-inside (s .loop .g) (b .args .m) (b .args .w) (omega arith) in
     let p = places-most (b .pre .0 .good) in
-    let k = b .pre .0 .kept-size in
+    let k = b .pre .0 .bound-size in
     omega arith
 
 -- src/lib.rt:287:17
@@ -42,7 +42,7 @@ add-e c =
     let b = s .before .before .before in
     let h = row-inside (s .loop .g) (b .args .m) (b .args .w) (omega arith) in
     let p = places-most (b .pre .0 .good) in
-    let k = b .pre .0 .kept-size in
+    let k = b .pre .0 .bound-size in
     omega arith
 
 -- src/lib.rt:288:40
@@ -60,7 +60,7 @@ part-fill-group-end c =
     let b = s .before .before .before in
     let h = row-inside (s .loop .g) (b .args .m) (b .args .w) (omega arith) in
     let p = places-most (b .pre .0 .good) in
-    let k = b .pre .0 .kept-size in
+    let k = b .pre .0 .bound-size in
     omega arith
 
 -- src/lib.rt:288:9
@@ -69,7 +69,7 @@ fill-group-requires c κs =
     let s = c .before .before .before in
     let b = s .before .before .before in
     let a = b .args in
-    let k : List ℕ = a .kept .now in
+    let k : List ℕ = a .bound .now in
     let g : ℕ = s .loop .g in
     let G = b .pre .0 in
     let E = given-end (a .m) (a .w) (a .c) (a .size) g (a .blocks .now) k G (omega arith) in
@@ -96,7 +96,7 @@ loop-again c =
     let s = f .before .before .before .before in
     let b = s .before .before .before in
     let a = b .args in
-    let k : List ℕ = a .kept .now in
+    let k : List ℕ = a .bound .now in
     let g : ℕ = s .loop .g in
     let E = given-end (a .m) (a .w) (a .c) (a .size) g (a .blocks .now) k (b .pre .0) (omega arith) in (
       omega arith,

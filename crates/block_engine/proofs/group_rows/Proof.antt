@@ -33,7 +33,7 @@ returns c =
     let f = s .before in
     let b = f .before .before in
     let a = b .args in
-    let k = a .kept .now in
+    let k = a .bound .now in
     reduced-check (a .c) (a .g) (a .first) (a .second) (s .scale .result) (b .pre .1)
     (λ j l. s .scale .ensures j l ∙ ap (times byteEdition (getD (a .second) j 0)) (f .power-of-two .ensures)) (length k) k (lostIn (length k) k 0)
     (entry (c .group-rows .result))

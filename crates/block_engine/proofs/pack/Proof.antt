@@ -17,11 +17,11 @@ use Rattle.block_engine.proofs.pack.Lts as lts
 use Rattle.block_engine.proofs.pack_row.Reads as pack-row-reads
 
 abbrev Inv-loop : tie.InvT-loop
-Inv-loop kept from count out₀ rows w r₀ out r =
-    (r ≤ count) × (length out ≡ 64) × ((k : ℕ) → k < r → (j : ℕ) → j < length kept → getD out (k * length kept + j) 0 ≡ masked kept (entry rows (from + k)) j)
+Inv-loop bound from count out₀ rows w r₀ out r =
+    (r ≤ count) × (length out ≡ 64) × ((k : ℕ) → k < r → (j : ℕ) → j < length bound → getD out (k * length bound + j) 0 ≡ masked bound (entry rows (from + k)) j)
 
 abbrev μ-loop : tie.MeasureT-loop
-μ-loop kept from count out₀ rows w r₀ out r = count - r
+μ-loop bound from count out₀ rows w r₀ out r = count - r
 
 -- src/lib.rt:108:5
 loop-holds : tie.Need-loop-holds Inv-loop μ-loop
@@ -44,7 +44,7 @@ mul-a : tie.Need-mul-a Inv-loop μ-loop
 mul-a c =
     let s = c .before .before in
     let a = s .before .before .before in
-    let i = row-within (s .loop .r) (a .args .count) (length (a .args .kept .now)) (omega arith) (omega arith) (omega arith) in
+    let i = row-within (s .loop .r) (a .args .count) (length (a .args .bound .now)) (omega arith) (omega arith) (omega arith) in
     omega arith
 
 -- src/lib.rt:111:17
@@ -52,7 +52,7 @@ add-e : tie.Need-add-e Inv-loop μ-loop
 add-e c =
     let s = c .before .before in
     let a = s .before .before .before in
-    let i = row-within (s .loop .r) (a .args .count) (length (a .args .kept .now)) (omega arith) (omega arith) (omega arith) in
+    let i = row-within (s .loop .r) (a .args .count) (length (a .args .bound .now)) (omega arith) (omega arith) (omega arith) in
     omega arith
 
 -- src/lib.rt:112:29
@@ -68,7 +68,7 @@ part-pack-row-end : tie.Need-part-pack-row-end Inv-loop μ-loop
 part-pack-row-end c =
     let s = c .before .before in
     let a = s .before .before .before in
-    let i = row-within (s .loop .r) (a .args .count) (length (a .args .kept .now)) (omega arith) (omega arith) (omega arith) in
+    let i = row-within (s .loop .r) (a .args .count) (length (a .args .bound .now)) (omega arith) (omega arith) (omega arith) in
     omega arith
 
 -- src/lib.rt:112:9
@@ -76,7 +76,7 @@ pack-row-requires : tie.Need-pack-row-requires Inv-loop μ-loop
 pack-row-requires c κs =
     let s = c .before .before .before in
     let a = s .before .before .before in
-    let w : ℕ = length (a .args .kept .now) in
+    let w : ℕ = length (a .args .bound .now) in
     let i = row-within (s .loop .r) (a .args .count) w (omega arith) (omega arith) (omega arith) in
     let e = suc-mul (s .loop .r) w in
     (omega arith, ap length (stretch-lent w (s .loop .r) (s .loop .out)) ∙ stretch-length w (s .loop .r) (s .loop .out) (omega arith))
@@ -95,7 +95,7 @@ loop-again c =
     let f = c .before .before in
     let s = f .before .before .before .before in
     let a = s .before .before .before in
-    let k : List ℕ = a .args .kept .now in
+    let k : List ℕ = a .args .bound .now in
     let w : ℕ = length k in
     let r : ℕ = s .loop .r in
     let x : List ℕ = s .loop .out in

@@ -14,11 +14,11 @@ use Rattle.block_engine.proofs.pack_row.Reads as reads
 use Rattle.block_engine.proofs.pack_row.Lts as lts
 
 abbrev Inv-loop : tie.InvT-loop
-Inv-loop kept out₀ row j₀ out j =
-    (j ≤ length kept) × (length out ≡ length out₀) × ((k : ℕ) → k < j → getD out k 0 ≡ masked kept (λ i. getD row i 0) k)
+Inv-loop bound out₀ row j₀ out j =
+    (j ≤ length bound) × (length out ≡ length out₀) × ((k : ℕ) → k < j → getD out k 0 ≡ masked bound (λ i. getD row i 0) k)
 
 abbrev μ-loop : tie.MeasureT-loop
-μ-loop kept out₀ row j₀ out j = length kept - j
+μ-loop bound out₀ row j₀ out j = length bound - j
 
 -- src/lib.rt:90:5
 loop-holds : tie.Need-loop-holds Inv-loop μ-loop
@@ -53,7 +53,7 @@ loop-again : tie.Need-loop-again Inv-loop μ-loop
 loop-again c =
     let s = c .before .before .before in
     let a = s .before .args in
-    let k : List ℕ = a .kept .now in
+    let k : List ℕ = a .bound .now in
     let o : List ℕ = s .loop .out in
     let j : ℕ = s .loop .j in
     elim (c .if1 .came) [

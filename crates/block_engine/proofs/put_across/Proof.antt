@@ -26,7 +26,7 @@ group-rows-requires c κs = search needs
 mul-a : tie.Need-mul-a
 mul-a c =
     let a = c .before .before .before .args in
-    let w : ℕ = length (a .kept .now) in
+    let w : ℕ = length (a .bound .now) in
     let i = mul-within (a .g + 1) w 15 16 (omega arith) (omega arith) in
     let e = add-mul (a .g) w in
     omega arith
@@ -35,7 +35,7 @@ mul-a c =
 add-e : tie.Need-add-e
 add-e c =
     let a = c .before .before .before .args in
-    let w : ℕ = length (a .kept .now) in
+    let w : ℕ = length (a .bound .now) in
     let i = mul-within (a .g + 1) w 15 16 (omega arith) (omega arith) in
     let e = add-mul (a .g) w in
     omega arith
@@ -56,7 +56,7 @@ part-pack-row-start c = search needs
 part-pack-row-end : tie.Need-part-pack-row-end
 part-pack-row-end c =
     let a = c .before .before .before .before .args in
-    let w : ℕ = length (a .kept .now) in
+    let w : ℕ = length (a .bound .now) in
     let i = mul-within (a .g + 1) w 15 16 (omega arith) (omega arith) in
     let e = add-mul (a .g) w in
     omega arith
@@ -73,7 +73,7 @@ add-b c = search needs
 mul-b : tie.Need-mul-b
 mul-b c =
     let a = c .before .before .before .before .before .before .before .before .args in
-    let w : ℕ = length (a .kept .now) in
+    let w : ℕ = length (a .bound .now) in
     let i = mul-within (a .m + a .g + 1) w 30 16 (omega arith) (omega arith) in
     let e = add-mul (a .m + a .g) w in
     omega arith
@@ -82,7 +82,7 @@ mul-b c =
 add-f : tie.Need-add-f
 add-f c =
     let a = c .before .before .before .before .before .before .before .before .args in
-    let w : ℕ = length (a .kept .now) in
+    let w : ℕ = length (a .bound .now) in
     let i = mul-within (a .m + a .g + 1) w 30 16 (omega arith) (omega arith) in
     let e = add-mul (a .m + a .g) w in
     omega arith
@@ -103,7 +103,7 @@ part-pack-row-start-2 c = search needs
 part-pack-row-end-2 : tie.Need-part-pack-row-end-2
 part-pack-row-end-2 c =
     let a = c .before .before .before .before .before .before .before .before .before .args in
-    let w : ℕ = length (a .kept .now) in
+    let w : ℕ = length (a .bound .now) in
     let i = mul-within (a .m + a .g + 1) w 30 16 (omega arith) (omega arith) in
     let e = add-mul (a .m + a .g) w in
     omega arith
@@ -124,7 +124,7 @@ returns c =
     let r = q .before .before .before in
     let b = r .before .before .before in
     let a = b .args in
-    let k : List ℕ = a .kept .now in
+    let k : List ℕ = a .bound .now in
     let w : ℕ = length k in
     let g : ℕ = a .g in
     let x : List ℕ = a .out .now in

@@ -19,11 +19,11 @@ use Rattle.block_engine.proofs.targets.Reads as reads
 use Rattle.block_engine.proofs.targets.Lts as lts
 
 abbrev Inv-loop : tie.InvT-loop
-Inv-loop base kept to₀ n₀ j₀ to n j =
-    (j ≤ length kept) × (length to ≡ 4) × (n ≡ countBelow j (lost kept)) × (n ≤ 4 → Targets base kept to j n)
+Inv-loop base bound to₀ n₀ j₀ to n j =
+    (j ≤ length bound) × (length to ≡ 4) × (n ≡ countBelow j (lost bound)) × (n ≤ 4 → Targets base bound to j n)
 
 abbrev μ-loop : tie.MeasureT-loop
-μ-loop base kept to₀ n₀ j₀ to n j = length kept - j
+μ-loop base bound to₀ n₀ j₀ to n j = length bound - j
 
 -- src/lib.rt:229:5
 loop-holds : tie.Need-loop-holds Inv-loop μ-loop
@@ -49,7 +49,7 @@ array-write-to c = omega arith
 add-n : tie.Need-add-n Inv-loop μ-loop
 add-n c =
     let s = c .before .before .before .before in
-    omega (arith, count-le (s .loop .j) (lost (s .before .args .kept .now)))
+    omega (arith, count-le (s .loop .j) (lost (s .before .args .bound .now)))
 
 -- src/lib.rt:236:9
 add-j : tie.Need-add-j Inv-loop μ-loop
@@ -64,7 +64,7 @@ loop-again : tie.Need-loop-again Inv-loop μ-loop
 loop-again c =
     let s = c .before .before .before in
     let a = s .before .args in
-    let k : List ℕ = a .kept .now in
+    let k : List ℕ = a .bound .now in
     let to : List ℕ = s .loop .to in
     let n : ℕ = s .loop .n in
     let j : ℕ = s .loop .j in
@@ -104,7 +104,7 @@ returns : tie.Need-returns Inv-loop μ-loop
 returns c =
     let s = c .before in
     let a = s .before .args in
-    let k : List ℕ = a .kept .now in
+    let k : List ℕ = a .bound .now in
     let e : s .loop .j ≡ length k = omega arith in
     let n : s .loop .n ≡ lostIn (length k) k 0 = s .loop .inv .2 ∙ ap (λ i. countBelow i (lost k)) e ∙ lost-below k (length k) in
     λ few. rw (e, n) at (s .loop .inv .3 (omega arith))

@@ -27,7 +27,7 @@ returns c =
     let l = c .before in
     let b = l .before .before .before in
     let a = b .args in
-    let k : List ℕ = a .kept .now in
+    let k : List ℕ = a .bound .now in
     let p = b .pre .0 in
     group-all (length k) (a .c) (a .g) (p .0) (p .1) k (p .2) (p .3) (a .size) (a .blocks .now) (λ i. l .before .before .shared-slice-known .given i .fits)
     (sym (l .lost-in .ensures) ∙ c .if1 .taken) (a .limit)
@@ -53,7 +53,7 @@ mul-from : tie.Need-mul-from
 mul-from c =
     let b = c .before .before .before .before .before .before .before .before in
     let a = b .args in
-    let i = mul-within (a .g) (length (a .kept .now)) 15 16 (omega arith) (omega arith) in
+    let i = mul-within (a .g) (length (a .bound .now)) 15 16 (omega arith) (omega arith) in
     omega arith
 
 -- src/lib.rt:144:46
@@ -72,7 +72,7 @@ returns-2 c =
     let l = q .before .before in
     let b = l .before .before .before in
     let a = b .args in
-    let k : List ℕ = a .kept .now in
+    let k : List ℕ = a .bound .now in
     let w : ℕ = length k in
     let p = b .pre .0 in
     let t : ℕ = l .lost-in .result in

@@ -18,11 +18,11 @@ use Rattle.block_engine.proofs.test_groups.Lts as lts
 use Rattle.block_engine.proofs.test_group.Reads as test-group-reads
 
 abbrev Inv-loop : tie.InvT-loop
-Inv-loop m w c size blocks kept first second limit₀ g₀ limit g =
-    (g ≤ m) × Limit size limit (λ x. (h : ℕ) → h < g → Mendable w c h (stretch w h kept) (λ j. placeSymbol size blocks x (h * w + j)))
+Inv-loop m w c size blocks bound first second limit₀ g₀ limit g =
+    (g ≤ m) × Limit size limit (λ x. (h : ℕ) → h < g → Mendable w c h (stretch w h bound) (λ j. placeSymbol size blocks x (h * w + j)))
 
 abbrev μ-loop : tie.MeasureT-loop
-μ-loop m w c size blocks kept first second limit₀ g₀ limit g = m - g
+μ-loop m w c size blocks bound first second limit₀ g₀ limit g = m - g
 
 -- src/lib.rt:164:5
 loop-holds : tie.Need-loop-holds Inv-loop μ-loop
@@ -35,7 +35,7 @@ mul-a c =
     let b = s .before .before .before in
     let h = row-inside (s .loop .g) (b .args .m) (b .args .w) (omega arith) in
     let p = places-most (b .pre .0 .good) in
-    let k = b .pre .0 .kept-size in
+    let k = b .pre .0 .bound-size in
     omega arith
 
 -- src/lib.rt:166:17
@@ -45,7 +45,7 @@ add-e c =
     let b = s .before .before .before in
     let h = row-inside (s .loop .g) (b .args .m) (b .args .w) (omega arith) in
     let p = places-most (b .pre .0 .good) in
-    let k = b .pre .0 .kept-size in
+    let k = b .pre .0 .bound-size in
     omega arith
 
 -- src/lib.rt:167:48
@@ -63,7 +63,7 @@ part-test-group-end c =
     let b = s .before .before .before in
     let h = row-inside (s .loop .g) (b .args .m) (b .args .w) (omega arith) in
     let p = places-most (b .pre .0 .good) in
-    let k = b .pre .0 .kept-size in
+    let k = b .pre .0 .bound-size in
     omega arith
 
 -- src/lib.rt:167:9
@@ -72,7 +72,7 @@ test-group-requires c κs =
     let s = c .before .before in
     let b = s .before .before .before in
     let a = b .args in
-    let k : List ℕ = a .kept .now in
+    let k : List ℕ = a .bound .now in
     let g : ℕ = s .loop .g in
     let G = b .pre .0 in
     let E = given-end (a .m) (a .w) (a .c) (a .size) g (a .blocks .now) k G (omega arith) in
@@ -96,7 +96,7 @@ loop-again c =
     let s = f .before .before .before in
     let b = s .before .before .before in
     let a = b .args in
-    let k : List ℕ = a .kept .now in
+    let k : List ℕ = a .bound .now in
     let g : ℕ = s .loop .g in
     let E = given-end (a .m) (a .w) (a .c) (a .size) g (a .blocks .now) k (b .pre .0) (omega arith) in
     (omega arith, limit-next g _ (s .loop .inv .1) (rw (stretch-lent (a .w) g k, stretch-length (a .w) g k (E .0)) at (f .test-group .ensures)))
