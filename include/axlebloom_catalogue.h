@@ -46,8 +46,9 @@
  * TWO ENDS TO KNOW OF
  *
  * - A text of version 1 that fills its room can be refused with 21 on every put and remove, since the
- *   first line of version 2 is longer, and it has no gone lines to drop. Lend a larger buffer. If the
- *   text has 4096 bytes, start a new catalogue. In version 2 a remove is never refused with 21.
+ *   first line of version 2 is longer, and it has no gone lines to drop. Lend a larger buffer. If a
+ *   buffer of 4096 bytes doesn't help, which can be so for texts of 4095 and 4096 bytes, start a new
+ *   catalogue.
  * - A name removed at revision 65534 is gone at 65535. Compaction then makes the floor 65535, and
  *   every new name is refused with 20 for good; names that have a line can still be put. A name at
  *   revision 65535 can be looked up, and neither put nor removed.

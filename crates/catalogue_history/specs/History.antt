@@ -1,8 +1,9 @@
 -- "So in a text changed by our calls alone a name with a revision never stands for two shapes, compaction between or not."
 use mathlib.Core.Path.{_≡_}
 use mathlib.Core.Bool.{true}
-use mathlib.Core.List.{List, [], _∷_}
+use mathlib.Core.List.{List, [], _∷_, _++_}
 use Prim.Native.Nat.{ℕ, _≤_}
+use lib.ListN.{take}
 use Rattle.catalogue_text.specs.Catalogue.{Entry, Catalogue}
 use Rattle.catalogue_text.specs.Buffers.{formed, catalogueIn}
 use Rattle.catalogue.specs.declared.Looked.{Looked}
@@ -16,12 +17,13 @@ pub record Lent : Type 0 where
   pub buffer : List ℕ
   pub size : ℕ
 
--- a call, with any arguments: it may be refused
+-- a call, with any arguments: it may be refused; or the text is lent again in another buffer, in which other bytes follow it
 pub data Call : Type 0 where
   put : (m w c : ℕ) (name : List ℕ) (expected : ℕ) → Call
   remove : (name : List ℕ) (expected : ℕ) → Call
   compact : Call
   lookup : (name : List ℕ) → Call
+  lend : (rest : List ℕ) → Call
 
 -- the length to be given to the next call: the one answered, or after a refusal the one before
 abbrev pub sizeAfter : Changed → ℕ → ℕ
@@ -48,6 +50,7 @@ afterCall compact lent = record {
   size = sizeCompacted (compactOf (lent .buffer) (lent .size)) (lent .size);
 }
 afterCall (lookup name) lent = lent
+afterCall (lend rest) lent = record { buffer = take (lent .size) (lent .buffer) ++ rest; size = lent .size }
 
 -- any list of calls; each works on what the call before it left
 abbrev pub afterCalls : List Call → Lent → Lent

@@ -2,11 +2,13 @@
 use mathlib.Core.Path.{_≡_, refl, sym, ap, ap₂, _∙_, subst}
 use mathlib.Core.Logic.{_⊎_, inl, inr}
 use mathlib.Core.Bool.{Bool, true, false, cond, true≢false, _&&_}
-use mathlib.Core.List.{List, [], _∷_}
+use mathlib.Core.List.{List, [], _∷_, _++_}
 use Prim.Native.Nat.{ℕ, zero, suc, _+_, _≤_, _<_}
 use native.Mathlib.Omega.{arith}
 use native.Mathlib.Decide.{ℕ-discrete}
-use borrow.Author.Tests.{eq-eqb, ne-eqb, eqb-true, eqb-false}
+use borrow.Author.Tests.{eq-eqb, ne-eqb, eqb-true, eqb-false, le-leb}
+use lib.ListN.{length, take, length-append}
+use lib.Seq.{take-at, length-take-le}
 use lib.Dec.{T, eqb}
 use Rattle.counting.specs.TestLaws.{and-l, and-r}
 use Rattle.shape.specs.Refusals.{refuse, _orElse_}
@@ -15,13 +17,13 @@ use Rattle.text.specs.Fields.{same}
 use Rattle.text.specs.FieldLaws.{same-eq}
 use Rattle.catalogue_text.specs.Names.{before, goodName}
 use Rattle.catalogue_text.specs.NamesLaws.{is-true, same-refl, before-only, before-trans, same-sym}
-use Rattle.catalogue_text.specs.Catalogue.{Entry, isGone, goodEntry, goodFrom, goodList, Catalogue, goodCatalogue}
+use Rattle.catalogue_text.specs.Catalogue.{Entry, isGone, goodEntry, goodFrom, goodList, Catalogue, goodCatalogue, catalogueOf, ofForm}
 use Rattle.catalogue_text.specs.LineLaws.{entry-good}
 use Rattle.catalogue_text.specs.CatalogueLaws.{cat-list}
 use Rattle.catalogue_text.specs.Changes.{entryFor, entryIn, putIn, lastRevision, nextEntry, changedBy, compacted}
 use Rattle.catalogue_text.specs.ChangesLaws.{put-found, put-others, compacted-floor}
 use Rattle.catalogue_text.specs.Buffers.{formed, catalogueIn}
-use Rattle.catalogue_text.specs.BuffersLaws.{formed-good}
+use Rattle.catalogue_text.specs.BuffersLaws.{formed-good, formed-parts}
 use Rattle.catalogue.specs.declared.Looked.{Looked}
 use Rattle.catalogue.specs.declared.Changed.{Changed}
 use Rattle.catalogue.specs.Calls.{textRefusal, nameRefusal, foundRefusal, stored, lookedAt, lookedOf, lookupRefusal, putRefusal, putOf, putBuffer}
@@ -31,7 +33,7 @@ use Rattle.catalogue_compact.specs.Compaction.{compactOf, compactBuffer}
 use Rattle.catalogue_history.specs.Demand.{ChangeDone, ChangeRefused, CompactDone}
 use Rattle.catalogue_history.specs.DemandLaws.{compacted-entry, last-most, put-done, put-refused, remove-done, remove-refused}
 use Rattle.catalogue_history.specs.DemandLaws.{compact-done}
-use Rattle.catalogue_history.specs.History.{Lent, Call, put, remove, compact, lookup, sizeAfter, sizeCompacted, afterCall, afterCalls, readIn}
+use Rattle.catalogue_history.specs.History.{Lent, Call, put, remove, compact, lookup, lend, sizeAfter, sizeCompacted, afterCall, afterCalls, readIn}
 use Rattle.catalogue_history.specs.History.{LineOf, here, there, LineIn, Between, NeverTwo}
 
 -- the last revision of a name
@@ -160,6 +162,24 @@ changed lent f answer after name m w c (suc k) done refused =
     let d = refused k refl in
     stays lent f after (sizeAfter answer (lent .size)) (d .stays) (ap (λ a. sizeAfter a (lent .size)) (d .answered))
 
+-- the text in another buffer is read as before
+lent-again : (lent : Lent) (rest : List ℕ) → formed (lent .buffer) (lent .size) ≡ true → Step lent (afterCall (lend rest) lent)
+unfolding formed catalogueIn
+lent-again lent rest f =
+    let P = formed-parts (lent .buffer) (lent .size) f in
+    let t = length-take-le (lent .size) (lent .buffer) (P .held) in
+    let a = length-append (take (lent .size) (lent .buffer)) rest in
+    let e : take (lent .size) (take (lent .size) (lent .buffer) ++ rest) ≡ take (lent .size) (lent .buffer) =
+    take-at (take (lent .size) (lent .buffer)) rest (lent .size) t in (
+      rw (
+        le-leb (lent .size) (length (take (lent .size) (lent .buffer) ++ rest)) (omega arith),
+        le-leb (lent .size) 4096 (P .most),
+        e,
+        is-true (ofForm (take (lent .size) (lent .buffer))) (P .text),
+      ),
+      λ name. subst (Kept name (readIn lent)) (ap catalogueOf (sym e)) (kept-same name (readIn lent)),
+    )
+
 call-step : (call : Call) (lent : Lent) → formed (lent .buffer) (lent .size) ≡ true → Step lent (afterCall call lent)
 call-step (put m w c name expected) lent f =
     changed lent f (putOf m w c name expected (lent .buffer) (lent .size)) (putBuffer m w c name expected (lent .buffer) (lent .size)) name m w c
@@ -174,6 +194,7 @@ call-step compact lent f =
     becomes lent (compacted (readIn lent)) (compactBuffer (lent .buffer) (lent .size)) (sizeCompacted (compactOf (lent .buffer) (lent .size)) (lent .size)) _
     (ap (λ a. sizeCompacted a (lent .size)) (d .answered)) (d .whole) (d .read) (compact-kept (readIn lent) (formed-good (lent .buffer) (lent .size) f))
 call-step (lookup name) lent f = (f, λ other. kept-same other (readIn lent))
+call-step (lend rest) lent f = lent-again lent rest f
 
 calls-step : (calls : List Call) (lent : Lent) → formed (lent .buffer) (lent .size) ≡ true → Step lent (afterCalls calls lent)
 calls-step [] lent f = (f, λ name. kept-same name (readIn lent))

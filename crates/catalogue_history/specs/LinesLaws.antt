@@ -1,5 +1,5 @@
 -- Proof: no other name's line changes; and names stand in order, each before all that come later.
-use mathlib.Core.Path.{_≡_, refl, sym, ap, _∙_}
+use mathlib.Core.Path.{_≡_, refl, sym, ap, ap₂, _∙_}
 use mathlib.Core.Logic.{_⊎_, inl, inr}
 use mathlib.Core.Bool.{Bool, true, false, cond, _&&_}
 use mathlib.Core.List.{List, [], _∷_, _++_, append-assoc}
@@ -9,7 +9,8 @@ use Rattle.counting.specs.TestLaws.{and-l, and-r}
 use Rattle.text.specs.Fields.{same}
 use Rattle.text.specs.FieldLaws.{same-eq}
 use Rattle.catalogue_text.specs.Names.{before}
-use Rattle.catalogue_text.specs.Catalogue.{Entry, goodEntry, goodFrom, Catalogue, firstLine, entryLine, linesOf, textOf}
+use Rattle.catalogue_text.specs.Catalogue.{Entry, goodEntry, goodFrom, Catalogue, firstLine, entryLine, linesOf, textOf, catalogueOf, ofForm}
+use Rattle.catalogue_text.specs.CatalogueLaws.{text-of-read}
 use Rattle.catalogue_text.specs.Changes.{putIn, nextEntry, changedBy}
 use Rattle.catalogue_history.specs.History.{LineOf}
 use Rattle.catalogue_history.specs.HistoryLaws.{line-after}
@@ -86,3 +87,16 @@ sorted last (g ∷ front) e f back t l =
     sorted (g .name) front e f back
     (and-r (goodEntry g) (goodFrom (g .name) (front ++ (e ∷ back)))
     (and-r (before last (g .name)) (goodEntry g && goodFrom (g .name) (front ++ (e ∷ back))) t)) l
+
+-- "Each list has one text": two texts of the form that are read as the same catalogue are the same
+pub one-text : (a b : List ℕ) → T (ofForm a) → T (ofForm b) → catalogueOf a ≡ catalogueOf b → a ≡ b
+one-text a b s t e = sym (text-of-read a s) ∙ ap textOf e ∙ text-of-read b t
+
+-- "a list then has one version 2 text": with its floor
+pub one-second-text : (a b : List ℕ) → T (ofForm a) → T (ofForm b) → (catalogueOf a) .version ≡ 2 → (catalogueOf b) .version ≡ 2
+    → (catalogueOf a) .floor ≡ (catalogueOf b) .floor → (catalogueOf a) .list ≡ (catalogueOf b) .list → a ≡ b
+one-second-text a b s t v u f l = one-text a b s t (ap (λ n. with-version n ((catalogueOf a) .floor) ((catalogueOf a) .list)) (v ∙ sym u)
+    ∙ ap₂ (with-version ((catalogueOf b) .version)) f l)
+  where
+    with-version : ℕ → ℕ → List Entry → Catalogue
+    with-version version floor list = record { version = version; floor = floor; list = list }
