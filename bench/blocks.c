@@ -1,5 +1,5 @@
 /* Block rebuild over the block's length, beside the stock libraries ISA-L and Jerasure on the same blocks: megabytes of blocks a second, lost ones
- * included. Every group has lost c places, and the first one two more. The library works everything out in each call and tests that the present
+ * included. Every group has lost c places, and the first one none or two more. The library works everything out in each call and tests that the present
  * bytes contradict nothing; the stock libraries multiply a matrix by the blocks and test nothing, with the matrix made beforehand, or anew for
  * each call by their own inversion. Best of many rounds; in each round every way is timed in turn. */
 #include <stdio.h>
@@ -17,7 +17,7 @@ static const char *ways[WAYS] = {"library", "ISA-L, matrix beforehand", "ISA-L, 
 
 static uint8_t blocks[MOST] __attribute__((aligned(64))), whole[MOST], marks[PLACES], lost[PLACES];
 static struct plan plans[2];
-static size_t m, w, c, n, length;
+static size_t m, w, c, n, length, excess;
 
 static void stop(const char *why) { fprintf(stderr, "blocks: %s\n", why), exit(1); }
 
@@ -53,7 +53,7 @@ static void measure(void) {
   for (size_t b = 0; b < n * length; b++) blocks[b] = (uint8_t)(b * 7 + b / 5);
   if (axlebloom_rebuild(m, w, c, length, blocks, n * length, marks, n).number) stop("not encoded");
   memcpy(whole, blocks, n * length);
-  for (size_t p = 0; p < n; p++) lost[p] = p % w < c || p < c + 2;
+  for (size_t p = 0; p < n; p++) lost[p] = p % w < c || p < c + excess;
   if (make_plan(&isal, (int)m, (int)w, (int)c, lost, &plans[0]) || make_plan(&jerasure, (int)m, (int)w, (int)c, lost, &plans[1])) stop("no matrix");
   for (int way = 0; way < WAYS; way++) best[way] = 1e18;
   for (int round = 0; round < ROUNDS; round++)
@@ -61,10 +61,10 @@ static void measure(void) {
       double t = timed(way);
       if (t < best[way]) best[way] = t;
     }
-  printf("| %zux%zu c%zu | %zu |", m, w, c, length);
+  printf("| %zux%zu c%zu | %zu | %zu |", m, w, c, excess, length);
   for (int way = 0; way < WAYS; way++) {
     printf(" %.1f |", (double)(n * length) / best[way] * 1e3);
-    record("blocks", "rebuild, excess 2", m, w, c, length, ways[way], n * length, best[way]);
+    record("blocks", excess ? "rebuild, excess 2" : "rebuild, excess 0", m, w, c, length, ways[way], n * length, best[way]);
   }
   puts("");
 }
@@ -72,11 +72,11 @@ static void measure(void) {
 int main(void) {
   static const size_t shapes[][3] = {{15, 16, 2}, {8, 10, 2}, {4, 8, 2}};
   plain_tables();
-  printf("| shape | length |");
+  printf("| shape | excess | length |");
   for (int way = 0; way < WAYS; way++) printf(" %s |", ways[way]);
-  puts("\n|---|---|---|---|---|---|---|");
-  for (size_t s = 0; s < sizeof shapes / sizeof *shapes; s++) {
-    m = shapes[s][0], w = shapes[s][1], c = shapes[s][2], n = m * w;
+  puts("\n|---|---|---|---|---|---|---|---|");
+  for (size_t s = 0; s < 2 * (sizeof shapes / sizeof *shapes); s++) {
+    m = shapes[s / 2][0], w = shapes[s / 2][1], c = shapes[s / 2][2], n = m * w, excess = s % 2 * 2;
     /* Jerasure takes lengths that are multiples of eight */
     for (length = 16; length < MOST / n; length *= 4) measure();
     length = MOST / n / 16 * 16;

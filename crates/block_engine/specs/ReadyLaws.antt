@@ -77,7 +77,8 @@ module _ (m w c : ℕ) (bound rows : List ℕ) (A : AcrossRows m w c bound rows)
 
   pub across-second : Across m w c bound 5 (secondOf (m * w) rows)
   across-second g l =
-      stands-ext w c g (stretch w g bound) 5 _ _ (λ j h. ap (λ k. getD rows k 0) (ap (λ k. k + j) (add-mul m g w) ∙ add-assoc (m * w) (g * w) j)) (A .second g l)
+      stands-ext w c g (stretch w g bound) 5 _ _ (λ j h. ap (λ k. getD rows k 0) (ap (λ k. k + j) (add-mul m g w) ∙ add-assoc (m * w) (g * w) j))
+      (A .second g l)
 
 module _ (m w c size : ℕ) (blocks marks : List ℕ) (R : Ready m w c size (length blocks) marks) (small : (i : ℕ) → getD blocks i 0 < 256) where
   K : BoundAll m w c marks marks

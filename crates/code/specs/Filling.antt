@@ -2,7 +2,7 @@
 -- word order, a present place keeps its symbol, a lost one tries every symbol, the smallest first. Nobody computes it; its laws say that
 -- what is found fills and passes, and that where nothing is found no filling passes.
 use mathlib.Core.Path.{_≡_}
-use mathlib.Core.Bool.{Bool, true, false}
+use mathlib.Core.Bool.{Bool, true, false, cond}
 use mathlib.Core.List.{List, [], _∷_}
 use Prim.Native.Nat.{ℕ, zero, suc, _<_}
 use lib.Dec.{T}
@@ -29,16 +29,11 @@ unfoldable pub tryBelow : ℕ → (ℕ → Found) → Found
 tryBelow zero f = none
 tryBelow (suc n) f = orElse (tryBelow n f) (f n)
 
--- the first of two if a test holds, else the second
-abbrev pub pickFound : Bool → Found → Found → Found
-pickFound true a b = a
-pickFound false a b = b
-
 -- the first filling with symbols below q that passes
 unfoldable pub search : ℕ → (List ℕ → Bool) → List ℕ → List ℕ → Found
-search q test marks [] = pickFound (test []) (found []) none
+search q test marks [] = cond (test []) (found []) none
 search q test marks (b ∷ word) =
-    pickFound (lost marks 0) (tryBelow q (λ v. extend v (search q (λ x. test (v ∷ x)) (drop 1 marks) word)))
+    cond (lost marks 0) (tryBelow q (λ v. extend v (search q (λ x. test (v ∷ x)) (drop 1 marks) word)))
     (extend b (search q (λ x. test (b ∷ x)) (drop 1 marks) word))
 
 -- x is word with symbols below q in the lost places

@@ -2,7 +2,7 @@
 -- word order, a present place keeps its symbol, a lost one tries every symbol, the smallest first. Nobody computes it; its laws say that
 -- what is found fills and passes, and that where nothing is found no filling passes.
 use mathlib.Core.Path.{_≡_, refl, sym, ap, _∙_, subst}
-use mathlib.Core.Bool.{Bool, true, false}
+use mathlib.Core.Bool.{Bool, true, false, cond}
 use mathlib.Core.List.{List, [], _∷_}
 use Prim.Native.Nat.{ℕ, zero, suc, _+_, _<_, _≤_, _^_}
 use native.Mathlib.Omega.{arith}
@@ -14,7 +14,7 @@ use lib.Seq.{getD-drop}
 use Rattle.code.specs.Edition.{Edition}
 use Rattle.code.specs.Word.{Symbols}
 use Rattle.code.specs.Marks.{lost}
-use Rattle.code.specs.Filling.{Found, extend, orElse, tryBelow, pickFound, search, Fills, Passing, found, none}
+use Rattle.code.specs.Filling.{Found, extend, orElse, tryBelow, search, Fills, Passing, found, none}
 
 -- ---- laws
 next-lost : (marks : List ℕ) (p : ℕ) → lost (drop 1 marks) p ≡ lost marks (suc p)
@@ -83,7 +83,7 @@ pub search-found : (q : ℕ) (test : List ℕ → Bool) (marks word x : List ℕ
 unfolding search
 search-found q test marks [] x e = go (test []) refl e
   where
-    go : (v : Bool) → test [] ≡ v → pickFound v (found []) none ≡ found x → Passing q test marks [] x
+    go : (v : Bool) → test [] ≡ v → cond v (found []) none ≡ found x → Passing q test marks [] x
     go true d h =
         let z : x ≡ [] = cc in
         rw z (record {
@@ -104,7 +104,7 @@ search-found q test marks (b ∷ word) x e = go (λ v y. search-found q (λ x. t
         rw (X .is) (record { fills = fills-cons q marks word (X .rest) b v here there (P .fills); passes = P .passes })
 
     go : ((v : ℕ) (y : List ℕ) → inner v ≡ found y → Passing q (λ x. test (v ∷ x)) (drop 1 marks) word y) → (l : Bool) → lost marks 0 ≡ l
-        → pickFound l (tryBelow q (λ v. extend v (inner v))) (extend b (inner b)) ≡ found x → Passing q test marks (b ∷ word) x
+        → cond l (tryBelow q (λ v. extend v (inner v))) (extend b (inner b)) ≡ found x → Passing q test marks (b ∷ word) x
     go ih true d h =
         let w = try-found q (λ v. extend v (inner v)) x h in
         step (w .0) (λ f. let z : _≡_ {A = ℕ} 0 1 = cc in absurd (omega arith)) (λ _. w .1) (ih (w .0)) (extend-found (w .0) (inner (w .0)) x (w .2))
@@ -115,7 +115,7 @@ pub search-none : (q : ℕ) (test : List ℕ → Bool) (marks word : List ℕ) �
 unfolding search
 search-none q test marks [] e [] F t = go (test []) refl e t
   where
-    go : (v : Bool) → test [] ≡ v → pickFound v (found []) none ≡ none → T (test []) → ⊥
+    go : (v : Bool) → test [] ≡ v → cond v (found []) none ≡ none → T (test []) → ⊥
     go true d h s = let z : _≡_ {A = ℕ} 0 1 = cc in omega arith
     go false d h s = subst T d s
 search-none q test marks [] e (v ∷ x) F t = let z = F .size in omega arith
@@ -126,7 +126,7 @@ search-none q test marks (b ∷ word) e (v ∷ x) F t =
     inner : ℕ → Found
     inner v = search q (λ x. test (v ∷ x)) (drop 1 marks) word
 
-    go : (inner v ≡ none → ⊥) → (l : Bool) → lost marks 0 ≡ l → pickFound l (tryBelow q (λ v. extend v (inner v))) (extend b (inner b)) ≡ none → ⊥
+    go : (inner v ≡ none → ⊥) → (l : Bool) → lost marks 0 ≡ l → cond l (tryBelow q (λ v. extend v (inner v))) (extend b (inner b)) ≡ none → ⊥
     go ih true d h = ih (extend-none v (inner v) (try-none q (λ v. extend v (inner v)) h v (F .each 0 (omega arith) d)))
     go ih false d h = ih (ap inner (F .present 0 (omega arith) d) ∙ extend-none b (inner b) h)
 
@@ -163,8 +163,8 @@ search-present q test marks (b ∷ x) (d ∷ y) n a =
     inner x v = search q (λ z. test (v ∷ z)) (drop 1 marks) x
 
     go : ((v : ℕ) → inner x v ≡ inner y v) → (l : Bool) → (l ≡ false → b ≡ d)
-        → pickFound l (tryBelow q (λ v. extend v (inner x v))) (extend b (inner x b))
-        ≡ pickFound l (tryBelow q (λ v. extend v (inner y v))) (extend d (inner y d))
+        → cond l (tryBelow q (λ v. extend v (inner x v))) (extend b (inner x b))
+        ≡ cond l (tryBelow q (λ v. extend v (inner y v))) (extend d (inner y d))
     go ih true h = ap (tryBelow q) (λ i v. extend v (ih v i))
     go ih false h = ap (extend b) (ih b) ∙ ap (λ v. extend v (inner y v)) (h refl)
 

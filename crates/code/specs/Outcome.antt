@@ -1,7 +1,7 @@
 -- The rule that recovery and the repair of a group share: 8 where the loss is too large; else 9, with a group number, where no filling of the
 -- lost places passes the test; else the filling is written and the marks are cleared.
 use mathlib.Core.Path.{_≡_}
-use mathlib.Core.Bool.{Bool, true, false}
+use mathlib.Core.Bool.{Bool, true, false, cond}
 use mathlib.Core.List.{List}
 use Prim.Native.Nat.{ℕ}
 use lib.ListN.{length, replicate}
@@ -26,11 +26,6 @@ contradictory group word marks = record { number = 9; group = group; word = word
 abbrev pub written : List ℕ → List ℕ → Outcome
 written x marks = record { number = 0; group = 0; word = x; marks = replicate (length marks) 0 }
 
--- the first of two if a test holds, else the second
-abbrev pub pickOutcome : Bool → Outcome → Outcome → Outcome
-pickOutcome true a b = a
-pickOutcome false a b = b
-
 -- what is answered where the loss is not too large: the filling, or 9 with the group
 abbrev pub finished : ℕ → List ℕ → List ℕ → Found → Outcome
 finished group word marks (found x) = written x marks
@@ -38,7 +33,7 @@ finished group word marks none = contradictory group word marks
 
 -- with symbols below q: 8 if the loss is too large, 9 with the group if no filling passes the test, else the filling
 unfoldable pub answered : ℕ → (List ℕ → Bool) → Bool → ℕ → List ℕ → List ℕ → Outcome
-answered q test large group word marks = pickOutcome large (refused 8 word marks) (finished group word marks (search q test marks word))
+answered q test large group word marks = cond large (refused 8 word marks) (finished group word marks (search q test marks word))
 
 -- Two outcomes have the same number, the same group and, where the number is 0, the same word and marks.
 pub record SameEnd (a b : Outcome) : Type 0 where

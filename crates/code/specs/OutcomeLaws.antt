@@ -1,7 +1,7 @@
 -- Laws: The rule that recovery and the repair of a group share: 8 where the loss is too large; else 9, with a group number, where no filling of the
 -- lost places passes the test; else the filling is written and the marks are cleared.
 use mathlib.Core.Path.{_≡_, refl, sym, ap, _∙_, subst}
-use mathlib.Core.Bool.{Bool, true, false}
+use mathlib.Core.Bool.{Bool, true, false, cond}
 use mathlib.Core.List.{List}
 use Prim.Native.Nat.{ℕ}
 use native.Mathlib.Omega.{arith}
@@ -9,7 +9,7 @@ use lib.ListN.{length, length-replicate}
 use Rattle.code.specs.Marks.{Agree}
 use Rattle.code.specs.Filling.{Found, found, none, search, Passing}
 use Rattle.code.specs.FillingLaws.{search-found, search-none, search-present}
-use Rattle.code.specs.Outcome.{Outcome, refused, contradictory, written, pickOutcome, finished, answered, SameEnd, Case, Single, eight, nine, done}
+use Rattle.code.specs.Outcome.{Outcome, refused, contradictory, written, finished, answered, SameEnd, Case, Single, eight, nine, done}
 
 pub same-outcome : {a b : Outcome} → a ≡ b → SameEnd a b
 same-outcome e = record { number = ap (λ o. o .number) e; group = ap (λ o. o .group) e; word = λ _. ap (λ o. o .word) e; marks = λ _. ap (λ o. o .marks) e }
@@ -38,11 +38,11 @@ pub same-present : (q : ℕ) (test : List ℕ → Bool) (large : Bool) (g₁ g�
     → Agree (length word₁) marks word₁ word₂ → SameEnd (answered q test large g₁ word₁ marks) (answered q test large g₂ word₂ marks)
 unfolding answered
 same-present q test large g₁ g₂ word₁ word₂ marks d n a =
-    subst (λ f. SameEnd (answered q test large g₁ word₁ marks) (pickOutcome large (refused 8 word₂ marks) (finished g₂ word₂ marks f)))
+    subst (λ f. SameEnd (answered q test large g₁ word₁ marks) (cond large (refused 8 word₂ marks) (finished g₂ word₂ marks f)))
     (search-present q test marks word₁ word₂ n a) (go large (search q test marks word₁))
   where
     go : (v : Bool) (f : Found)
-        → SameEnd (pickOutcome v (refused 8 word₁ marks) (finished g₁ word₁ marks f)) (pickOutcome v (refused 8 word₂ marks) (finished g₂ word₂ marks f))
+        → SameEnd (cond v (refused 8 word₁ marks) (finished g₁ word₁ marks f)) (cond v (refused 8 word₂ marks) (finished g₂ word₂ marks f))
     go true f = same-refusal 8 (λ z. omega arith) refl refl
     go false (found x) = same-outcome refl
     go false none = same-contradiction d refl refl
@@ -53,13 +53,13 @@ module _ (q : ℕ) (test : List ℕ → Bool) (large : Bool) (group : ℕ) (word
   cases = go large refl (search q test marks word) refl
     where
       go : (v : Bool) → large ≡ v → (r : Found) → search q test marks word ≡ r → Case q test large group word marks
-      go true e r d = eight e (ap (λ b. pickOutcome b (refused 8 word marks) (finished group word marks (search q test marks word))) e)
+      go true e r d = eight e (ap (λ b. cond b (refused 8 word marks) (finished group word marks (search q test marks word))) e)
       go false e (found x) d =
           done e x (search-found q test marks word x d)
-          (ap (λ b. pickOutcome b (refused 8 word marks) (finished group word marks (search q test marks word))) e ∙ ap (finished group word marks) d)
+          (ap (λ b. cond b (refused 8 word marks) (finished group word marks (search q test marks word))) e ∙ ap (finished group word marks) d)
       go false e none d =
           nine e (λ y P. search-none q test marks word d y (P .fills) (P .passes))
-          (ap (λ b. pickOutcome b (refused 8 word marks) (finished group word marks (search q test marks word))) e ∙ ap (finished group word marks) d)
+          (ap (λ b. cond b (refused 8 word marks) (finished group word marks (search q test marks word))) e ∙ ap (finished group word marks) d)
 
   -- the number tells the case
   differ : {r s : ℕ} {a : Outcome} → answered q test large group word marks ≡ a → a .number ≡ r → (answered q test large group word marks) .number ≡ s

@@ -70,7 +70,8 @@ module _ (E : Edition) (S : Sound E) (m w c : ℕ) (few : m ≤ S .r) (wide : 0 
     pub recovered-done : (x : List ℕ) → excess m w c marks ≤ 2 → Agrees E m w c marks word x → recovered E m w c word marks ≡ written x marks
     unfolding large
     recovered-done x h A =
-        OutcomeLaws.answered-done (2 ^ E .bits) (isCodeword E m w c) (ltb 2 (excess m w c marks)) (contradictingGroup E m w c word marks) word marks only-filling
+        OutcomeLaws.answered-done (2 ^ E .bits) (isCodeword E m w c) (ltb 2 (excess m w c marks)) (contradictingGroup E m w c word marks)
+        word marks only-filling
         (le-ltb 2 (excess m w c marks) h) x
         (agrees-passing E m w c marks word x (s .size) A)
 

@@ -1,6 +1,6 @@
 -- Demand 3: group repairs first, in any order, repeated and refused ones included, do not change what a recovery answers.
 use mathlib.Core.Path.{_≡_}
-use mathlib.Core.Bool.{Bool, true, false}
+use mathlib.Core.Bool.{Bool, true, false, cond}
 use mathlib.Core.List.{List, [], _∷_}
 use Prim.Native.Nat.{ℕ, _*_, _<_, _≤_}
 use lib.Dec.{ltb}
@@ -17,14 +17,10 @@ pub record Held : Type 0 where
   pub word : List ℕ
   pub marks : List ℕ
 
-abbrev pub pickHeld : Bool → Held → Held → Held
-pickHeld true a b = a
-pickHeld false a b = b
-
 -- what one repair leaves; a group number from m on is refused 7 and leaves all as it was
 unfoldable pub afterRepair : Edition → ℕ → ℕ → ℕ → ℕ → Held → Held
 afterRepair E m w c g h =
-    pickHeld (ltb g m) (record { word = (repairedGroup E w c g (h .word) (h .marks)) .word; marks = (repairedGroup E w c g (h .word) (h .marks)) .marks }) h
+    cond (ltb g m) (record { word = (repairedGroup E w c g (h .word) (h .marks)) .word; marks = (repairedGroup E w c g (h .word) (h .marks)) .marks }) h
 
 -- what a list of repairs leaves, the first first
 unfoldable pub afterRepairs : Edition → ℕ → ℕ → ℕ → List ℕ → Held → Held

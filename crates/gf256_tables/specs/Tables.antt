@@ -1,5 +1,5 @@
 -- "Powers and logarithms for all 255 nonzero bytes are kept as constants": the two tables, one test over them, and the product through them.
-use mathlib.Core.Bool.{Bool, true, false}
+use mathlib.Core.Bool.{Bool, true, false, cond}
 use mathlib.Core.List.{List, [], _∷_}
 use Prim.Native.Nat.{ℕ, _+_, _-_}
 use lib.Dec.{eqb, ltb}
@@ -36,14 +36,10 @@ logs =
     79 ∷ 174 ∷ 213 ∷ 233 ∷ 230 ∷ 231 ∷ 173 ∷ 232 ∷ 116 ∷ 214 ∷ 244 ∷ 234 ∷ 168 ∷ 80 ∷ 88 ∷ 175 ∷ []
 
 -- ---- the product through tables that are lent
-abbrev pub pick : Bool → ℕ → ℕ → ℕ
-pick true a b = a
-pick false a b = b
-
 -- a sum of logarithms, less 255 where it reaches that
 abbrev pub wrapped : ℕ → ℕ
-wrapped s = pick (ltb s 255) s (s - 255)
+wrapped s = cond (ltb s 255) s (s - 255)
 
 -- 0 if a factor is 0; else the power at the sum of the logarithms
 unfoldable pub throughTables : List ℕ → List ℕ → ℕ → ℕ → ℕ
-throughTables p l a b = pick (eqb a 0) 0 (pick (eqb b 0) 0 (getD p (wrapped (getD l a 0 + getD l b 0)) 0))
+throughTables p l a b = cond (eqb a 0) 0 (cond (eqb b 0) 0 (getD p (wrapped (getD l a 0 + getD l b 0)) 0))

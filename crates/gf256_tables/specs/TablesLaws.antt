@@ -1,6 +1,6 @@
 -- Laws: "Powers and logarithms for all 255 nonzero bytes are kept as constants": the two tables, one test over them, and the product through them.
 use mathlib.Core.Path.{_≡_, refl, sym, ap, ap₂, _∙_, subst}
-use mathlib.Core.Bool.{Bool, true, false, _&&_}
+use mathlib.Core.Bool.{Bool, true, false, _&&_, cond}
 use mathlib.Core.List.{List, [], _∷_}
 use Prim.Native.Nat.{ℕ, zero, suc, _+_, _-_, _<_, _≤_}
 use native.Mathlib.Nat.{not-suc-le-zero, le-of-suc-le-suc, add-zero, zero-add, suc-add, add-suc}
@@ -17,7 +17,7 @@ use Rattle.binary_field.specs.ProductLaws.{product-zero, zero-product}
 use Rattle.binary_field.specs.Power.{power}
 use Rattle.binary_field.specs.PowerLaws.{power-add, power-lt}
 use Rattle.gf256.specs.BytesLaws.{one-times, power-next}
-use Rattle.gf256_tables.specs.Tables.{powers, logs, pick, wrapped, throughTables}
+use Rattle.gf256_tables.specs.Tables.{powers, logs, wrapped, throughTables}
 
 -- each entry is the double of the one before, from a on
 unfoldable chain : ℕ → List ℕ → Bool
@@ -85,7 +85,7 @@ module _ (p l : List ℕ) (a b x y : ℕ) (na : a ≡ 0 → ⊥) (nb : b ≡ 0 �
 power-wrapped : (s : ℕ) → s < 510 → getD powers (wrapped s) 0 ≡ power 8 285 2 s
 power-wrapped s h = go (ltb s 255) refl
   where
-    go : (v : Bool) → ltb s 255 ≡ v → getD powers (pick v s (s - 255)) 0 ≡ power 8 285 2 s
+    go : (v : Bool) → ltb s 255 ≡ v → getD powers (cond v s (s - 255)) 0 ≡ power 8 285 2 s
     go true e = powers-at s (omega (arith, ltb-true s 255 e))
     go false e =
         let l : 255 ≤ s = ltb-false s 255 e in

@@ -2,7 +2,7 @@
 -- of Recover answers.
 use mathlib.Core.Path.{_≡_, refl, sym, ap, ap₂, _∙_, subst}
 use mathlib.Core.Logic.{_↔_}
-use mathlib.Core.Bool.{Bool, true, false, not}
+use mathlib.Core.Bool.{Bool, true, false, not, cond}
 use mathlib.Core.List.{List, [], _∷_}
 use Prim.Native.Nat.{ℕ, suc, _+_, _*_, _<_, _≤_, _^_}
 use native.Mathlib.Nat.{mul-le-mul-right}
@@ -32,7 +32,7 @@ use Rattle.code.specs.Recovery.{recovered}
 use Rattle.code.specs.Repair.{repairedGroup}
 use Rattle.code.specs.Stretch.{stretch, withStretch}
 use Rattle.code.specs.StretchLaws.{stretch-length, stretch-below, with-before, with-inside, with-after, place-cases}
-use Rattle.code.specs.RepairOrder.{Held, pickHeld, afterRepair, afterRepairs, Fits, SameRecovery}
+use Rattle.code.specs.RepairOrder.{Held, afterRepair, afterRepairs, Fits, SameRecovery}
 use Rattle.code.specs.RepairOrderLaws.{repairs-fit, order}
 use Rattle.recover.specs.Recover.{unlessBefore, recoverRefusalIn, recoverIn}
 use Rattle.recover.specs.DemandTwoLaws.{good-start}
@@ -79,7 +79,7 @@ module _ (E : Edition) (m w c : ℕ) where
       ap (λ r. leftBy (unlessBefore (r orElse refuse 7 (not (ltb g m))) (repairedGroup E w c g (h .word) (h .marks)) (h .word) (h .marks))) (ready-accepted h R)
       ∙ go (ltb g m) (repairedGroup E w c g (h .word) (h .marks))
     where
-      go : (b : Bool) (o : Outcome) → leftBy (unlessBefore (refuse 7 (not b)) o (h .word) (h .marks)) ≡ pickHeld b (leftBy o) h
+      go : (b : Bool) (o : Outcome) → leftBy (unlessBefore (refuse 7 (not b)) o (h .word) (h .marks)) ≡ cond b (leftBy o) h
       go true o = refl
       go false o = refl
 

@@ -18,7 +18,8 @@ use Rattle.block_engine.proofs.pack_row.Reads as pack-row-reads
 
 abbrev Inv-loop : tie.InvT-loop
 Inv-loop bound from count out₀ rows w r₀ out r =
-    (r ≤ count) × (length out ≡ 64) × ((k : ℕ) → k < r → (j : ℕ) → j < length bound → getD out (k * length bound + j) 0 ≡ masked bound (entry rows (from + k)) j)
+    (r ≤ count) × (length out ≡ 64) × ((k : ℕ) → k < r → (j : ℕ) → j < length bound
+    → getD out (k * length bound + j) 0 ≡ masked bound (entry rows (from + k)) j)
 
 abbrev μ-loop : tie.MeasureT-loop
 μ-loop bound from count out₀ rows w r₀ out r = count - r

@@ -163,7 +163,8 @@ pub begin-at-spec : {M : Type 1} → stated.statement M
 unfolding code.routine
 begin-at-spec 𝓤 H 𝓜 𝓖 𝓡 =
     let W = givenOf 𝓤 H 𝓜 𝓖 in
-    by-walk 𝓤 H 𝓜 𝓖 𝓡 begin-at.ended stayed (begin-at.clauses 𝓤 H (𝓖 .A) (𝓜 .mem) (𝓡 .run)) code.env #gather-lent·begin-at code.function (code.unfolded 𝓤 H 𝓜 𝓡) (
+    by-walk 𝓤 H 𝓜 𝓖 𝓡 begin-at.ended stayed (begin-at.clauses 𝓤 H (𝓖 .A) (𝓜 .mem) (𝓡 .run))
+    code.env #gather-lent·begin-at code.function (code.unfolded 𝓤 H 𝓜 𝓡) (
       goes-ref 𝓤 H (𝓖 .A) W 1 0 tt (plain (λ _. T.the-row)),
       (
         goes-none 𝓤 H (𝓖 .A) W 1 (λ _. usize) yes (λ κs x f. refl),
