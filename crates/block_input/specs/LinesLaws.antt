@@ -58,18 +58,6 @@ start-most xs = go (ltb (length (firstLine xs)) (length xs)) refl
     go true e = let h = ltb-true (length (firstLine xs)) (length xs) e in omega arith
     go false e = line-most xs
 
-pub after-length : (xs : List ℕ) → length (afterLine xs) + nextStart (length (firstLine xs)) (length xs) ≡ length xs
-after-length xs =
-    let s = start-most xs in
-    let d = length-drop (nextStart (length (firstLine xs)) (length xs)) xs in
-    let e : length (drop (nextStart (length (firstLine xs)) (length xs)) xs) ≡ length (afterLine xs) = ap length (drop-line xs) in
-    omega arith
-
 pub settled-is : (ended : Bool) (xs : List ℕ) → (ended || (ltb (length (firstLine xs)) (length xs) || ltb 1024 (length xs))) ≡ settled ended xs
 unfolding settled
 settled-is ended xs = rw (feed-there xs)
-
--- an ended input settles every line
-pub settled-ended : (xs : List ℕ) → settled true xs ≡ true
-unfolding settled
-settled-ended xs = refl

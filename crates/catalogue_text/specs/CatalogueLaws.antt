@@ -59,10 +59,6 @@ pub rest-more : (last line xs : List ℕ) → restRight last (line ∷ parts 10 
 unfolding restRight
 rest-more last line xs = rw (parts-split 10 xs)
 
-pub rest-open : (last : List ℕ) (x : ℕ) (xs : List ℕ) → restRight last ((x ∷ xs) ∷ []) ≡ false
-unfolding restRight isEmpty
-rest-open last x xs = refl
-
 pub rest-end : (last : List ℕ) → restRight last (parts 10 []) ≡ true
 unfolding restRight isEmpty parts
 rest-end last = refl

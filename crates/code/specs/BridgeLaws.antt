@@ -133,14 +133,6 @@ module _ (E : Edition) (S : Sound E) (m w c : ℕ) (few : m ≤ S .r) (wide : 0 
     second = same-value (E .bits) (second-sum word ∙ Q .second);
   }
 
-  pub from-codeword : (word : List ℕ) → Abstract.Codeword (layout geometry) (symbol E S m w c few wide narrow word) → Equations E m w c word
-  unfolding geometry
-  from-codeword word M = record {
-    locals = λ g l e k. sym (local-value word g e) ∙ zero-value (M .locals g l e k);
-    first = sym (first-sum word) ∙ zero-value (M .first);
-    second = sym (second-sum word) ∙ zero-value (M .second);
-  }
-
   pub group-lost : (marks : List ℕ) (g : ℕ) → length (filter (Marks.lost marks) (group geometry g)) ≡ lostIn w marks g
   unfolding geometry lostIn
   group-lost marks g = filter-length (Marks.lost marks) (λ t. g * w + t) w

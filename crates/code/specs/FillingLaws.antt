@@ -131,22 +131,6 @@ search-none q test marks (b ∷ word) e (v ∷ x) F t =
     go ih false d h = ih (ap inner (F .present 0 (omega arith) d) ∙ extend-none b (inner b) h)
 
 -- ---- what the search finds, by what is known of the fillings
--- one that passes, and is the only one, is what is found
-pub search-only : (q : ℕ) (test : List ℕ → Bool) (marks word x : List ℕ) → Passing q test marks word x
-    → ((y : List ℕ) → Passing q test marks word y → y ≡ x) → search q test marks word ≡ found x
-search-only q test marks word x P only = go (search q test marks word) refl
-  where
-    go : (r : Found) → search q test marks word ≡ r → r ≡ found x
-    go (found y) e = ap found (only y (search-found q test marks word y e))
-    go none e = absurd (search-none q test marks word e x (P .fills) (P .passes))
-
--- where none passes nothing is found
-pub search-no : (q : ℕ) (test : List ℕ → Bool) (marks word : List ℕ) → ((y : List ℕ) → Passing q test marks word y → ⊥) → search q test marks word ≡ none
-search-no q test marks word never = go (search q test marks word) refl
-  where
-    go : (r : Found) → search q test marks word ≡ r → r ≡ none
-    go (found y) e = absurd (never y (search-found q test marks word y e))
-    go none e = refl
 
 -- the symbols that stand in lost places play no part
 pub search-present : (q : ℕ) (test : List ℕ → Bool) (marks word₁ word₂ : List ℕ) → length word₁ ≡ length word₂

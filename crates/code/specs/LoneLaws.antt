@@ -38,15 +38,6 @@ module _ (m w g : ℕ) (part : List ℕ) (l : g < m) (size : length part ≡ w) 
     | no b ↦ (let k : suc g ≤ i = omega arith in lone-after (i * w + j) (let z : suc g * w ≤ i * w = mul-le-mul-right w k in omega arith))
   ]
 
-  pub lone-symbols : (E : Edition) → ((j : ℕ) → getD part j 0 < 2 ^ E .bits) → Symbols E (m * w) (lone m w g part)
-  lone-symbols E small = record {
-    size = lone-length;
-    each = place-cases (λ p. getD (lone m w g part) p 0 < 2 ^ E .bits) w g
-        (λ p h. subst (λ b. b < 2 ^ E .bits) (sym (lone-before p h)) (let z = small 0 in omega arith))
-        (λ j h. subst (λ b. b < 2 ^ E .bits) (sym (lone-inside j h)) (small j))
-        (λ p h. subst (λ b. b < 2 ^ E .bits) (sym (lone-after p h)) (let z = small 0 in omega arith));
-  }
-
   module _ (E : Edition) where
     pub lone-own : (h : ℕ → ℕ) → groupSum E w (lone m w g part) g h ≡ groupSum E w part 0 h
     unfolding groupSum

@@ -147,9 +147,6 @@ module _ {L : Limits} {m w c : ℕ} (good : GoodIn L m w c) where
     pub place-inside : placeOf m w c i < m * w
     place-inside = subst (λ q. q < m * w) (sym place-is) inside
 
-    pub place-data : isCheck m w c (placeOf m w c i) ≡ false
-    place-data = ap (isCheck m w c) place-is ∙ number-at
-
     -- the data of the word with that place changed
     pub extract-set : (word : List ℕ) (b : ℕ) → length word ≡ m * w → extractOf m w c (set word (placeOf m w c i) b) ≡ set (extractOf m w c word) i b
     unfolding placeOf extractOf dataPlaces bytesAt

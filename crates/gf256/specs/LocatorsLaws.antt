@@ -40,10 +40,6 @@ locator-power (suc j) h =
     ∙ ap₂ (product 8 285) (sym power-17) (locator-power j (omega arith)) ∙ sym (power-add 8 285 (lit< tt) 2 17 (17 * j))
     ∙ ap (power 8 285 2) (add-comm 17 (17 * j) ∙ sym (mul-suc 17 j))
 
-pub last-locator : getD locators 15 0 ≡ 0
-unfolding locators
-last-locator = refl
-
 -- ---- the subfield of 16 elements: the bytes with a^16 = a
 isLocator : ℕ → Bool
 isLocator a = anyBelow 16 (λ j. eqb (getD locators j 0) a)

@@ -18,7 +18,3 @@ pub record FailsIn (L : Limits) (m w c losses : ℕ) : Type 0 where
   pub accepted : marksRefusalIn L m w c marks ≡ 0
   pub count : countBelow (m * w) (lost marks) ≡ losses
   pub eight : judgedNumberIn L m w c marks ≡ 8
-
--- in the edition of bytes
-abbrev pub IsSure : ℕ → ℕ → ℕ → ℕ → Type 0
-IsSure = IsSureIn byteLimits

@@ -90,11 +90,6 @@ module _ {L : Limits} {m w c : ℕ} (good : GoodIn L m w c) where
 
 -- what a call that is not refused leaves
 module _ {L : Limits} {m w c : ℕ} (good : GoodIn L m w c) where
-  pub extracted-data : (word bytes : List ℕ) → length word ≡ placeCount m w → length bytes ≡ dataCount m w c → extractedDataIn L m w c word bytes
-      ≡ extractOf m w c word
-  unfolding extractedDataIn
-  extracted-data word bytes e f = rw (buffers-of-good m w c (length word) (length bytes) good e f)
-
   pub placed-word : (bytes word : List ℕ) → length word ≡ placeCount m w → length bytes ≡ dataCount m w c → placedWordIn L m w c bytes word
       ≡ placedOf m w c bytes
   unfolding placedWordIn
@@ -108,10 +103,6 @@ module _ (m w c : ℕ) where
   pub placed-length : (bytes : List ℕ) → length (placedOf m w c bytes) ≡ placeCount m w
   unfolding placedOf
   placed-length bytes = FromLaws.spread-length (isCheck m w c) 0 (placeCount m w) bytes
-
-  pub placed-check : (bytes : List ℕ) (p : ℕ) → p < placeCount m w → isCheck m w c p ≡ true → getD (placedOf m w c bytes) p 0 ≡ 0
-  unfolding placedOf
-  placed-check bytes p l e = FromLaws.spread-check (isCheck m w c) 0 (placeCount m w) bytes p l (ap (isCheck m w c) (zero-add p) ∙ e)
 
   -- numbers below b stay below b
   pub placed-below : (b : ℕ) → 0 < b → (bytes : List ℕ) → ((i : ℕ) → getD bytes i 0 < b) → (p : ℕ) → getD (placedOf m w c bytes) p 0 < b

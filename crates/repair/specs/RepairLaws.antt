@@ -104,12 +104,6 @@ unfolding repairIn
 service-refused E m w c g word marks r e n =
     ap (λ q. unlessBefore q (repairedGroup E w c g word marks) word marks) (sym e) ∙ unless-before r (repairedGroup E w c g word marks) word marks n
 
--- the numbers of these refusals, of bytes
-pub repair-most : (m w c g : ℕ) (word marks : List ℕ) → repairRefusal m w c g word marks ≤ 7
-unfolding repairRefusalIn
-repair-most m w c g word marks =
-    orElse-most 7 (recoverRefusal m w c word marks) _ (let h = recover-most m w c word marks in omega arith) (refuse-most 7 7 (not (ltb g m)) (omega arith))
-
 pub refused-early : (L : Limits) (m w c g : ℕ) (word marks : List ℕ) (r : ℕ) → r ≡ recoverRefusalIn L m w c word marks → (r ≡ 0 → ⊥)
     → r ≡ repairRefusalIn L m w c g word marks
 unfolding repairRefusalIn

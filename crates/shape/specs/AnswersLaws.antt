@@ -17,9 +17,6 @@ mending-number (suc r) group = go (eqb (suc r) 9) refl
     go true e = let k = eqb-true (suc r) 9 e in omega arith
     go false e = refl
 
-pub mending-nine : (group : ℕ) → mendingAt 9 group ≡ Mending.Contradictory group
-mending-nine group = refl
-
 pub mending-refused : (r group : ℕ) → (r ≡ 0 → ⊥) → (r ≡ 9 → ⊥) → mendingAt r group ≡ Mending.Refused r
 mending-refused zero group n k = absurd (n refl)
 mending-refused (suc r) group n k = ap (λ b. cond b (Mending.Contradictory group) (Mending.Refused (suc r))) (ne-eqb (suc r) 9 k)

@@ -159,10 +159,6 @@ pub record Unshaped (r m w c : ℕ) : Type 0 where
   pub refusal : shapeRefusal m w c ≡ suc less
 
 module _ (m w c : ℕ) where
-  pub made-of-good : Good m w c → madeOf m w c ≡ Made.Good (record { m = m; w = w; c = c })
-  unfolding madeOf
-  made-of-good g = rw (refusal-of-good m w c g)
-
   pub made-number : madeNumber (madeOf m w c) ≡ shapeRefusal m w c
   unfolding madeOf
   made-number = go (shapeRefusal m w c)
@@ -264,13 +260,3 @@ module _ (m w c : ℕ) where
   pub buffers-unshaped : (n k r : ℕ) → Unshaped r m w c → bufferRefusal m w c n k ≡ r
   unfolding bufferRefusalIn
   buffers-unshaped n k r u = simp (word-unshaped n r u, u .number)
-
--- "Shape m 2, w 3, c 1: n 6, k 2." And the sure count 4.
-pub figures-2-3-1 : describedFigures (describedOf 2 3 1) ≡ 6 ∷ 2 ∷ 4 ∷ []
-unfolding describedOf shapeRefusalIn sureCount
-figures-2-3-1 = refl
-
--- "m 1, w 3, c 1: refused 4."
-pub number-1-3-1 : describedNumber (describedOf 1 3 1) ≡ 4
-unfolding describedOf shapeRefusalIn
-number-1-3-1 = refl

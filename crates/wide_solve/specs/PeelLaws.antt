@@ -17,10 +17,6 @@ use Rattle.binary_field.specs.SumLaws.{sum-none, sum-suc, sum-ext, sum-add, sum
 use Rattle.wide_solve.specs.Peel.{HasSums}
 
 module _ (k m : ℕ) (pos : 0 < k) where
-  -- no place has no sums, and the only place holds the first
-  pub sums-none : (x u s : ℕ → ℕ) → HasSums k m 0 x u s
-  sums-none x u s e h = absurd (omega arith)
-
   unit : (x u : ℕ) → u < 2 ^ k → product k m u (power k m x 0) ≡ u
   unit x u h = ap (product k m u) (power-zero k m x) ∙ product-one k m pos u h
 
