@@ -12,7 +12,8 @@
  * What axlebloom.h says of pointers, refusals and threads holds here too: a buffer must really be as
  * long as the length beside it, and may be NULL if that is 0; blocks and marks must not overlap; a
  * refused call changes nothing; nothing is kept between calls and no memory is allocated, so threads
- * may call at once on buffers of their own.
+ * may call at once on buffers of their own. A call takes less than 20 KB of stack (measured;
+ * docs/BENCHMARKS.md).
  */
 #ifndef AXLEBLOOM_BLOCKS_H
 #define AXLEBLOOM_BLOCKS_H
