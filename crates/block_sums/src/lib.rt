@@ -7,80 +7,8 @@ ghost use Prim.Native.Nat.{ℕ, _+_, _*_, _/_, _%_, _≤_, _<_, min};
 ghost use lib.ListN.{length, getD};
 ghost use Rattle.code.specs.Stretch.{stretch};
 ghost use Rattle.block_sums.specs.Sums.{Named, ZeroUntil, Aimed, SumsWritten, StripSums, ZeroStrip, StripWritten};
-ghost use Rattle.block_tables.specs.Table.{spaced, selector, selectorAt, Selectors, IsTable, IsTables, RowMade, RowsMade, PartCopied, Loaded, TableMade, TablesMade};
+ghost use Rattle.block_tables.specs.Table.{Selectors, IsTable, IsTables, RowMade, RowsMade, PartCopied, Loaded, TableMade, TablesMade};
 ghost use Rattle.block_tables.specs.Table.{Stepped, turns, RowAdded, RowsAdded};
-
-fn last_bit(x: u8) -> u32
-    ensures { λ r. ⌜ r ≡ x % 2 ⌝ }
-{
-    (x % 2) as u32
-}
-
-// The bits of k as digits of 16, the highest bit as the lowest digit.
-fn spaced(k: u8) -> u32
-    ensures { λ r. ⌜ r ≡ spaced 8 k ⌝ }
-{
-    let mut s: u32 = 0;
-    let mut x = k;
-    let mut n: usize = 0;
-    while n < 8 {
-        s = s * 16 + last_bit(x);
-        x = x / 2;
-        n += 1;
-    }
-    s
-}
-
-// The same of four constants: a digit has a bit of each.
-fn selector(a: u8, b: u8, c: u8, d: u8) -> u32
-    ensures { λ r. ⌜ r ≡ selector 8 a b c d ⌝ }
-{
-    spaced(a) + spaced(b) * 2 + spaced(c) * 4 + spaced(d) * 8
-}
-
-// Constant j, or 0 past the last.
-fn constant(k: &[u8], j: usize) -> u8
-    ensures { λ r. ⌜ r ≡ getD (now (k .entry)) j 0 ⌝ }
-{
-    if j < k.len() { k[j] } else { 0 }
-}
-
-// The selectors of a row of constants, written over zeros.
-fn row_selectors(k: &[u8], found: &mut [u32])
-    requires { ⌜ (length (now k) ≤ 240) × (length (now found) ≡ 60) ⌝ }
-    requires { ⌜ ((s : ℕ) → s < 60 → getD (now found) s 0 ≡ 0) ⌝ }
-    ensures { λ _. ⌜ ((s : ℕ) → s < 60 → getD (now (found .exit)) s 0 ≡ selectorAt (now (k .entry)) s) ⌝ }
-{
-    let mut s: usize = 0;
-    while s * 4 < k.len() {
-        let j = s * 4;
-        found[s] = selector(
-            constant(k, j),
-            constant(k, j + 1),
-            constant(k, j + 2),
-            constant(k, j + 3),
-        );
-        s += 1;
-    }
-}
-
-// The selectors of every row.
-fn selectors(count: usize, rows: usize, constants: &[u8]) -> [u32; 240]
-    requires { ⌜ (count ≤ 240) × (rows ≤ 4) × (rows * count ≤ length (now constants)) ⌝ }
-    ensures { λ r. ⌜ Selectors count rows (now (constants .entry)) r ⌝ }
-{
-    let mut found = [0u32; 240];
-    let mut r: usize = 0;
-    while r < rows {
-        let a = r * count;
-        let e = a + count;
-        let b = r * 60;
-        let f = b + 60;
-        row_selectors(&constants[a..e], &mut found[b..f]);
-        r += 1;
-    }
-    found
-}
 
 // The 96 bytes from b on become the sums of those from a1 and from a2 on.
 fn add_rows(t: &mut [u8], a1: usize, a2: usize, b: usize)
@@ -330,7 +258,7 @@ fn zero_strips(
     requires { ⌜ (limit ≤ size) × (size ≤ 65536) ⌝ }
     ensures { λ r. ⌜ ZeroUntil size (now (blocks .entry)) first count rows (now (constants .entry)) limit r ⌝ }
 {
-    let found = selectors(count, rows, constants);
+    let found = block_tables::selectors(count, rows, constants);
     let mut t = [0u8; 6144];
     let mut sums = [0u8; 384];
     let mut x: usize = 0;
@@ -443,7 +371,7 @@ fn write_strips(
     requires { ⌜ Aimed size (now blocks) rows to ⌝ }
     ensures { λ _. ⌜ SumsWritten size (now (blocks .entry)) first count rows (now (constants .entry)) to (now (blocks .exit)) ⌝ }
 {
-    let found = selectors(count, rows, constants);
+    let found = block_tables::selectors(count, rows, constants);
     let mut t = [0u8; 6144];
     let mut sums = [0u8; 384];
     let mut x: usize = 0;

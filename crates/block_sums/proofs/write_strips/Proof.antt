@@ -13,7 +13,7 @@ use Rattle.block_sums.proofs.write_strips.Tie as tie
 use Rattle.block_sums.proofs.write_strips.Reads as reads
 use Rattle.block_sums.proofs.write_strips.Lts as lts
 use Rattle.block_sums.proofs.at_most.Reads as at-most-reads
-use Rattle.block_sums.proofs.selectors.Reads as selectors-reads
+use Rattle.block_tables.proofs.selectors.Reads as selectors-reads
 use Rattle.block_sums.proofs.strip_sums.Reads as strip-sums-reads
 use Rattle.block_sums.proofs.write_strip.Reads as write-strip-reads
 
@@ -25,7 +25,7 @@ abbrev μ-loop : tie.MeasureT-loop
 μ-loop blocks₀ size first count rows constants to found t₀ sums₀ x₀ blocks t sums x = size - x
 
 selectors-requires : tie.Need-selectors-requires Inv-loop μ-loop
-selectors-requires c κs = let p = c .before .before .pre .0 in (p .few, p .rows-few, p .laid)
+selectors-requires c κs = search needs
 
 loop-holds : tie.Need-loop-holds Inv-loop μ-loop
 loop-holds c =
@@ -92,7 +92,7 @@ loop-again c =
       s .0 .2,
       written-more (a .args .size) (a .args .first) (a .args .count) (a .args .rows) (a .args .blocks .now) (a .args .constants .now) (a .args .to) (l .x)
           (b10 .before .before .at-most .result) (l .blocks) _ _ (omega arith) (l .inv .4)
-          (s .1 (a .args .constants .now) (a .pre .0 .laid) (λ i. b15 .before .shared-slice-known .given i .fits) (b15 .selectors .ensures))
+          (s .1 (a .args .constants .now) (a .pre .0 .laid) (λ i. b15 .before .shared-slice-known .given i .fits) (b15 .selectors .ensures .0 (a .pre .0 .few) (a .pre .0 .rows-few) (a .pre .0 .laid)))
           (c .before .before .write-strip .ensures),
     )
 

@@ -13,7 +13,7 @@ use Rattle.block_sums.proofs.zero_strips.Tie as tie
 use Rattle.block_sums.proofs.zero_strips.Reads as reads
 use Rattle.block_sums.proofs.zero_strips.Lts as lts
 use Rattle.block_sums.proofs.at_most.Reads as at-most-reads
-use Rattle.block_sums.proofs.selectors.Reads as selectors-reads
+use Rattle.block_tables.proofs.selectors.Reads as selectors-reads
 use Rattle.block_sums.proofs.strip_sums.Reads as strip-sums-reads
 use Rattle.block_sums.proofs.zero_strip.Reads as zero-strip-reads
 
@@ -25,7 +25,7 @@ abbrev μ-loop : tie.MeasureT-loop
 μ-loop blocks size first count rows constants limit found t₀ sums₀ x₀ t sums x = limit - x
 
 selectors-requires : tie.Need-selectors-requires Inv-loop μ-loop
-selectors-requires c κs = let p = c .before .before .pre .0 in (p .few, p .rows-few, p .laid)
+selectors-requires c κs = search needs
 
 loop-holds : tie.Need-loop-holds Inv-loop μ-loop
 loop-holds c = (omega arith, refl, zero-tables 6144, refl, λ y h. absurd (omega arith))
@@ -74,7 +74,7 @@ returns c =
     zero-found (a .args .size) (a .args .blocks .now) (a .args .first) (a .args .count) (a .args .rows) (a .args .constants .now) (a .args .limit) (l .x)
     (b5 .before .before .before .before .at-most .result) _ (c .before .zero-strip .result) (omega arith) (l .inv .4)
     (b5 .strip-sums .ensures .1 (a .args .constants .now) (p .laid)
-    (λ i. b10 .before .before .before .shared-slice-known2 .given i .fits) (b10 .before .before .selectors .ensures))
+    (λ i. b10 .before .before .before .shared-slice-known2 .given i .fits) (b10 .before .before .selectors .ensures .0 (p .few) (p .rows-few) (p .laid)))
     (c .before .zero-strip .ensures) (omega arith)
 
 add-x : tie.Need-add-x Inv-loop μ-loop
@@ -103,7 +103,7 @@ loop-again c =
           zero-more (a .args .size) (a .args .blocks .now) (a .args .first) (a .args .count) (a .args .rows) (a .args .constants .now) (a .args .limit) (l .x)
           (b5 .before .before .before .before .at-most .result) _ (c .before .zero-strip .result) (omega arith) (l .inv .4)
           (s .1 (a .args .constants .now) (p .laid)
-          (λ i. b10 .before .before .before .shared-slice-known2 .given i .fits) (b10 .before .before .selectors .ensures))
+          (λ i. b10 .before .before .before .shared-slice-known2 .given i .fits) (b10 .before .before .selectors .ensures .0 (p .few) (p .rows-few) (p .laid)))
           z y (omega arith) i b,
     )
 

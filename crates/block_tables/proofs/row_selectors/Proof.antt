@@ -1,20 +1,20 @@
 use native.Mathlib.Decide.{decLt}
 use Rattle.block_tables.specs.SelectorLaws.{selector-past}
 use mathlib.Core.Path.{_≡_, refl, sym, ap, _∙_}
 use mathlib.Core.List.{List}
 use Prim.Native.Nat.{ℕ, _+_, _*_, _-_, _≤_, _<_}
 use native.Mathlib.Decide.{ℕ-discrete}
 use lib.ListN.{length, getD, length-set}
 use lib.Seq.{getD-set-same, getD-set-other}
 use Rattle.block_tables.specs.Table.{selectorAt}
 use native.Mathlib.Omega.{arith}
 use borrow.Author.Needs.{needs}
-use Rattle.block_sums.proofs.row_selectors.Statement.{statement}
-use Rattle.block_sums.proofs.row_selectors.Tie as tie
-use Rattle.block_sums.proofs.row_selectors.Reads as reads
-use Rattle.block_sums.proofs.row_selectors.Lts as lts
-use Rattle.block_sums.proofs.constant.Reads as constant-reads
-use Rattle.block_sums.proofs.selector.Reads as selector-reads
+use Rattle.block_tables.proofs.row_selectors.Statement.{statement}
+use Rattle.block_tables.proofs.row_selectors.Tie as tie
+use Rattle.block_tables.proofs.row_selectors.Reads as reads
+use Rattle.block_tables.proofs.row_selectors.Lts as lts
+use Rattle.block_tables.proofs.constant.Reads as constant-reads
+use Rattle.block_tables.proofs.selector.Reads as selector-reads
 
 abbrev Inv-loop : tie.InvT-loop
 Inv-loop k found₀ s₀ found s =

@@ -3,10 +3,10 @@ use mathlib.Core.Path.{sym}
 use Prim.Native.Nat.{_≤_}
 use lib.ListN.{length, List·getD-eq-default}
 use borrow.Author.Needs.{needs}
-use Rattle.block_sums.proofs.constant.Statement.{statement}
-use Rattle.block_sums.proofs.constant.Tie as tie
-use Rattle.block_sums.proofs.constant.Reads as reads
-use Rattle.block_sums.proofs.constant.Lts as lts
+use Rattle.block_tables.proofs.constant.Statement.{statement}
+use Rattle.block_tables.proofs.constant.Tie as tie
+use Rattle.block_tables.proofs.constant.Reads as reads
+use Rattle.block_tables.proofs.constant.Lts as lts
 
 shared-slice-read-result : tie.Need-shared-slice-read-result
 shared-slice-read-result c = search needs

@@ -1,12 +1,12 @@
 use native.Mathlib.Omega.{arith}
 use Rattle.block_tables.specs.Table.{spaced, selector}
 use Rattle.block_tables.specs.SelectorLaws.{spaced-8}
 use borrow.Author.Needs.{needs}
-use Rattle.block_sums.proofs.selector.Statement.{statement}
-use Rattle.block_sums.proofs.selector.Tie as tie
-use Rattle.block_sums.proofs.selector.Reads as reads
-use Rattle.block_sums.proofs.selector.Lts as lts
-use Rattle.block_sums.proofs.spaced.Reads as spaced-reads
+use Rattle.block_tables.proofs.selector.Statement.{statement}
+use Rattle.block_tables.proofs.selector.Tie as tie
+use Rattle.block_tables.proofs.selector.Reads as reads
+use Rattle.block_tables.proofs.selector.Lts as lts
+use Rattle.block_tables.proofs.spaced.Reads as spaced-reads
 
 spaced-requires : tie.Need-spaced-requires
 spaced-requires c κs = search needs

@@ -8,14 +8,14 @@ use native.Mathlib.Decide.{ℕ-discrete}
 use native.Mathlib.Nat.{suc-mul, mul-le-mul-right}
 use lib.ListN.{length, getD, length-set}
 use Rattle.code.specs.Stretch.{stretch, withStretch}
 use Rattle.block_tables.specs.Table.{selectorAt}
 use native.Mathlib.Omega.{arith}
 use borrow.Author.Needs.{needs}
-use Rattle.block_sums.proofs.selectors.Statement.{statement}
-use Rattle.block_sums.proofs.selectors.Tie as tie
-use Rattle.block_sums.proofs.selectors.Reads as reads
-use Rattle.block_sums.proofs.selectors.Lts as lts
-use Rattle.block_sums.proofs.row_selectors.Reads as row-selectors-reads
+use Rattle.block_tables.proofs.selectors_of.Statement.{statement}
+use Rattle.block_tables.proofs.selectors_of.Tie as tie
+use Rattle.block_tables.proofs.selectors_of.Reads as reads
+use Rattle.block_tables.proofs.selectors_of.Lts as lts
+use Rattle.block_tables.proofs.row_selectors.Reads as row-selectors-reads
 
 abbrev Inv-loop : tie.InvT-loop
 Inv-loop count rows constants found₀ r₀ found r =
@@ -116,8 +116,8 @@ returns : tie.Need-returns Inv-loop μ-loop
 returns c =
     let l = c .before .loop in record { each = λ r s h b. l .inv .2 r s (omega arith) b }
 
-pub selectors-spec : {M : Type 1} → statement M
-selectors-spec =
+pub selectors-of-spec : {M : Type 1} → statement M
+selectors-of-spec =
     tie.close
     (tie.spec
     Inv-loop

@@ -1,16 +1,16 @@
 use native.Mathlib.Numerals.{add-one}
 use Rattle.block_tables.specs.SelectorLaws.{spaced-none, spaced-suc, spaced-most, bits-left, bits-all}
 use mathlib.Core.Path.{_≡_, refl, sym, ap, ap₂, _∙_}
 use mathlib.Core.List.{List}
 use Prim.Native.Nat.{ℕ, _+_, _-_, _*_, _/_, _%_, _^_, _≤_, _<_}
 use Rattle.block_tables.specs.Table.{spaced}
 use native.Mathlib.Omega.{arith}
 use borrow.Author.Needs.{needs}
-use Rattle.block_sums.proofs.spaced.Statement.{statement}
-use Rattle.block_sums.proofs.spaced.Tie as tie
-use Rattle.block_sums.proofs.spaced.Reads as reads
-use Rattle.block_sums.proofs.spaced.Lts as lts
-use Rattle.block_sums.proofs.last_bit.Reads as last-bit-reads
+use Rattle.block_tables.proofs.spaced.Statement.{statement}
+use Rattle.block_tables.proofs.spaced.Tie as tie
+use Rattle.block_tables.proofs.spaced.Reads as reads
+use Rattle.block_tables.proofs.spaced.Lts as lts
+use Rattle.block_tables.proofs.last_bit.Reads as last-bit-reads
 
 abbrev Inv-loop : tie.InvT-loop
 Inv-loop k s₀ x₀ n₀ s x n = (n ≤ 8) × (s ≡ spaced n k) × (x ≡ k / 2 ^ n)
