@@ -5,14 +5,18 @@ use native.Mathlib.Nat.{mod-lt, div-one, div-eq-of-lt, div-div-eq-div-mul, pow-s
 use native.Mathlib.Omega.{arith}
 use lib.Arith.{digits-div, digits-mod}
 use lib.Pow.{pow-pos}
+use mathlib.Core.Bool.{Bool}
 use mathlib.Core.List.{List}
+use lib.Dec.{T, eqb, eqb→eq}
 use lib.ListN.{length, getD, List·getD-eq-default}
-use Rattle.block_tables.specs.Table.{bitAt, spaced, selector, selectorAt}
+use Rattle.counting.specs.Test.{allBelow}
+use Rattle.counting.specs.TestLaws.{all-at}
+use Rattle.block_tables.specs.Table.{bitAt, spaced, halves, selector, selectorAt}
 
 pub bit-small : (n k : ℕ) → bitAt n k < 2
 bit-small n k = mod-lt (k / 2 ^ n) (zero-lt-suc 1)
 
-pub spaced-none : (k : ℕ) → spaced 0 k ≡ 0
+spaced-none : (k : ℕ) → spaced 0 k ≡ 0
 unfolding spaced
 spaced-none k = refl
 
@@ -45,7 +49,7 @@ unfolding most
 more-most n zero = rw (zero-add n) (le-refl (most n))
 more-most n (suc d) = rw (suc-add d n) (let h = more-most n d in omega arith)
 
-pub spaced-most : (n k : ℕ) → n < 8 → spaced n k ≤ 17895697
+spaced-most : (n k : ℕ) → n < 8 → spaced n k ≤ 17895697
 unfolding most
 spaced-most n k l =
     let e : 7 - n + n ≡ 7 = omega arith in
@@ -55,6 +59,18 @@ spaced-most n k l =
 
 pub spaced-8 : (k : ℕ) → spaced 8 k ≤ 286331153
 spaced-8 k = grown 7 k 17895697 (spaced-most 7 k (omega arith))
+
+-- a byte by its two halves, tested for all bytes
+byHalves : ℕ → Bool
+byHalves k = eqb (getD halves (k % 16) 0 * 65536 + getD halves (k / 16) 0) (spaced 8 k)
+
+halves-rule : T (allBelow 256 byHalves)
+unfolding byHalves halves spaced
+halves-rule = tt
+
+pub spaced-halves : (k : ℕ) → k < 256 → getD halves (k % 16) 0 * 65536 + getD halves (k / 16) 0 ≡ spaced 8 k
+unfolding byHalves
+spaced-halves k h = eqb→eq (getD halves (k % 16) 0 * 65536 + getD halves (k / 16) 0) (spaced 8 k) (all-at 256 byHalves halves-rule k h)
 
 pub spaced-of-zero : (n : ℕ) → spaced n 0 ≡ 0
 unfolding spaced

@@ -1,6 +1,6 @@
 -- Tables of the sums of four blocks, and numbers that say which of these sums a row of constants takes for each of its bits.
 use mathlib.Core.Path.{_≡_}
-use mathlib.Core.List.{List}
+use mathlib.Core.List.{List, [], _∷_}
 use Prim.Native.Nat.{ℕ, zero, suc, _+_, _*_, _/_, _%_, _^_, _≤_, _<_}
 use lib.ListN.{length, getD}
 use Rattle.binary_field.specs.Xor.{_⊕_, masked}
@@ -15,6 +15,10 @@ bitAt n k = k / 2 ^ n % 2
 unfoldable pub spaced : ℕ → ℕ → ℕ
 spaced zero k = 0
 spaced (suc n) k = spaced n k * 16 + bitAt n k
+
+-- the numbers 0 to 15 with their four bits so spaced
+unfoldable pub halves : List ℕ
+halves = 0 ∷ 4096 ∷ 256 ∷ 4352 ∷ 16 ∷ 4112 ∷ 272 ∷ 4368 ∷ 1 ∷ 4097 ∷ 257 ∷ 4353 ∷ 17 ∷ 4113 ∷ 273 ∷ 4369 ∷ []
 
 -- the same of four constants: a digit has a bit of each
 unfoldable pub selector : ℕ → ℕ → ℕ → ℕ → ℕ → ℕ

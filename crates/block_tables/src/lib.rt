@@ -3,27 +3,40 @@
 ghost use mathlib.Core.Path.{_≡_};
 ghost use Prim.Native.Nat.{ℕ, _*_, _%_, _≤_, _<_};
 ghost use lib.ListN.{length, getD, replicate};
-ghost use Rattle.block_tables.specs.Table.{spaced, selector, selectorAt, Selectors};
+ghost use Rattle.block_tables.specs.Table.{spaced, halves, selector, selectorAt, Selectors};
 
-fn last_bit(x: u8) -> u32
-    ensures { λ r. ⌜ r ≡ x % 2 ⌝ }
+// The numbers 0 to 15 with their bits as digits of 16, the highest bit as the lowest digit.
+const HALVES: [u32; 16] = [
+    0,
+    4096,
+    256,
+    4352,
+    16,
+    4112,
+    272,
+    4368,
+    1,
+    4097,
+    257,
+    4353,
+    17,
+    4113,
+    273,
+    4369,
+];
+
+fn half(v: usize) -> u32
+    requires { ⌜ v < 16 ⌝ }
+    ensures { λ r. ⌜ r ≡ getD halves v 0 ⌝ }
 {
-    (x % 2) as u32
+    HALVES[v]
 }
 
-// The bits of k as digits of 16, the highest bit as the lowest digit.
+// The bits of k as digits of 16, the highest bit as the lowest digit: those of the low four bits above those of the high four.
 fn spaced(k: u8) -> u32
     ensures { λ r. ⌜ r ≡ spaced 8 k ⌝ }
 {
-    let mut s: u32 = 0;
-    let mut x = k;
-    let mut n: usize = 0;
-    while n < 8 {
-        s = s * 16 + last_bit(x);
-        x = x / 2;
-        n += 1;
-    }
-    s
+    half((k % 16) as usize) * 65536 + half((k / 16) as usize)
 }
 
 // The same of four constants: a digit has a bit of each.

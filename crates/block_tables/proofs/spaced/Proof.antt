@@ -1,68 +1,51 @@
-use native.Mathlib.Numerals.{add-one}
-use Rattle.block_tables.specs.SelectorLaws.{spaced-none, spaced-suc, spaced-most, bits-left, bits-all}
-use mathlib.Core.Path.{_≡_, refl, sym, ap, ap₂, _∙_}
-use mathlib.Core.List.{List}
-use Prim.Native.Nat.{ℕ, _+_, _-_, _*_, _/_, _%_, _^_, _≤_, _<_}
-use Rattle.block_tables.specs.Table.{spaced}
+use mathlib.Core.Path.{_≡_, ap₂, _∙_}
+use Prim.Native.Nat.{ℕ, _+_, _*_, _/_, _%_, _≤_, _<_}
 use native.Mathlib.Omega.{arith}
 use borrow.Author.Needs.{needs}
+use lib.ListN.{getD}
+use Rattle.block_tables.specs.Table.{halves}
+use Rattle.block_tables.specs.SelectorLaws.{spaced-halves, spaced-8}
 use Rattle.block_tables.proofs.spaced.Statement.{statement}
 use Rattle.block_tables.proofs.spaced.Tie as tie
 use Rattle.block_tables.proofs.spaced.Reads as reads
 use Rattle.block_tables.proofs.spaced.Lts as lts
-use Rattle.block_tables.proofs.last_bit.Reads as last-bit-reads
+use Rattle.block_tables.proofs.half.Reads as half-reads
 
-abbrev Inv-loop : tie.InvT-loop
-Inv-loop k s₀ x₀ n₀ s x n = (n ≤ 8) × (s ≡ spaced n k) × (x ≡ k / 2 ^ n)
+cast-half : tie.Need-cast-half
+cast-half c = search needs
 
-abbrev μ-loop : tie.MeasureT-loop
-μ-loop k s₀ x₀ n₀ s x n = 8 - n
+half-requires : tie.Need-half-requires
+half-requires c κs = search needs
 
-loop-holds : tie.Need-loop-holds Inv-loop μ-loop
-loop-holds c = (omega arith, sym (spaced-none (c .args .k)), bits-all (c .args .k))
+mul-result : tie.Need-mul-result
+mul-result c =
+    let k : ℕ = c .before .args .k in
+    let e = spaced-halves k (omega arith) in
+    let m = spaced-8 k in
+    let h = c .half .ensures in
+    let l : c .half .result * 65536 ≤ getD halves (k % 16) 0 * 65536 + getD halves (k / 16) 0 = omega arith in
+    omega arith
 
-mul-s : tie.Need-mul-s Inv-loop μ-loop
-mul-s c = let m = spaced-most (c .before .loop .n) (c .before .before .args .k) (omega arith) in omega arith
+cast-half-2 : tie.Need-cast-half-2
+cast-half-2 c = search needs
 
-last-bit-requires : tie.Need-last-bit-requires Inv-loop μ-loop
-last-bit-requires c κs = search needs
+half-requires-2 : tie.Need-half-requires-2
+half-requires-2 c κs = search needs
 
-add-s : tie.Need-add-s Inv-loop μ-loop
-add-s c = let m = spaced-most (c .before .before .loop .n) (c .before .before .before .args .k) (omega arith) in omega arith
+add-result : tie.Need-add-result
+add-result c =
+    let k : ℕ = c .before .before .args .k in
+    let e = spaced-halves k (omega arith) in
+    let m = spaced-8 k in
+    let h = c .before .half .ensures in
+    let i = c .half2 .ensures in
+    omega arith
 
-add-n : tie.Need-add-n Inv-loop μ-loop
-add-n c = omega arith
-
-loop-less : tie.Need-loop-less Inv-loop μ-loop
-loop-less c = omega arith
-
-loop-again : tie.Need-loop-again Inv-loop μ-loop
-loop-again c =
-    let l = c .before .before .loop in
-    let k : ℕ = c .before .before .before .args .k in (
-      omega arith,
-      ap₂ (λ s b. s * 16 + b) (l .inv .1) (c .last-bit .ensures ∙ ap (λ x. x % 2) (l .inv .2)) ∙ sym (spaced-suc (l .n) k)
-          ∙ ap (λ n. spaced n k) (sym (add-one (l .n))),
-      ap (λ x. x / 2) (l .inv .2) ∙ bits-left (l .n) k ∙ ap (λ n. k / 2 ^ n) (sym (add-one (l .n))),
-    )
-
-returns : tie.Need-returns Inv-loop μ-loop
+returns : tie.Need-returns
 returns c =
-    let l = c .before .loop in
-    let e : l .n ≡ 8 = omega arith in
-    l .inv .1 ∙ ap (λ n. spaced n (c .before .before .args .k)) e
+    ap₂ (λ a b. a * 65536 + b) (c .before .half .ensures) (c .half2 .ensures) ∙ spaced-halves (c .before .before .args .k) (omega arith)
 
 pub spaced-spec : {M : Type 1} → statement M
 spaced-spec =
     tie.close
-    (tie.spec
-    Inv-loop
-    μ-loop
-    loop-holds
-    mul-s
-    last-bit-requires
-    add-s
-    add-n
-    loop-less
-    loop-again
-    returns)
+    (tie.spec cast-half half-requires mul-result cast-half-2 half-requires-2 add-result returns)
