@@ -7,8 +7,8 @@ use native.Mathlib.Nat.{suc-mul, mul-le-mul-right, div-lt-iff-lt-mul, div-add-mo
 use native.Mathlib.Decide.{ℕ-discrete, decLt}
 use native.Mathlib.Omega.{arith}
 use lib.Dec.{eqb, lit≤}
-use lib.ListN.{length, getD, take, drop, set, replicate, length-set, length-replicate, getD-replicate}
-use lib.Seq.{getD-set-same, getD-set-other, getD-take, take-at, length-take-le, ext-getD}
+use lib.ListN.{length, getD, take, drop, set, replicate, length-set, length-replicate, getD-replicate, List·getD-eq-default}
+use lib.Seq.{getD-set-same, getD-set-other, getD-take, getD-drop, getD-append-add, take-at, length-take-le, ext-getD}
 use Rattle.binary_field.specs.Xor.{_⊕_}
 use Rattle.binary_field.specs.XorLaws.{⊕-zero-l, ⊕-zero-r}
 use Rattle.binary_field.specs.Product.{product}
@@ -136,6 +136,19 @@ direction-filled {E} n j bound part rest fits narrow inside own few F =
 
     size : length part ≡ w
     size = F .size ∙ width
+
+-- what stands after the filled front is 0
+pub direction-after : (n j w : ℕ) (part : List ℕ) → length part ≡ w → j < w → w ≤ n → (i : ℕ) → w ≤ i
+    → getD (part ++ drop w (set (replicate n 0) j 1)) i 0 ≡ 0
+direction-after n j w part size inside room i l =
+    let d : i ≡ length part + (i - w) = omega arith in
+    let e : w + (i - w) ≡ i = omega arith in
+    ap (λ k. getD (part ++ drop w (set (replicate n 0) j 1)) k 0) d ∙ getD-append-add part (drop w (set (replicate n 0) j 1)) (i - w) 0
+    ∙ getD-drop w (set (replicate n 0) j 1) (i - w) 0 ∙ ap (λ k. getD (set (replicate n 0) j 1) k 0) e
+    ∙ getD-set-other (replicate n 0) j i 1 0 (λ q. omega arith) ∙ elim (decLt i n) [
+      | yes h ↦ getD-replicate n i 0 0 h
+      | no h ↦ List·getD-eq-default (replicate n 0) 0 (omega (arith, length-replicate {A = ℕ} n 0))
+    ]
 
 -- ---- two unknowns
 row-lt : {n a b s : ℕ} → a < n → b < n → s < n → (i : ℕ) → getD (twoRow a b s) i 0 < n

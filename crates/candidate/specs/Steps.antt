@@ -3,7 +3,7 @@
 use mathlib.Core.Path.{_≡_}
 use mathlib.Core.Bool.{true, false}
 use mathlib.Core.List.{List}
-use Prim.Native.Nat.{ℕ, _<_}
+use Prim.Native.Nat.{ℕ, _≤_, _<_}
 use lib.ListN.{length, getD}
 use Rattle.binary_field.specs.Xor.{_⊕_}
 use Rattle.code.specs.Edition.{Edition, times}
@@ -29,6 +29,10 @@ pub record DirectionIn (E : Edition) (w j : ℕ) (bound h : List ℕ) : Type 0 w
   pub own : getD h j 0 ≡ 1
   pub off : (i : ℕ) → i < w → lost bound i ≡ false → ¬ (i ≡ j) → getD h i 0 ≡ 0
   pub zero : (e : ℕ) → e < lostIn w bound 0 → localSum E w h 0 e ≡ 0
+
+-- a row is 0 from place w on
+abbrev pub ZeroFrom : ℕ → List ℕ → Type 0
+ZeroFrom w h = (i : ℕ) → w ≤ i → getD h i 0 ≡ 0
 
 -- u times h added
 pub record AddedIn (E : Edition) (u : ℕ) (h before after : List ℕ) : Type 0 where

@@ -12,9 +12,17 @@ ghost use Rattle.code.specs.Lone.{lone};
 ghost use Rattle.code.specs.Stretch.{stretch};
 ghost use Rattle.syndrome.specs.Across.{acrossOf, noSums};
 ghost use Rattle.erasures.specs.Whole.{BoundAll};
-ghost use Rattle.candidate.specs.Steps.{Blanked, GroupsFilled, Direction, Added};
+ghost use Rattle.candidate.specs.Steps.{Blanked, GroupsFilled, Direction, ZeroFrom, Added};
 ghost use Rattle.candidate.specs.Solved.{Solved, SolvedOne};
 ghost use Rattle.candidate.specs.Mended.{BoundFew, movedBy, MendedOne, MendedTwo, Mended, IsCandidate};
+
+// A byte, and 0 where its mark says that it is lost.
+fn unless_lost(mark: u8, byte: u8) -> u8
+    ensures { λ r. ⌜ (mark ≡ 1 → r ≡ 0) ⌝ }
+    ensures { λ r. ⌜ ((mark ≡ 1 → ⊥) → r ≡ byte) ⌝ }
+{
+    if mark == 1 { 0 } else { byte }
+}
 
 // Writes word into base, with 0 in the lost places.
 fn blank_lost(word: &[u8], marks: &[u8], base: &mut [u8])
@@ -24,11 +32,7 @@ fn blank_lost(word: &[u8], marks: &[u8], base: &mut [u8])
 {
     let mut p: usize = 0;
     while p < word.len() {
-        if marks[p] == 1 {
-            base[p] = 0;
-        } else {
-            base[p] = word[p];
-        }
+        base[p] = unless_lost(marks[p], word[p]);
         p += 1;
     }
 }
@@ -50,13 +54,14 @@ fn fill_groups(m: usize, w: usize, c: usize, bound: &[u8], base: &mut [u8])
     }
 }
 
-// The direction of place j of a group with these bound marks; its stretch stands at the front.
+// The direction of place j of a group with these bound marks; its stretch stands at the front, and zeros after it.
 fn direction(j: usize, bound: &[u8]) -> [u8; 16]
     requires { ⌜ length (now bound) ≤ 16 ⌝ }
     requires { ⌜ j < length (now bound) ⌝ }
     requires { ⌜ lost (now bound) j ≡ false ⌝ }
     requires { ⌜ lostIn (length (now bound)) (now bound) 0 ≤ 4 ⌝ }
     ensures { λ r. ⌜ Direction (length (now (bound .entry))) j (now (bound .entry)) (take (length (now (bound .entry))) r) ⌝ }
+    ensures { λ r. ⌜ ZeroFrom (length (now (bound .entry))) r ⌝ }
 {
     let w = bound.len();
     let mut h = [0u8; 16];
@@ -129,6 +134,7 @@ fn way(m: usize, w: usize, c: usize, p: usize, bound: &[u8]) -> [u8; 16]
     requires { ⌜ p < m * w ⌝ }
     requires { ⌜ BoundFew m w c p (now bound) ⌝ }
     ensures { λ r. ⌜ Direction w (p % w) (stretch w (p / w) (now (bound .entry))) (take w r) ⌝ }
+    ensures { λ r. ⌜ ZeroFrom w r ⌝ }
 {
     let g = p / w;
     let j = p % w;
@@ -141,9 +147,10 @@ fn way(m: usize, w: usize, c: usize, p: usize, bound: &[u8]) -> [u8; 16]
 fn weights(m: usize, w: usize, c: usize, g: usize, h: [u8; 16]) -> Sums
     requires { ⌜ Good m w c ⌝ }
     requires { ⌜ g < m ⌝ }
+    requires { ⌜ ZeroFrom w h ⌝ }
     ensures { λ r. ⌜ r ≡ acrossOf m w c (lone m w g (take w h)) ⌝ }
 {
-    syndrome::group_sums(&h[..w], c, g)
+    syndrome::group_sums(&h, c, g)
 }
 
 // The two sums across of a word, after u times a direction with the coefficients a was added to it.

@@ -1,6 +1,6 @@
 // The lost places of a word: in each group the first c are bound for the group's own equations, the others are free.
 ghost use mathlib.Core.Path.{_≡_};
-ghost use mathlib.Core.Bool.{true};
+ghost use mathlib.Core.Bool.{true, false};
 ghost use Prim.Native.Nat.{ℕ, _*_, _<_};
 ghost use lib.ListN.{length, getD};
 ghost use Rattle.shape.specs.Shapes.{Good};
@@ -104,6 +104,33 @@ fn all_bound(marks: &[u8], bound: &[u8]) -> bool
     same
 }
 
+// A number of places from the first on none of which is free, sixteen at a time.
+fn none_free(marks: &[u8], bound: &[u8]) -> usize
+    ensures { λ r. ⌜ ((p : ℕ) → p < r → free (now (marks .entry)) (now (bound .entry)) p ≡ false) ⌝ }
+{
+    if marks.len() != bound.len() {
+        return 0;
+    }
+    let n = marks.len();
+    let mut i: usize = 0;
+    while 16 <= n - i {
+        let e = i + 16;
+        if !all_bound(&marks[i..e], &bound[i..e]) {
+            return i;
+        }
+        i = e;
+    }
+    i
+}
+
+// The first free place; a number past the last place if there is none.
+fn first_free(marks: &[u8], bound: &[u8]) -> usize
+    ensures { λ r. ⌜ NextFree (now (marks .entry)) (now (bound .entry)) 0 r ⌝ }
+{
+    let start = none_free(marks, bound);
+    next_free(marks, bound, start)
+}
+
 // The first two free places. Past its end bound counts as not lost.
 pub fn free_places(marks: &[u8], bound: &[u8]) -> Free
     ensures { λ r. ⌜ FreePlaces (now (marks .entry)) (now (bound .entry)) (r .count) (r .first) (r .second) ⌝ }
@@ -116,7 +143,7 @@ pub fn free_places(marks: &[u8], bound: &[u8]) -> Free
             second: 0,
         };
     }
-    let first = next_free(marks, bound, 0);
+    let first = first_free(marks, bound);
     if marks.len() <= first {
         return Free {
             count: 0,

@@ -86,6 +86,15 @@ unchanged E marks xs t e h = record {
   other = λ _. refl;
 }
 
+-- none is lost
+pub no-erasures : (E : Edition) (marks xs : List ℕ) (t : ℕ) → t ≡ lostIn (length marks) marks 0 → t ≡ 0 → FilledIn E marks xs xs
+no-erasures E marks xs t e h = record {
+  size = refl;
+  present = λ _ _. refl;
+  zero = λ _ s _ i l. let q = ap (λ w. lostIn w marks 0) s in absurd (omega arith);
+  other = λ _. refl;
+}
+
 pub zeros-at : (n k i j : ℕ) → entry (replicate n (replicate k 0)) i j ≡ 0
 zeros-at zero k i j = refl
 zeros-at (suc n) k zero j = at-zero k j

@@ -44,13 +44,16 @@ fn place(part: &mut [u8], at: [usize; 4], rows: [[u8; 16]; 4], t: usize)
     }
 }
 
-// The equation e: the powers of the positions' locators, and the syndrome on the right side.
+// The equation e: the powers of the positions' locators, which are 1 for e 0, and the syndrome on the right side.
 fn equation(part: &[u8], at: [usize; 4], t: usize, e: usize) -> [u8; 16]
     requires { ⌜ (t ≤ 4) × (e < 4) × (length (now part) ≤ 16) × Inside (length (now part)) at t ⌝ }
     ensures { λ r. ⌜ Equation (now (part .entry)) at t e r ⌝ }
 {
-    let powers = check_rows::power_row(e);
     let syndrome = check_rows::power_sum(part, e);
+    if e == 0 {
+        return [1, 1, 1, 1, syndrome, 0, 0, 0, 0, 0, 0, 0, 0, 0, 0, 0];
+    }
+    let powers = check_rows::power_row(e);
     [
         powers[at[0] % 16],
         powers[at[1] % 16],
@@ -86,12 +89,17 @@ fn equations_of(part: &[u8], at: [usize; 4], t: usize) -> [[u8; 16]; 4]
     rows
 }
 
-// The same; a part of fewer than sixteen places is padded, since sums over sixteen places are fast.
+// Whether sums over so many places are fast enough as they are: sixteen are one step of the vector unit, and a few take no longer than padding.
+fn sixteen_or_few(places: usize) -> bool {
+    if places < 5 { true } else { places == 16 }
+}
+
+// The same; any other part of fewer than sixteen places is padded.
 fn equations(part: &[u8], at: [usize; 4], t: usize) -> [[u8; 16]; 4]
     requires { ⌜ (t ≤ 4) × (length (now part) ≤ 16) × Inside (length (now part)) at t ⌝ }
     ensures { λ r. ⌜ Equations (now (part .entry)) at t r ⌝ }
 {
-    if part.len() == 16 {
+    if sixteen_or_few(part.len()) {
         return equations_of(part, at, t);
     }
     let x = check_rows::padded(part);
@@ -111,6 +119,9 @@ pub fn fill(part: &mut [u8], marks: &[u8])
     let erasures = find(marks);
     let t = erasures.count;
     if 4 < t {
+        return;
+    }
+    if t == 0 {
         return;
     }
     let at = erasures.at;

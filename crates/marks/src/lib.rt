@@ -1,6 +1,6 @@
 // Marks of lost places: their refusal, the count of one group and the excess of a whole pattern.
 ghost use mathlib.Core.Path.{_≡_};
-ghost use Prim.Native.Nat.{_-_, _*_, min};
+ghost use Prim.Native.Nat.{_-_, _*_, _≤_, min};
 ghost use lib.ListN.{length};
 ghost use Rattle.shape.specs.Shapes.{Good};
 ghost use Rattle.code.specs.Marks.{lostIn, excess};
@@ -35,10 +35,31 @@ pub fn marks_refusal(m: usize, w: usize, c: usize, marks: &[u8]) -> u8
     if are_marks(marks) { 0 } else { 6 }
 }
 
+// How many of at most sixteen places are lost. They are counted in a byte: sixteen bytes are one step of the vector unit.
+fn few_lost(part: &[u8]) -> u8
+    requires { ⌜ length (now part) ≤ 16 ⌝ }
+    ensures { λ r. ⌜ r ≡ lostIn (length (now (part .entry))) (now (part .entry)) 0 ⌝ }
+{
+    let mut n: u8 = 0;
+    let mut i: usize = 0;
+    while i < part.len() {
+        let mark = part[i];
+        if mark == 1 {
+            n += 1;
+        }
+        i += 1;
+    }
+    n
+}
+
 // How many places of one group's stretch are lost.
 pub fn lost_in(part: &[u8]) -> usize
     ensures { λ r. ⌜ r ≡ lostIn (length (now (part .entry))) (now (part .entry)) 0 ⌝ }
 {
+    if part.len() <= 16 {
+        let few = few_lost(part);
+        return few as usize;
+    }
     let mut n: usize = 0;
     let mut i: usize = 0;
     while i < part.len() {

@@ -30,6 +30,18 @@ fn add(row: &mut [u8], b: &[u8], f: u8)
     }
 }
 
+// Adds the row b, of bytes, to a row that is as long.
+fn sum(row: &mut [u8], b: &[u8])
+    requires { ⌜ length (now b) ≡ length (now row) ⌝ }
+    ensures { λ _. ⌜ now (row .exit) ≡ added 8 285 1 (now (row .entry)) (now (b .entry)) ⌝ }
+{
+    let mut c: usize = 0;
+    while c < row.len() {
+        row[c] = row[c] ^ b[c];
+        c += 1;
+    }
+}
+
 // A copy of row i.
 fn row_at(x: &[u8], i: usize) -> [u8; 16]
     requires { ⌜ (length (now x) ≡ 64) × (i < 4) ⌝ }
@@ -83,7 +95,8 @@ fn normalize(x: &mut [u8], j: usize)
     scale(&mut x[a..e], f);
 }
 
-// Row i, if it is not j, plus its entry in column j times row j, which is b; an entry of 0 leaves the row as it is.
+// Row i, if it is not j, plus its entry in column j times row j, which is b; an entry of 0 leaves the row as it is, and one of 1
+// needs no product.
 fn clear_row(x: &mut [u8], b: &[u8], j: usize, i: usize)
     requires { ⌜ (length (now x) ≡ 64) × (j < 4) × (i < 4) ⌝ }
     requires { ⌜ now b ≡ row (rowsOf (now x)) j ⌝ }
@@ -96,6 +109,10 @@ fn clear_row(x: &mut [u8], b: &[u8], j: usize, i: usize)
     let e = a + 16;
     let f = x[a + j];
     if f == 0 {
+        return;
+    }
+    if f == 1 {
+        sum(&mut x[a..e], b);
         return;
     }
     add(&mut x[a..e], b, f);
@@ -195,13 +212,13 @@ pub fn eliminate(rows: [[u8; 16]; 4], t: usize) -> [[u8; 16]; 4]
     ensures { λ r. ⌜ r ≡ eliminated 8 285 rows (min t 4) ⌝ }
 {
     let n = at_most_4(t);
+    let mut x = [0u8; 64];
+    lay(rows, &mut x);
     if n == 1 {
-        if rows[0][0] == 1 {
+        if x[0] == 1 {
             return rows;
         }
     }
-    let mut x = [0u8; 64];
-    lay(rows, &mut x);
     eliminate_columns(&mut x, n);
     rows_at(&x)
 }

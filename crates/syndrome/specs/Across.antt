@@ -23,6 +23,13 @@ groupSums c g part = record {
   second = groupSum byteEdition (length part) part 0 (secondCoefficient byteEdition c g);
 }
 
+-- the sums of two rows: of the first w places of x with b, and of y with b^16
+abbrev pub rowSums : ℕ → ℕ → List ℕ → List ℕ → Sums
+rowSums w c x y = record {
+  first = groupSum byteEdition w x 0 (coefficient byteEdition c);
+  second = groupSum byteEdition w y 0 (λ j. raised byteEdition (coefficient byteEdition c j) 16);
+}
+
 -- what is given for a word that is not of a good shape's length
 abbrev pub noSums : Sums
 noSums = record { first = 0; second = 0 }

@@ -4,10 +4,12 @@ use mathlib.Core.Bool.{Bool, true, false}
 use mathlib.Core.List.{List}
 use Prim.Native.Nat.{ℕ, suc, _+_, _-_, _*_, _<_, _≤_}
 use native.Mathlib.Numerals.{add-one}
+use native.Mathlib.Decide.{decLt}
 use native.Mathlib.Omega.{arith}
 use lib.Bits.{bitXor}
 use lib.Dec.{T, eqb}
-use lib.ListN.{length, getD, take, drop}
+use lib.ListN.{length, getD, take, drop, length-take, List·getD-eq-default}
+use lib.Seq.{getD-take, length-take-le}
 use Rattle.counting.specs.Test.{allBelow}
 use Rattle.binary_field.specs.Xor.{_⊕_}
 use Rattle.binary_field.specs.XorLaws.{⊕-bits}
@@ -24,7 +26,7 @@ use Rattle.check_rows.specs.Rows.{powerRows, firstRows, secondRows, noRow}
 use Rattle.check_rows.specs.RowsLaws.{power-at, first-at, second-at}
 use Rattle.check_rows.specs.Padded.{Padded}
 use Rattle.check_rows.specs.PaddedLaws.{padded-group}
-use Rattle.syndrome.specs.Across.{plainSums}
+use Rattle.syndrome.specs.Across.{plainSums, groupSums}
 
 -- a test that would show what is not so
 pub is-false : (b : Bool) → (T b → ⊥) → b ≡ false
@@ -58,6 +60,33 @@ module _ {part x : List ℕ} (P : Padded part x) (narrow : length part ≤ 16) (
   pub padded-plain : plainSums c x ≡ plainSums c part
   padded-plain = ap₂ (λ a b. record { first = a; second = b }) (padded-group P narrow (coefficient byteEdition c))
       (padded-group P narrow (λ j. raised byteEdition (coefficient byteEdition c j) 16))
+
+-- the first w places of a row, padded
+pub front-group : (x p : List ℕ) (w : ℕ) → Padded (take w x) p → w ≤ 16 → length x ≡ 16 → (h : ℕ → ℕ) → groupSum byteEdition (length p) p 0 h
+    ≡ groupSum byteEdition w x 0 h
+unfolding groupSum
+front-group x p w P narrow size h =
+    let l : w ≤ length x = omega arith in
+    let e : length (take w x) ≡ w = length-take-le w x l in
+    padded-group P (omega arith) h ∙ ap (λ n. groupSum byteEdition n (take w x) 0 h) e
+    ∙ sum-ext w _ _ (λ j k. ap (λ b. times byteEdition b (h j)) (getD-take w x (0 * w + j) 0 (let o = own-place w j in omega arith)))
+
+-- a row of sixteen places that is 0 from place w on has the sums of its first w places
+pub front-sums : (c g w : ℕ) (x : List ℕ) → length x ≡ 16 → w ≤ 16 → ((i : ℕ) → w ≤ i → getD x i 0 ≡ 0) → groupSums c g x ≡ groupSums c g (take w x)
+front-sums c g w x size narrow zero =
+    ap₂ (λ a b. record { first = a; second = b }) (padded-group P n (coefficient byteEdition c)) (padded-group P n (secondCoefficient byteEdition c g))
+  where
+    n : length (take w x) ≤ 16
+    n = omega (arith, length-take w x)
+
+    P : Padded (take w x) x
+    P = record {
+      size = size;
+      each = λ j _. elim (decLt j w) [
+        | yes l ↦ sym (getD-take w x j 0 l)
+        | no l ↦ zero j (omega arith) ∙ sym (List·getD-eq-default (take w x) 0 (omega (arith, length-take w x)))
+      ];
+    }
 
 module _ (part : List ℕ) (narrow : length part ≤ 16) where
   pub power-group : (e : ℕ) → e < 4 → innerProduct 8 285 (length part) part (getD powerRows e noRow) ≡ localSum byteEdition (length part) part 0 e

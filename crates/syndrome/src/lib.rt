@@ -1,12 +1,15 @@
 // The sums of a word's equations (its syndromes), and whether they are all zero.
 ghost use mathlib.Core.Path.{_≡_};
 ghost use mathlib.Core.Bool.{true, false};
-ghost use Prim.Native.Nat.{_*_, _≤_, _<_};
-ghost use lib.ListN.{length};
+ghost use Prim.Native.Nat.{ℕ, _*_, _≤_, _<_};
+ghost use lib.ListN.{length, getD};
+ghost use Rattle.binary_field.specs.Xor.{_⊕_};
+ghost use Rattle.binary_field.specs.Product.{double};
 ghost use Rattle.shape.specs.Shapes.{Good};
 ghost use Rattle.byte_edition.specs.Edition.{byteEdition};
 ghost use Rattle.code.specs.Word.{isLocal};
-ghost use Rattle.syndrome.specs.Across.{plainSums, groupSums, acrossOf, noSums};
+ghost use Rattle.syndrome.specs.Across.{plainSums, groupSums, rowSums, acrossOf, noSums};
+ghost use Rattle.syndrome.specs.Horner.{AddedRows, HornerRows};
 ghost use Rattle.syndrome.specs.Tests.{brokenGroup, testedOf, notTested};
 
 // What the two equations across sum up to.
@@ -37,8 +40,8 @@ fn zero_sums(part: &[u8], c: usize) -> bool
     true
 }
 
-// Whether the first c local sums of one group's stretch are zero; false for more than 16 places or c above 4. A shorter stretch is padded, since
-// sums over sixteen places are fast.
+// Whether the first c local sums of one group's stretch are zero; false for more than 16 places or c above 4. A stretch of five to
+// fifteen places is padded, since sums over sixteen places are fast.
 pub fn local_zero(part: &[u8], c: usize) -> bool
     ensures { λ r. ⌜ (length (now (part .entry)) ≤ 16 → c ≤ 4 → r ≡ isLocal byteEdition (length (now (part .entry))) c (now (part .entry)) 0) ⌝ }
     ensures { λ r. ⌜ ((length (now (part .entry)) ≤ 16 → c ≤ 4 → ⊥) → r ≡ false) ⌝ }
@@ -50,6 +53,9 @@ pub fn local_zero(part: &[u8], c: usize) -> bool
         return false;
     }
     if part.len() == 16 {
+        return zero_sums(part, c);
+    }
+    if part.len() < 5 {
         return zero_sums(part, c);
     }
     let x = check_rows::padded(part);
@@ -115,28 +121,107 @@ pub fn group_sums(part: &[u8], c: usize, g: usize) -> Sums
     }
 }
 
-// The two sums across, of a good shape and a word of its length; 0 for others. The factor 2^g is doubled from group to group.
+// Two rows of sixteen places: a sum of groups, and the same with a power of two before each.
+struct Rows {
+    plain: [u8; 16],
+    weighted: [u8; 16],
+}
+
+// The row x plus the first sixteen places of a part.
+fn plus(x: [u8; 16], part: &[u8]) -> [u8; 16]
+    requires { ⌜ 16 ≤ length (now part) ⌝ }
+    ensures { λ r. ⌜ ((j : ℕ) → j < 16 → getD r j 0 ≡ getD x j 0 ⊕ getD (now (part .entry)) j 0) ⌝ }
+{
+    let mut r = [0u8; 16];
+    let mut i: usize = 0;
+    while i < 16 {
+        r[i] = x[i] ^ part[i];
+        i += 1;
+    }
+    r
+}
+
+// Twice the row x plus the first sixteen places of a part.
+fn twice_plus(x: [u8; 16], part: &[u8]) -> [u8; 16]
+    requires { ⌜ 16 ≤ length (now part) ⌝ }
+    ensures { λ r. ⌜ ((j : ℕ) → j < 16 → getD r j 0 ≡ double 8 285 (getD x j 0) ⊕ getD (now (part .entry)) j 0) ⌝ }
+{
+    let mut r = [0u8; 16];
+    let mut i: usize = 0;
+    while i < 16 {
+        r[i] = gf256::double(x[i]) ^ part[i];
+        i += 1;
+    }
+    r
+}
+
+// Both rows with the first sixteen places of a part added.
+fn add_sixteen(x: [u8; 16], y: [u8; 16], part: &[u8]) -> Rows
+    requires { ⌜ 16 ≤ length (now part) ⌝ }
+    ensures { λ r. ⌜ AddedRows (now (part .entry)) x y (r .plain) (r .weighted) ⌝ }
+{
+    let plain = plus(x, part);
+    let weighted = twice_plus(y, part);
+    Rows { plain, weighted }
+}
+
+// The same; a part of fewer than sixteen places counts as followed by zeros.
+fn add_part(x: [u8; 16], y: [u8; 16], part: &[u8]) -> Rows
+    ensures { λ r. ⌜ AddedRows (now (part .entry)) x y (r .plain) (r .weighted) ⌝ }
+{
+    if 16 <= part.len() {
+        return add_sixteen(x, y, part);
+    }
+    let p = check_rows::padded(part);
+    add_sixteen(x, y, &p)
+}
+
+// The rows of all groups, from the last to the first. What stands past the group's own places is added too, and not read later.
+fn rows_of(m: usize, w: usize, c: usize, word: &[u8]) -> Rows
+    requires { ⌜ Good m w c ⌝ }
+    requires { ⌜ length (now word) ≡ m * w ⌝ }
+    ensures { λ r. ⌜ HornerRows byteEdition w (now (word .entry)) 0 m (r .plain) (r .weighted) ⌝ }
+{
+    let mut plain = [0u8; 16];
+    let mut weighted = [0u8; 16];
+    let mut g = m;
+    while 0 < g {
+        g = g - 1;
+        let a = g * w;
+        let r = add_part(plain, weighted, &word[a..]);
+        plain = r.plain;
+        weighted = r.weighted;
+    }
+    Rows { plain, weighted }
+}
+
+// The inner product of the first w entries of x with the coefficients of the first sum across, and that of y with those of the second.
+fn row_sums(x: [u8; 16], y: [u8; 16], w: usize, c: usize) -> Sums
+    requires { ⌜ (w ≤ 16) × (1 ≤ c) × (c ≤ 4) ⌝ }
+    ensures { λ r. ⌜ r ≡ rowSums w c x y ⌝ }
+{
+    let p = check_rows::padded(&x[..w]);
+    let q = check_rows::padded(&y[..w]);
+    let first = check_rows::first_sum(&p, c - 1);
+    let second = check_rows::second_sum(&q, c - 1);
+    Sums { first, second }
+}
+
+// The two sums across, of a good shape and a word of its length; 0 for others. By Horner's rule, so that there is one inner product for each.
 pub fn across(m: usize, w: usize, c: usize, word: &[u8]) -> Sums
     ensures { λ r. ⌜ (Good m w c → length (now (word .entry)) ≡ m * w → r ≡ acrossOf m w c (now (word .entry))) ⌝ }
     ensures { λ r. ⌜ ((Good m w c → length (now (word .entry)) ≡ m * w → ⊥) → r ≡ noSums) ⌝ }
 {
-    let mut first: u8 = 0;
-    let mut second: u8 = 0;
     if shape::word_refusal(m, w, c, word.len()) != 0 {
-        return Sums { first, second };
+        return Sums {
+            first: 0,
+            second: 0,
+        };
     }
-    let mut factor: u8 = 1;
-    let mut g: usize = 0;
-    while g < m {
-        let a = g * w;
-        let e = a + w;
-        let s = padded_sums(&word[a..e], c);
-        first = first ^ s.first;
-        second = second ^ gf256::shifted_product(factor, s.second);
-        factor = gf256::double(factor);
-        g += 1;
-    }
-    Sums { first, second }
+    let r = rows_of(m, w, c, word);
+    let x = r.plain;
+    let y = r.weighted;
+    row_sums(x, y, w, c)
 }
 
 // The lowest group whose local sums are not all zero; m if there is none.

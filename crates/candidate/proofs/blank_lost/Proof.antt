@@ -1,15 +1,19 @@
-use mathlib.Core.Path.{_≡_, refl, sym, _∙_}
-use mathlib.Core.Logic.{⊎-elim}
+use mathlib.Core.Path.{_≡_, refl, sym, _∙_, subst}
 use mathlib.Core.Bool.{true, false, true≢false}
 use mathlib.Core.List.{List}
 use Prim.Native.Nat.{ℕ, _-_, _≤_, _<_}
 use native.Mathlib.Omega.{arith}
-use lib.ListN.{length, getD, set, length-set}
-use borrow.Author.Tests.{eq-eqb, ne-eqb}
+use lib.Dec.{T, eqb→eq}
+use lib.ListN.{length, getD, length-set}
+use borrow.Author.Needs.{needs}
+use borrow.Author.Tests.{eq-eqb}
 use Rattle.code.specs.Marks.{lost}
 use Rattle.fill.proofs.Laws.{each-set}
 use Rattle.candidate.proofs.blank_lost.Statement.{statement}
 use Rattle.candidate.proofs.blank_lost.Tie as tie
+use Rattle.candidate.proofs.blank_lost.Reads as reads
+use Rattle.candidate.proofs.blank_lost.Lts as lts
+use Rattle.candidate.proofs.unless_lost.Reads as unless-lost-reads
 
 -- what the byte b at a place that was passed is
 abbrev Blank : List ℕ → List ℕ → ℕ → ℕ → Type 0
@@ -26,17 +30,17 @@ abbrev μ-loop : tie.MeasureT-loop
 loop-holds : tie.Need-loop-holds Inv-loop μ-loop
 loop-holds c = (omega arith, refl, λ q l. absurd (omega arith))
 
-shared-slice-read-if1 : tie.Need-shared-slice-read-if1 Inv-loop μ-loop
-shared-slice-read-if1 c = omega arith
+shared-slice-read-unless-lost : tie.Need-shared-slice-read-unless-lost Inv-loop μ-loop
+shared-slice-read-unless-lost c = omega arith
+
+shared-slice-read-unless-lost-2 : tie.Need-shared-slice-read-unless-lost-2 Inv-loop μ-loop
+shared-slice-read-unless-lost-2 c = omega arith
+
+unless-lost-requires : tie.Need-unless-lost-requires Inv-loop μ-loop
+unless-lost-requires c κs = search needs
 
 slice-write-base : tie.Need-slice-write-base Inv-loop μ-loop
 slice-write-base c = omega arith
-
-shared-slice-read-base : tie.Need-shared-slice-read-base Inv-loop μ-loop
-shared-slice-read-base c = omega arith
-
-slice-write-base-2 : tie.Need-slice-write-base-2 Inv-loop μ-loop
-slice-write-base-2 c = omega arith
 
 add-p : tie.Need-add-p Inv-loop μ-loop
 add-p c = omega arith
@@ -46,29 +50,17 @@ loop-less c = omega arith
 
 loop-again : tie.Need-loop-again Inv-loop μ-loop
 loop-again c =
-    let s = c .before .before .before in
-    let a = s .before .args in
+    let s = c .before .before .before .before in
+    let a = s .before .before .before .before .args in
     let m : List ℕ = a .marks .now in
-    let x : List ℕ = s .loop .base in
-    let p : ℕ = s .loop .p in
-    ⊎-elim
-    (λ v.
-    let y : c .if1 .base ≡ set x p 0 = v .1 in (
+    let p : ℕ = s .loop .p in (
       omega arith,
-      rw (y, length-set) (s .loop .inv .1),
-      rw y
-          (each-set (Blank m (a .word .now)) x p 0 0 (omega arith) (s .loop .inv .2)
-          (λ e. absurd (true≢false (sym (eq-eqb (getD m p 0) 1 (v .0 .taken)) ∙ e)), λ _. refl)),
-    ))
-    (λ v.
-    let y : c .if1 .base ≡ set x p (getD (a .word .now) p 0) = v .2 in (
-      omega arith,
-      rw (y, length-set) (s .loop .inv .1),
-      rw y
-          (each-set (Blank m (a .word .now)) x p _ 0 (omega arith) (s .loop .inv .2)
-          (λ _. refl, λ e. absurd (true≢false (sym e ∙ ne-eqb (getD m p 0) 1 (v .0 .left))))),
-    ))
-    (c .if1 .came)
+      simp length-set (s .loop .inv .1),
+      each-set (Blank m (a .word .now)) (s .loop .base) p _ 0 (omega arith) (s .loop .inv .2) (
+        λ e. c .unless-lost .ensures .1 (λ q. true≢false (sym (eq-eqb (getD m p 0) 1 q) ∙ e)),
+        λ e. c .unless-lost .ensures .0 (eqb→eq (getD m p 0) 1 (subst T (sym e) tt)),
+      ),
+    )
 
 same-length : tie.Need-same-length Inv-loop μ-loop
 same-length c = omega arith
@@ -85,10 +77,10 @@ blank-lost-spec =
     Inv-loop
     μ-loop
     loop-holds
-    shared-slice-read-if1
+    shared-slice-read-unless-lost
+    shared-slice-read-unless-lost-2
+    unless-lost-requires
     slice-write-base
-    shared-slice-read-base
-    slice-write-base-2
     add-p
     loop-less
     loop-again

@@ -1,7 +1,11 @@
 use native.Mathlib.Omega.{arith}
-use lib.ListN.{length-take, length-set}
+use mathlib.Core.Path.{_≡_, _∙_}
+use mathlib.Core.List.{List}
+use Prim.Native.Nat.{ℕ, _≤_}
+use lib.ListN.{length, set, replicate, length-take, length-set, length-replicate}
+use lib.Seq.{length-take-le}
 use borrow.Author.Needs.{needs}
-use Rattle.candidate.proofs.Laws.{direction-filled}
+use Rattle.candidate.proofs.Laws.{direction-filled, direction-after}
 use Rattle.candidate.proofs.direction.Statement.{statement}
 use Rattle.candidate.proofs.direction.Tie as tie
 
@@ -21,8 +25,14 @@ returns : tie.Need-returns
 returns c =
     let f = c .before in
     let s = f .before .before .before in
-    direction-filled 16 (s .args .j) (s .args .bound .now) (f .fill .last .0) _ (omega arith) (omega arith) (omega arith) (s .pre .1 .1 .0) (omega arith)
-    (f .fill .ensures)
+    let w : ℕ = length (s .args .bound .now) in
+    let h : List ℕ = set (replicate 16 0) (s .args .j) 1 in
+    let l : w ≤ length h = omega (arith, length-set {A = ℕ} (replicate 16 0) (s .args .j) 1, length-replicate {A = ℕ} 16 0) in
+    let size : length (f .fill .last .0) ≡ w = f .fill .ensures .size ∙ length-take-le w h l in (
+      direction-filled 16 (s .args .j) (s .args .bound .now) (f .fill .last .0) _ (omega arith) (omega arith) (omega arith) (s .pre .1 .1 .0) (omega arith)
+          (f .fill .ensures),
+      direction-after 16 (s .args .j) (length (s .args .bound .now)) (f .fill .last .0) size (omega arith) (omega arith),
+    )
 
 pub direction-spec : {M : Type 1} → statement M
 direction-spec =

@@ -14,7 +14,7 @@ weights-requires : tie.Need-weights-requires
 weights-requires c κs =
     let s = c .before .before .before in
     let a = s .args in
-    (s .pre .0, group-lt (a .m) (a .w) (a .c) (a .p) (s .pre .0) (s .pre .1 .1 .0))
+    (s .pre .0, (group-lt (a .m) (a .w) (a .c) (a .p) (s .pre .0) (s .pre .1 .1 .0), c .way .ensures .1))
 
 one-unknown-requires : tie.Need-one-unknown-requires
 one-unknown-requires c κs = search needs
@@ -41,7 +41,7 @@ returns c =
     let a = s .args in (
       record {
         h = take (a .w) (v .way .result);
-        way = v .way .ensures;
+        way = v .way .ensures .0;
         u = u .one-unknown .result;
         solved = rw (k .weights .ensures, s .pre .1 .1 .1 .1) at (u .one-unknown .ensures);
         is = d .add-direction .ensures;

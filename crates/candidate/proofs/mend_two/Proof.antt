@@ -18,7 +18,7 @@ weights-requires : tie.Need-weights-requires
 weights-requires c κs =
     let s = c .before .before .before in
     let a = s .args in
-    (s .pre .0, group-lt (a .m) (a .w) (a .c) (a .p) (s .pre .0) (s .pre .1 .1 .0 .0))
+    (s .pre .0, (group-lt (a .m) (a .w) (a .c) (a .p) (s .pre .0) (s .pre .1 .1 .0 .0), c .way .ensures .1))
 
 div-i : tie.Need-div-i
 div-i c = search needs
@@ -30,7 +30,7 @@ weights-requires-2 : tie.Need-weights-requires-2
 weights-requires-2 c κs =
     let s = c .before .before .before .before .before in
     let a = s .args in
-    (s .pre .0, group-lt (a .m) (a .w) (a .c) (a .q) (s .pre .0) (s .pre .1 .1 .0 .1))
+    (s .pre .0, (group-lt (a .m) (a .w) (a .c) (a .q) (s .pre .0) (s .pre .1 .1 .0 .1), c .way2 .ensures .1))
 
 two-unknowns-requires : tie.Need-two-unknowns-requires
 two-unknowns-requires c κs = search needs
@@ -78,8 +78,8 @@ returns c =
       record {
         h₁ = take (a .w) (v .way .result);
         h₂ = take (a .w) (y .way2 .result);
-        way₁ = v .way .ensures;
-        way₂ = y .way2 .ensures;
+        way₁ = v .way .ensures .0;
+        way₂ = y .way2 .ensures .0;
         u = u .two-unknowns .result .first;
         v = u .two-unknowns .result .second;
         solved = solved-sums (k .weights .ensures) (l .weights2 .ensures) here (u .two-unknowns .ensures);

@@ -1,3 +1,5 @@
+use Prim.Native.Nat.{_+_, _-_, _*_, _/_}
+use lib.ListN.{drop, length-take}
 use native.Mathlib.Omega.{arith}
 use borrow.Author.Needs.{needs}
 use Rattle.code.specs.LentLaws.{stretch-lent}
@@ -47,9 +49,13 @@ direction-requires c κs =
 returns : tie.Need-returns
 returns c =
     let s = c .before .before .before in
-    let a = s .args in
-    way-given (a .m) (a .w) (a .c) (a .p) (s .pre .0) (s .pre .1 .0) (a .bound .now) (s .pre .1 .1) (c .direction .result)
-    (rw (stretch-lent (a .w) _ (a .bound .now)) at (c .direction .ensures))
+    let a = s .args in (
+      way-given (a .m) (a .w) (a .c) (a .p) (s .pre .0) (s .pre .1 .0) (a .bound .now) (s .pre .1 .1) (c .direction .result)
+          (rw (stretch-lent (a .w) _ (a .bound .now)) at (c .direction .ensures .0)),
+      λ i l.
+          c .direction .ensures .1 i
+          (omega (arith, length-take (a .p / a .w * a .w + a .w - a .p / a .w * a .w) (drop (a .p / a .w * a .w) (a .bound .now)))),
+    )
 
 pub way-spec : {M : Type 1} → statement M
 way-spec =

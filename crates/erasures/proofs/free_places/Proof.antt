@@ -25,13 +25,13 @@ returns c =
       two-none (a .marks .now) (a .bound .now) (length (a .marks .now)) N (omega arith),
     )
 
-next-free-requires : tie.Need-next-free-requires
-next-free-requires c κs = search needs
+first-free-requires : tie.Need-first-free-requires
+first-free-requires c κs = search needs
 
 returns-2 : tie.Need-returns-2
 returns-2 c =
     let a = c .before .before .before .before .before .before .args in
-    let n = c .before .next-free in (
+    let n = c .before .first-free in (
       free-none (a .marks .now) (a .bound .now) (n .result) (n .ensures) (c .if2 .taken),
       two-none (a .marks .now) (a .bound .now) (n .result) (n .ensures) (c .if2 .taken),
     )
@@ -39,16 +39,16 @@ returns-2 c =
 add-after : tie.Need-add-after
 add-after c = search needs
 
-next-free-requires-2 : tie.Need-next-free-requires-2
-next-free-requires-2 c κs = search needs
+next-free-requires : tie.Need-next-free-requires
+next-free-requires c κs = search needs
 
 returns-3 : tie.Need-returns-3
 returns-3 c =
     let f = c .before .before .before in
     let a = f .before .before .before .before .before .args in
-    let n = f .next-free in
+    let n = f .first-free in
     let i = c .before .before .if2 .left in
-    let k = c .before .next-free2 in (
+    let k = c .before .next-free in (
       free-one (a .marks .now) (a .bound .now) (n .result) (n .ensures) i (k .result) (k .ensures) (c .if3 .taken),
       two-one (a .marks .now) (a .bound .now) (n .result) (n .ensures) i (k .result) (k .ensures) (c .if3 .taken),
     )
@@ -57,9 +57,9 @@ returns-4 : tie.Need-returns-4
 returns-4 c =
     let f = c .before .before .before in
     let a = f .before .before .before .before .before .args in
-    let n = f .next-free in
+    let n = f .first-free in
     let i = c .before .before .if2 .left in
-    let k = c .before .next-free2 in (
+    let k = c .before .next-free in (
       free-two (a .marks .now) (a .bound .now) (n .result) (n .ensures) i (k .result) (k .ensures) (c .if3 .left),
       two-two (a .marks .now) (a .bound .now) (n .result) (n .ensures) i (k .result) (k .ensures) (c .if3 .left),
     )
@@ -70,9 +70,9 @@ free-places-spec =
     (tie.spec
     all-bound-requires
     returns
-    next-free-requires
+    first-free-requires
     returns-2
     add-after
-    next-free-requires-2
+    next-free-requires
     returns-3
     returns-4)

@@ -1,45 +1,70 @@
-use mathlib.Core.Path.{_≡_, ap, _∙_}
+use mathlib.Core.Path.{_≡_, refl, sym, ap, _∙_}
 use mathlib.Core.List.{List, [], _∷_}
 use Prim.Native.Nat.{ℕ, zero, suc, _%_, _<_}
 use native.Mathlib.Nat.{mod-eq-of-lt}
 use native.Mathlib.Omega.{arith}
 use lib.ListN.{length, getD}
+use Rattle.binary_field.specs.PowerLaws.{power-zero}
+use Rattle.code.specs.Edition.{raised}
+use Rattle.byte_edition.specs.Edition.{byteEdition}
 use Rattle.check_rows.specs.Rows.{powerRows, noRow}
 use Rattle.check_rows.specs.RowsLaws.{power-at}
 use Rattle.fill.proofs.Laws.{syndrome}
 use borrow.Author.Needs.{needs}
 use Rattle.fill.proofs.equation.Statement.{statement}
 use Rattle.fill.proofs.equation.Tie as tie
-
-power-row-requires : tie.Need-power-row-requires
-power-row-requires c κs = search needs
+use Rattle.fill.proofs.equation.Reads as reads
+use Rattle.fill.proofs.equation.Lts as lts
+use Rattle.check_rows.proofs.power_row.Reads as power-row-reads
+use Rattle.check_rows.proofs.power_sum.Reads as power-sum-reads
 
 power-sum-requires : tie.Need-power-sum-requires
 power-sum-requires c κs = search needs
 
-array-read-t11 : tie.Need-array-read-t11
-array-read-t11 c = search needs
+-- four ones at the front
+ones : (rest : List ℕ) (i : ℕ) → i < 4 → getD (1 ∷ 1 ∷ 1 ∷ 1 ∷ rest) i 0 ≡ 1
+ones rest zero l = refl
+ones rest (suc zero) l = refl
+ones rest (suc (suc zero)) l = refl
+ones rest (suc (suc (suc zero))) l = refl
+ones rest (suc (suc (suc (suc i)))) l = absurd (omega arith)
 
-array-read-t15 : tie.Need-array-read-t15
-array-read-t15 c = search needs
+returns : tie.Need-returns
+returns c =
+    let s = c .before in
+    let a = s .before .before in record {
+      left = λ i l.
+          ones (s .power-sum .result ∷ 0 ∷ 0 ∷ 0 ∷ 0 ∷ 0 ∷ 0 ∷ 0 ∷ 0 ∷ 0 ∷ 0 ∷ 0 ∷ []) i (omega arith)
+          ∙ sym (ap (raised byteEdition _) (c .if1 .taken) ∙ power-zero 8 285 _);
+      right = s .power-sum .ensures ∙ syndrome (a .args .part .now) (a .args .e) (omega arith) (omega arith);
+    }
 
-array-read-t18 : tie.Need-array-read-t18
-array-read-t18 c = search needs
+power-row-requires : tie.Need-power-row-requires
+power-row-requires c κs = search needs
 
-array-read-t22 : tie.Need-array-read-t22
-array-read-t22 c = search needs
+array-read-t12 : tie.Need-array-read-t12
+array-read-t12 c = search needs
 
-array-read-t25 : tie.Need-array-read-t25
-array-read-t25 c = search needs
+array-read-t16 : tie.Need-array-read-t16
+array-read-t16 c = search needs
 
-array-read-t29 : tie.Need-array-read-t29
-array-read-t29 c = search needs
+array-read-t19 : tie.Need-array-read-t19
+array-read-t19 c = search needs
 
-array-read-t32 : tie.Need-array-read-t32
-array-read-t32 c = search needs
+array-read-t23 : tie.Need-array-read-t23
+array-read-t23 c = search needs
 
-array-read-t36 : tie.Need-array-read-t36
-array-read-t36 c = search needs
+array-read-t26 : tie.Need-array-read-t26
+array-read-t26 c = search needs
+
+array-read-t30 : tie.Need-array-read-t30
+array-read-t30 c = search needs
+
+array-read-t33 : tie.Need-array-read-t33
+array-read-t33 c = search needs
+
+array-read-t37 : tie.Need-array-read-t37
+array-read-t37 c = search needs
 
 -- the entries of a row at four positions below 16
 at-four : (powers at rest : List ℕ) (i : ℕ) → i < 4 → getD at i 0 < 16
@@ -52,30 +77,32 @@ at-four powers at rest (suc (suc zero)) l h = ap (λ p. getD powers p 0) (mod-eq
 at-four powers at rest (suc (suc (suc zero))) l h = ap (λ p. getD powers p 0) (mod-eq-of-lt h)
 at-four powers at rest (suc (suc (suc (suc i)))) l h = absurd (omega arith)
 
-returns : tie.Need-returns
-returns c =
-    let a = c .before .before .before in
-    let r : c .before .power-row .result ≡ getD powerRows (a .args .e) noRow = c .before .power-row .ensures in record {
+returns-2 : tie.Need-returns-2
+returns-2 c =
+    let p = c .before .before in
+    let a = p .before .before in
+    let r : c .power-row .result ≡ getD powerRows (a .args .e) noRow = c .power-row .ensures in record {
       left = λ i l.
           let h = a .pre .3 i l in
-          at-four (c .before .power-row .result) (a .args .t2) (c .power-sum .result ∷ 0 ∷ 0 ∷ 0 ∷ 0 ∷ 0 ∷ 0 ∷ 0 ∷ 0 ∷ 0 ∷ 0 ∷ 0 ∷ []) i (omega arith)
+          at-four (c .power-row .result) (a .args .t2) (p .power-sum .result ∷ 0 ∷ 0 ∷ 0 ∷ 0 ∷ 0 ∷ 0 ∷ 0 ∷ 0 ∷ 0 ∷ 0 ∷ 0 ∷ []) i (omega arith)
           (omega arith)
           ∙ rw r (power-at (a .args .e) (getD (a .args .t2) i 0) (omega arith) (omega arith));
-      right = c .power-sum .ensures ∙ syndrome (a .args .part .now) (a .args .e) (omega arith) (omega arith);
+      right = p .power-sum .ensures ∙ syndrome (a .args .part .now) (a .args .e) (omega arith) (omega arith);
     }
 
 pub equation-spec : {M : Type 1} → statement M
 equation-spec =
     tie.close
     (tie.spec
-    power-row-requires
     power-sum-requires
-    array-read-t11
-    array-read-t15
-    array-read-t18
-    array-read-t22
-    array-read-t25
-    array-read-t29
-    array-read-t32
-    array-read-t36
-    returns)
+    returns
+    power-row-requires
+    array-read-t12
+    array-read-t16
+    array-read-t19
+    array-read-t23
+    array-read-t26
+    array-read-t30
+    array-read-t33
+    array-read-t37
+    returns-2)

@@ -11,6 +11,9 @@ use Rattle.fill.proofs.equations.Lts as lts
 use Rattle.check_rows.proofs.padded.Reads as padded-reads
 use Rattle.fill.proofs.equations_of.Reads as equations-of-reads
 
+sixteen-or-few-requires : tie.Need-sixteen-or-few-requires
+sixteen-or-few-requires c κs = search needs
+
 equations-of-requires : tie.Need-equations-of-requires
 equations-of-requires c κs = search needs
 
@@ -26,14 +29,14 @@ slice-aggregate-equations-of c = search needs
 equations-of-requires-2 : tie.Need-equations-of-requires-2
 equations-of-requires-2 c κs =
     let p = c .before in
-    let s = p .before .before .before in
+    let s = p .before .before .before .before in
     let size = p .padded .ensures .size in
     (omega arith, omega arith, λ i l. let h = s .pre .2 i l in omega arith)
 
 returns-2 : tie.Need-returns-2
 returns-2 c e l =
     let p = c .before .before in
-    let s = p .before .before .before in
+    let s = p .before .before .before .before in
     let q = c .equations-of2 .ensures e l in record {
       left = q .left;
       right = q .right ∙ padded-group (p .padded .ensures) (omega arith) (λ j. raised byteEdition (byteEdition .locator j) e);
@@ -43,6 +46,7 @@ pub equations-spec : {M : Type 1} → statement M
 equations-spec =
     tie.close
     (tie.spec
+    sixteen-or-few-requires
     equations-of-requires
     returns
     padded-requires

@@ -6,7 +6,7 @@ use mir.Syntax.{w8}
 use Rattle.byte_edition.specs.Edition.{byteEdition}
 use Rattle.byte_edition.specs.EditionLaws.{bytes-sound}
 use Rattle.solve.proofs.Arrays.{array-system}
-use Rattle.fill.proofs.Laws.{zeros-at, unchanged, filled}
+use Rattle.fill.proofs.Laws.{zeros-at, unchanged, no-erasures, filled}
 use borrow.Author.Needs.{needs}
 use Rattle.fill.proofs.fill.Statement.{statement}
 use Rattle.fill.proofs.fill.Tie as tie
@@ -23,12 +23,15 @@ find-requires c κs = search needs
 returns-3 : tie.Need-returns-3
 returns-3 c = let f = c .before .find in unchanged byteEdition _ _ (f .result .count) (f .ensures .all) (c .if3 .taken)
 
+returns-4 : tie.Need-returns-4
+returns-4 c = let f = c .before .before .find in no-erasures byteEdition _ _ (f .result .count) (f .ensures .all) (c .if4 .taken)
+
 place-requires : tie.Need-place-requires
-place-requires c κs = (omega arith, λ i l. let b = c .before .before .before .find .ensures .few (omega arith) .inside i (omega arith) in omega arith)
+place-requires c κs = (omega arith, λ i l. let b = c .before .before .before .before .find .ensures .few (omega arith) .inside i (omega arith) in omega arith)
 
 equations-requires : tie.Need-equations-requires
 equations-requires c κs =
-    let f = c .before .before .before .before .before .before .before in
+    let f = c .before .before .before .before .before .before .before .before in
     (omega arith, omega arith, λ i l. let b = f .find .ensures .few (omega arith) .inside i (omega arith) in omega arith)
 
 eliminate-requires : tie.Need-eliminate-requires
@@ -36,19 +39,19 @@ eliminate-requires c κs = search needs
 
 place-requires-2 : tie.Need-place-requires-2
 place-requires-2 c κs =
-    let f = c .before .before .before .before .before .before .before .before .before .before in
+    let f = c .before .before .before .before .before .before .before .before .before .before .before in
     (omega arith, λ i l. let b = f .find .ensures .few (omega arith) .inside i (omega arith) in omega arith)
 
 same-length : tie.Need-same-length
 same-length c = search needs
 
-returns-4 : tie.Need-returns-4
-returns-4 c =
+returns-5 : tie.Need-returns-5
+returns-5 c =
     let p = c .before .before in
     let x = p .before .before in
     let q = x .before in
     let z = q .before .before .before .before in
-    let f = z .before .before .before .before in
+    let f = z .before .before .before .before .before in
     let a = f .before .before .before .before .before .args in
     let t : ℕ = f .find .result .count in
     let m : min t 4 ≡ t = omega arith in
@@ -66,9 +69,10 @@ fill-spec =
     returns-2
     find-requires
     returns-3
+    returns-4
     place-requires
     equations-requires
     eliminate-requires
     place-requires-2
     same-length
-    returns-4)
+    returns-5)

@@ -18,11 +18,20 @@ Inv-loop part n₀ i₀ n i = (i ≤ length part) × (n ≤ i) × (n ≡ countBe
 abbrev μ-loop : tie.MeasureT-loop
 μ-loop part n₀ i₀ n i = length part - i
 
+few-lost-requires : tie.Need-few-lost-requires Inv-loop μ-loop
+few-lost-requires c κs = omega arith
+
+cast-result : tie.Need-cast-result Inv-loop μ-loop
+cast-result c = omega arith
+
+returns : tie.Need-returns Inv-loop μ-loop
+returns c = c .few-lost .ensures
+
 loop-holds : tie.Need-loop-holds Inv-loop μ-loop
 loop-holds c = (omega arith, omega arith, sym (total-none _))
 
-shared-slice-read-if1 : tie.Need-shared-slice-read-if1 Inv-loop μ-loop
-shared-slice-read-if1 c = omega arith
+shared-slice-read-if2 : tie.Need-shared-slice-read-if2 Inv-loop μ-loop
+shared-slice-read-if2 c = omega arith
 
 add-n : tie.Need-add-n Inv-loop μ-loop
 add-n c = omega arith
@@ -36,15 +45,15 @@ loop-less c = omega arith
 loop-again : tie.Need-loop-again Inv-loop μ-loop
 loop-again c =
     let s = c .before .before .before in
-    let p = s .before .args .part .now in
+    let p = s .before .before .before .args .part .now in
     let i = s .loop .i in
     ⊎-elim (λ t. let k = count-turn i (lost p) true (eq-eqb (getD p i 0) 1 (t .0 .taken)) in (omega arith, omega arith, omega arith))
-    (λ t. let k = count-turn i (lost p) false (ne-eqb (getD p i 0) 1 (t .0 .left)) in (omega arith, omega arith, omega arith)) (c .if1 .came)
+    (λ t. let k = count-turn i (lost p) false (ne-eqb (getD p i 0) 1 (t .0 .left)) in (omega arith, omega arith, omega arith)) (c .if2 .came)
 
-returns : tie.Need-returns Inv-loop μ-loop
-returns c =
+returns-2 : tie.Need-returns-2 Inv-loop μ-loop
+returns-2 c =
     let s = c .before in
-    let p = s .before .args .part .now in
+    let p = s .before .before .before .args .part .now in
     let e : s .loop .i ≡ length p = omega arith in
     s .loop .inv .2 ∙ ap (λ n. countBelow n (lost p)) e ∙ lost-whole p
 
@@ -54,10 +63,13 @@ lost-in-spec =
     (tie.spec
     Inv-loop
     μ-loop
+    few-lost-requires
+    cast-result
+    returns
     loop-holds
-    shared-slice-read-if1
+    shared-slice-read-if2
     add-n
     add-i
     loop-less
     loop-again
-    returns)
+    returns-2)

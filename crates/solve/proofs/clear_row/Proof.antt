@@ -5,6 +5,8 @@ use native.Mathlib.Omega.{arith}
 use lib.ListN.{length}
 use Rattle.code.specs.StretchLaws.{stretch-length}
 use Rattle.code.specs.LentLaws.{stretch-lent, with-lent}
+use Rattle.code.specs.Stretch.{stretch}
+use Rattle.solve.specs.Elimination.{row, added}
 use Rattle.solve.specs.Flat.{rowsOf}
 use Rattle.solve.specs.FlatLaws.{row-long}
 use Rattle.solve.proofs.Laws.{row-skip, clear-part, clear-zero}
@@ -14,6 +16,7 @@ use Rattle.solve.proofs.clear_row.Tie as tie
 use Rattle.solve.proofs.clear_row.Reads as reads
 use Rattle.solve.proofs.clear_row.Lts as lts
 use Rattle.solve.proofs.add.Reads as add-reads
+use Rattle.solve.proofs.sum.Reads as sum-reads
 
 returns : tie.Need-returns
 returns c = row-skip 8 285 _ _ _ (c .if1 .taken)
@@ -35,6 +38,37 @@ returns-2 c =
     let a = c .before .before .before .before .before in
     clear-zero 8 285 (a .args .x .now) (omega arith) (a .args .i) (omega arith) (a .args .j) (omega arith) (c .if2 .taken)
 
+sub-sum : tie.Need-sub-sum
+sub-sum c = search needs
+
+part-sum-start : tie.Need-part-sum-start
+part-sum-start c = search needs
+
+part-sum-end : tie.Need-part-sum-end
+part-sum-end c = search needs
+
+sum-requires : tie.Need-sum-requires
+sum-requires c κs =
+    let a = c .before .before .before .before .before .before .before in
+    let x : List ℕ = a .args .x .now in
+    ap length (a .pre .1) ∙ row-long x (omega arith) (a .args .j) (omega arith)
+    ∙ sym (ap length (stretch-lent 16 (a .args .i) x) ∙ stretch-length 16 (a .args .i) x (omega arith))
+
+same-length : tie.Need-same-length
+same-length c = search needs
+
+returns-3 : tie.Need-returns-3
+returns-3 c =
+    let s = c .before .before in
+    let t = s .before .before .before .before .before in
+    let a = t .before .before .before in
+    let x : List ℕ = a .args .x .now in
+    let i : ℕ = a .args .i in
+    ap rowsOf (with-lent 16 i x (s .sum .last .0))
+    ∙ clear-part 8 285 x (omega arith) i (omega arith) _ (a .args .j) (omega arith) (t .if1 .left)
+    (rw (stretch-lent 16 i x, a .pre .1) at (s .sum .ensures)
+    ∙ ap (λ f. added 8 285 f (stretch 16 i x) (row (rowsOf x) (a .args .j))) (sym (s .before .before .if3 .taken)))
+
 sub-add : tie.Need-sub-add
 sub-add c = search needs
 
@@ -46,18 +80,18 @@ part-add-end c = search needs
 
 add-requires : tie.Need-add-requires
 add-requires c κs =
-    let a = c .before .before .before .before .before .before in
+    let a = c .before .before .before .before .before .before .before in
     let x : List ℕ = a .args .x .now in
     ap length (a .pre .1) ∙ row-long x (omega arith) (a .args .j) (omega arith)
     ∙ sym (ap length (stretch-lent 16 (a .args .i) x) ∙ stretch-length 16 (a .args .i) x (omega arith))
 
-same-length : tie.Need-same-length
-same-length c = search needs
+same-length-2 : tie.Need-same-length-2
+same-length-2 c = search needs
 
-returns-3 : tie.Need-returns-3
-returns-3 c =
+returns-4 : tie.Need-returns-4
+returns-4 c =
     let s = c .before .before in
-    let t = s .before .before .before .before in
+    let t = s .before .before .before .before .before in
     let a = t .before .before .before in
     let x : List ℕ = a .args .x .now in
     let i : ℕ = a .args .i in
@@ -74,9 +108,15 @@ clear-row-spec =
     add-f
     slice-read-f
     returns-2
+    sub-sum
+    part-sum-start
+    part-sum-end
+    sum-requires
+    same-length
+    returns-3
     sub-add
     part-add-start
     part-add-end
     add-requires
-    same-length
-    returns-3)
+    same-length-2
+    returns-4)

@@ -3,7 +3,8 @@ use Prim.Native.Nat.{min}
 use native.Mathlib.Omega.{arith}
 use lib.Dec.{lit<}
 use mir.Syntax.{w8}
-use Rattle.solve.specs.Elimination.{eliminated}
+use Rattle.solve.specs.Elimination.{entry, eliminated}
+use Rattle.solve.specs.FlatLaws.{entry-of}
 use Rattle.solve.proofs.Arrays.{array-system}
 use Rattle.solve.proofs.Laws.{eliminated-one}
 use borrow.Author.Needs.{needs}
@@ -19,25 +20,24 @@ use Rattle.solve.proofs.rows_at.Reads as rows-at-reads
 at-most-4-requires : tie.Need-at-most-4-requires
 at-most-4-requires c κs = search needs
 
-index-1-if2 : tie.Need-index-1-if2
-index-1-if2 c = search needs
-
-index-2-if2 : tie.Need-index-2-if2
-index-2-if2 c = search needs
-
-returns : tie.Need-returns
-returns c =
-    let n = c .before .before .before in
-    let s = n .before in
-    let small = array-system w8 16 4 (s .args .t1) _ (s .good .0) 1 (omega arith) .small 0 (omega arith) in
-    let e : 1 ≡ min (s .args .t) 4 = sym (c .before .before .if1 .taken) ∙ n .at-most-4 .ensures in
-    eliminated-one 8 285 (lit< tt) (s .args .t1) small (c .if2 .taken) ∙ ap (eliminated 8 285 (s .args .t1)) e
-
 slice-aggregate-lay : tie.Need-slice-aggregate-lay
 slice-aggregate-lay c = search needs
 
 lay-requires : tie.Need-lay-requires
 lay-requires c κs = search needs
+
+array-read-if2 : tie.Need-array-read-if2
+array-read-if2 c = search needs
+
+returns : tie.Need-returns
+returns c =
+    let l = c .before .before .before in
+    let s = l .before .before .before in
+    let small = array-system w8 16 4 (s .args .rows) _ (s .good .0) 1 (omega arith) .small 0 (omega arith) in
+    let e : 1 ≡ min (s .args .t) 4 = sym (c .before .if1 .taken) ∙ l .before .before .at-most-4 .ensures in
+    eliminated-one 8 285 (lit< tt) (s .args .rows) small
+    (ap (λ M. entry M 0 0) (sym (l .lay .ensures)) ∙ entry-of _ 0 0 (omega arith) (omega arith) ∙ c .if2 .taken)
+    ∙ ap (eliminated 8 285 (s .args .rows)) e
 
 slice-aggregate-eliminate-columns : tie.Need-slice-aggregate-eliminate-columns
 slice-aggregate-eliminate-columns c = search needs
@@ -54,19 +54,18 @@ rows-at-requires c κs = search needs
 returns-2 : tie.Need-returns-2
 returns-2 c =
     let k = c .before .before .before in
-    let l = k .before .before .before in
-    c .rows-at .ensures ∙ k .eliminate-columns .ensures ∙ ap₂ (eliminated 8 285) (l .lay .ensures) (l .before .before .before .at-most-4 .ensures)
+    let l = k .before .before .before .before in
+    c .rows-at .ensures ∙ k .eliminate-columns .ensures ∙ ap₂ (eliminated 8 285) (l .lay .ensures) (l .before .before .at-most-4 .ensures)
 
 pub eliminate-spec : {M : Type 1} → statement M
 eliminate-spec =
     tie.close
     (tie.spec
     at-most-4-requires
-    index-1-if2
-    index-2-if2
-    returns
     slice-aggregate-lay
     lay-requires
+    array-read-if2
+    returns
     slice-aggregate-eliminate-columns
     eliminate-columns-requires
     slice-aggregate-rows-at

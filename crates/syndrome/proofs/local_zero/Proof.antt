@@ -21,20 +21,26 @@ zero-sums-requires c κs = search needs
 returns-3 : tie.Need-returns-3
 returns-3 c = (λ _ _. c .zero-sums .ensures, λ n. absurd (n (omega arith) (omega arith)))
 
+zero-sums-requires-2 : tie.Need-zero-sums-requires-2
+zero-sums-requires-2 c κs = search needs
+
+returns-4 : tie.Need-returns-4
+returns-4 c = (λ _ _. c .zero-sums2 .ensures, λ n. absurd (n (omega arith) (omega arith)))
+
 padded-requires : tie.Need-padded-requires
 padded-requires c κs = search needs
 
 slice-aggregate-zero-sums : tie.Need-slice-aggregate-zero-sums
 slice-aggregate-zero-sums c = search needs
 
-zero-sums-requires-2 : tie.Need-zero-sums-requires-2
-zero-sums-requires-2 c κs = search needs
+zero-sums-requires-3 : tie.Need-zero-sums-requires-3
+zero-sums-requires-3 c κs = search needs
 
-returns-4 : tie.Need-returns-4
-returns-4 c =
+returns-5 : tie.Need-returns-5
+returns-5 c =
     let p = c .before .before in
-    let a = p .before .before .before .before .before .args in
-    (λ narrow _. c .zero-sums2 .ensures ∙ padded-local (p .padded .ensures) narrow (a .c), λ n. absurd (n (omega arith) (omega arith)))
+    let a = p .before .before .before .before .before .before .args in
+    (λ narrow _. c .zero-sums3 .ensures ∙ padded-local (p .padded .ensures) narrow (a .c), λ n. absurd (n (omega arith) (omega arith)))
 
 pub local-zero-spec : {M : Type 1} → statement M
 local-zero-spec =
@@ -44,7 +50,9 @@ local-zero-spec =
     returns-2
     zero-sums-requires
     returns-3
+    zero-sums-requires-2
+    returns-4
     padded-requires
     slice-aggregate-zero-sums
-    zero-sums-requires-2
-    returns-4)
+    zero-sums-requires-3
+    returns-5)

@@ -1,0 +1,63 @@
+use mathlib.Core.Path.{_≡_, sym, ap, _∙_}
+use mathlib.Core.Logic.{⊎-elim}
+use mathlib.Core.Bool.{true, false}
+use Prim.Native.Nat.{_-_, _≤_}
+use native.Mathlib.Omega.{arith}
+use borrow.Author.Tests.{eq-eqb, ne-eqb}
+use lib.ListN.{length, getD}
+use Rattle.counting.specs.Count.{countBelow}
+use Rattle.counting.specs.CountLaws.{total-none}
+use Rattle.code.specs.Marks.{lost}
+use Rattle.marks.specs.CountsLaws.{count-turn, lost-whole}
+use Rattle.marks.proofs.few_lost.Statement.{statement}
+use Rattle.marks.proofs.few_lost.Tie as tie
+
+abbrev Inv-loop : tie.InvT-loop
+Inv-loop part n₀ i₀ n i = (length part ≤ 16) × (i ≤ length part) × (n ≤ i) × (n ≡ countBelow i (lost part))
+
+abbrev μ-loop : tie.MeasureT-loop
+μ-loop part n₀ i₀ n i = length part - i
+
+loop-holds : tie.Need-loop-holds Inv-loop μ-loop
+loop-holds c = (omega arith, omega arith, omega arith, sym (total-none _))
+
+shared-slice-read-mark : tie.Need-shared-slice-read-mark Inv-loop μ-loop
+shared-slice-read-mark c = omega arith
+
+add-n : tie.Need-add-n Inv-loop μ-loop
+add-n c = omega arith
+
+add-i : tie.Need-add-i Inv-loop μ-loop
+add-i c = omega arith
+
+loop-less : tie.Need-loop-less Inv-loop μ-loop
+loop-less c = omega arith
+
+loop-again : tie.Need-loop-again Inv-loop μ-loop
+loop-again c =
+    let s = c .before .before .before in
+    let p = s .before .args .part .now in
+    let i = s .loop .i in
+    ⊎-elim (λ t. let k = count-turn i (lost p) true (eq-eqb (getD p i 0) 1 (t .0 .taken)) in (omega arith, omega arith, omega arith, omega arith))
+    (λ t. let k = count-turn i (lost p) false (ne-eqb (getD p i 0) 1 (t .0 .left)) in (omega arith, omega arith, omega arith, omega arith)) (c .if1 .came)
+
+returns : tie.Need-returns Inv-loop μ-loop
+returns c =
+    let s = c .before in
+    let p = s .before .args .part .now in
+    let e : s .loop .i ≡ length p = omega arith in
+    s .loop .inv .3 ∙ ap (λ n. countBelow n (lost p)) e ∙ lost-whole p
+
+pub few-lost-spec : {M : Type 1} → statement M
+few-lost-spec =
+    tie.close
+    (tie.spec
+    Inv-loop
+    μ-loop
+    loop-holds
+    shared-slice-read-mark
+    add-n
+    add-i
+    loop-less
+    loop-again
+    returns)

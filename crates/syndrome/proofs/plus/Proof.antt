@@ -1,0 +1,67 @@
+use mathlib.Core.Path.{_≡_}
+use mathlib.Core.List.{List}
+use Prim.Native.Nat.{ℕ, _-_, _≤_, _<_}
+use native.Mathlib.Omega.{arith}
+use lib.ListN.{length, getD, length-set}
+use borrow.Author.Needs.{needs}
+use Rattle.binary_field.specs.Xor.{_⊕_}
+use Rattle.binary_field.specs.XorLaws.{⊕-bits}
+use Rattle.syndrome.proofs.Laws.{row-set}
+use Rattle.syndrome.proofs.plus.Statement.{statement}
+use Rattle.syndrome.proofs.plus.Tie as tie
+use Rattle.syndrome.proofs.plus.Reads as reads
+use Rattle.syndrome.proofs.plus.Lts as lts
+
+abbrev Inv-loop : tie.InvT-loop
+Inv-loop part x r₀ i₀ r i =
+    (i ≤ 16) × (16 ≤ length part) × (length r ≡ 16) × ((j : ℕ) → j < i → getD r j 0 ≡ getD x j 0 ⊕ getD part j 0)
+
+abbrev μ-loop : tie.MeasureT-loop
+μ-loop part x r₀ i₀ r i = 16 - i
+
+loop-holds : tie.Need-loop-holds Inv-loop μ-loop
+loop-holds c = (omega arith, omega arith, search needs, λ j l. absurd (omega arith))
+
+array-read-r : tie.Need-array-read-r Inv-loop μ-loop
+array-read-r c = omega arith
+
+shared-slice-read-r : tie.Need-shared-slice-read-r Inv-loop μ-loop
+shared-slice-read-r c = omega arith
+
+array-write-r : tie.Need-array-write-r Inv-loop μ-loop
+array-write-r c = omega arith
+
+add-i : tie.Need-add-i Inv-loop μ-loop
+add-i c = omega arith
+
+loop-less : tie.Need-loop-less Inv-loop μ-loop
+loop-less c = omega arith
+
+loop-again : tie.Need-loop-again Inv-loop μ-loop
+loop-again c =
+    let s = c .before .before in
+    let a = s .before .args in
+    let x : List ℕ = a .t1 in (
+      omega arith,
+      omega arith,
+      simp length-set (s .loop .inv .2),
+      row-set (λ j. getD x j 0 ⊕ getD (a .part .now) j 0) (s .loop .r) (s .loop .i) _ (let e = s .loop .inv .2 in omega arith) (⊕-bits _ _) (s .loop .inv .3),
+    )
+
+returns : tie.Need-returns Inv-loop μ-loop
+returns c = λ j l. c .before .loop .inv .3 j (omega arith)
+
+pub plus-spec : {M : Type 1} → statement M
+plus-spec =
+    tie.close
+    (tie.spec
+    Inv-loop
+    μ-loop
+    loop-holds
+    array-read-r
+    shared-slice-read-r
+    array-write-r
+    add-i
+    loop-less
+    loop-again
+    returns)
