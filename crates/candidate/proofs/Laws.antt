@@ -275,16 +275,18 @@ weights-of m w c g part l long =
     (ap (λ n. groupSum byteEdition n part 0 (coefficient byteEdition c)) long ∙ sym (lone-word m w g part l long byteEdition _))
     (ap (λ n. groupSum byteEdition n part 0 (secondCoefficient byteEdition c g)) long ∙ sym (lone-word m w g part l long byteEdition _))
 
--- the sums across after a multiple of another word was added
-pub across-moved : (m w c u : ℕ) (before h : List ℕ) → movedBy u (acrossOf m w c h) (acrossOf m w c before)
+-- a sum over the word after a multiple of another word was added
+pub word-moved : (E : Edition) (m w u : ℕ) (before h : List ℕ) (f : ℕ → ℕ → ℕ) → wordSum E m w (combined E (m * w) before 1 (λ _. u) (λ _. h)) f
+    ≡ wordSum E m w before f ⊕ times E u (wordSum E m w h f)
+word-moved E m w u before h f =
+    combined-word E m w 1 before (λ _. u) (λ _. h) f
+    ∙ ap (λ s. wordSum E m w before f ⊕ s) (sum-suc 0 _ ∙ ap (λ s. s ⊕ times E u (wordSum E m w h f)) (sum-none _) ∙ ⊕-zero-l _)
+
+-- the sums across
+across-moved : (m w c u : ℕ) (before h : List ℕ) → movedBy u (acrossOf m w c h) (acrossOf m w c before)
     ≡ acrossOf m w c (combined byteEdition (m * w) before 1 (λ _. u) (λ _. h))
-across-moved m w c u before h = sym (ap₂ (λ a b. record { first = a; second = b }) (turn _) (turn _))
-  where
-    turn : (f : ℕ → ℕ → ℕ) → wordSum byteEdition m w (combined byteEdition (m * w) before 1 (λ _. u) (λ _. h)) f
-        ≡ wordSum byteEdition m w before f ⊕ times byteEdition u (wordSum byteEdition m w h f)
-    turn f = combined-word byteEdition m w 1 before (λ _. u) (λ _. h) f
-        ∙ ap (λ s. wordSum byteEdition m w before f ⊕ s) (sum-suc 0 _ ∙ ap (λ s. s ⊕ times byteEdition u (wordSum byteEdition m w h f)) (sum-none _)
-        ∙ ⊕-zero-l _)
+across-moved m w c u before h =
+    sym (ap₂ (λ a b. record { first = a; second = b }) (word-moved byteEdition m w u before h _) (word-moved byteEdition m w u before h _))
 
 pub moved-to : (m w c u : ℕ) (before after h : List ℕ) {a s r : Sums} → r ≡ movedBy u a s → a ≡ acrossOf m w c h → s ≡ acrossOf m w c before
     → after ≡ combined byteEdition (m * w) before 1 (λ _. u) (λ _. h) → r ≡ acrossOf m w c after
@@ -302,8 +304,3 @@ solved-sums {A} {B} {S} {a} {b} {u = u} {v = v} e f g Q =
 pub few-at : {m w c : ℕ} {marks bound : List ℕ} {x a b : ℕ} → BoundAll m w c marks bound → FreePlaces marks bound x a b → length marks ≡ m * w
     → (i : ℕ) → i < x → BoundFew m w c (freeAt a b i) bound
 few-at K P size i l = record { size = K .size ∙ size; few = K .bound-few; own = P .not-bound i l }
-
--- ---- the marks bound, from a copy of the marks
-pub bound-copy : {B : Limits} {m w c : ℕ} {marks from bound : List ℕ} → GoodIn B m w c → length marks ≡ m * w → from ≡ marks
-    → (GoodIn B m w c → length from ≡ m * w → BoundAll m w c from bound) → BoundAll m w c marks bound
-bound-copy {B} {m} {w} {c} {bound = bound} good size e k = subst (λ xs. BoundAll m w c xs bound) e (k good (ap length e ∙ size))

@@ -3,7 +3,7 @@ use mathlib.Core.Path.{_≡_, refl, sym, ap, _∙_, subst}
 use mathlib.Core.Bool.{Bool, true, false, not, _&&_, true≢false}
 use mathlib.Core.List.{List, []}
 use Prim.Native.Nat.{ℕ, zero, suc, _+_, _-_, _*_, _/_, _%_, _<_, _≤_}
-use native.Mathlib.Nat.{div-add-mod', mod-lt, mul-le-mul-right, le-refl}
+use native.Mathlib.Nat.{div-add-mod', mod-lt, le-refl}
 use native.Mathlib.Omega.{arith}
 use native.Mathlib.Decide.{decLt, ℕ-discrete}
 use borrow.Author.Tests.{eq-eqb, ne-eqb}
@@ -21,8 +21,8 @@ use Rattle.code.specs.StretchLaws.{stretch-at}
 use Rattle.code.specs.OneGroup.{LocalWay}
 use Rattle.code.specs.OneGroupLaws.{local-way}
 use Rattle.erasures.specs.Bound.{free}
-use Rattle.erasures.specs.Whole.{BoundAll, BoundUpTo}
-use Rattle.erasures.specs.WholeLaws.{upto-none, upto-more, bound-all}
+use Rattle.erasures.specs.Whole.{boundGroups, BoundAll}
+use Rattle.erasures.specs.WholeLaws.{bound-groups}
 use Rattle.erasures.specs.Places.{FreePlaces, NextFree, freeAt}
 use Rattle.erasures.specs.PlacesLaws.{free-none, free-one, free-two}
 use Rattle.candidate.specs.Frame.{Frame}
@@ -72,13 +72,6 @@ split true false e = (refl, refl)
 split false b e = absurd (true≢false (sym e))
 
 -- ---- there are such columns
--- the first c lost places of each of the first g groups are bound
-bounds : (m w c : ℕ) (marks : List ℕ) → length marks ≡ m * w → (g : ℕ) → g ≤ m → (bound : List ℕ) × BoundUpTo g w c marks bound
-bounds m w c marks size zero l = (marks, upto-none w c marks)
-bounds m w c marks size (suc g) l =
-    let K = bounds m w c marks size g (omega arith) in
-    (_, upto-more g w c marks (K .0) (subst (λ n. suc g * w ≤ n) (sym size) (mul-le-mul-right w l)) (K .1))
-
 -- the next free place, from start on
 next : (marks bound : List ℕ) (d start : ℕ) → start + d ≡ length marks → (r : ℕ) × NextFree marks bound start r
 next marks bound zero start e = (start, record { on = le-refl start; passed = λ p a b. absurd (omega arith); found = λ l. absurd (omega arith) })
@@ -157,7 +150,7 @@ module _ {E : Edition} (S : Sound E) (m w c : ℕ) (good : GoodIn (E .limits) m 
         N = next marks bound (length marks) 0 (omega arith)
 
   pub some-left : Left E m w c marks
-  some-left = let K = bounds m w c marks size m (le-refl m) in left (K .0) (bound-all m w c marks (K .0) size (K .1))
+  some-left = left (boundGroups m w c marks) (bound-groups m w c marks size)
 
   -- ---- they are as many as the excess
   module _ (low : excess m w c marks ≤ 2) where

@@ -253,7 +253,7 @@ fn rebuild(
     ensures { λ r. ⌜ r ≡ acrossOf m w c (now (out .exit)) ⌝ }
 {
     buffers::copy(marks, bound);
-    erasures::clear_free(m, w, c, bound);
+    erasures::clear_free(w, c, bound);
     blank_lost(word, marks, out);
     fill_groups(m, w, c, bound, out);
     mend(m, w, c, marks, bound, out)

@@ -1,16 +1,17 @@
 -- The steps of the loops, on lists.
-use mathlib.Core.Path.{_≡_, refl, sym, ap, _∙_, subst}
+use mathlib.Core.Path.{_≡_, refl, ap, ap₂, _∙_}
 use mathlib.Core.Bool.{Bool, true, false, not, _&&_}
 use mathlib.Core.List.{List, _++_, append-assoc, append-nil}
 use Prim.Native.Nat.{ℕ, suc, _+_, _-_, _*_, _≤_, _<_}
-use native.Mathlib.Nat.{suc-mul, mul-le-mul-right}
+use native.Mathlib.Nat.{suc-mul}
 use native.Mathlib.Numerals.{add-one}
 use native.Mathlib.Omega.{arith}
 use lib.Dec.{eqb}
 use lib.ListN.{length, getD, take, drop, set, drop-of-length-le}
-use lib.Seq.{drop-cons, take-suc, take-suc-set, drop-set-lt, take-all, drop-drop}
+use lib.Seq.{drop-cons, take-suc, take-suc-set, drop-set-lt, take-all}
 use borrow.Author.Tests.{eq-eqb, ne-eqb}
 use Rattle.code.specs.Stretch.{stretch, withStretch}
+use Rattle.code.specs.LentLaws.{stretch-lent, with-lent}
 use Rattle.code.specs.Marks.{lost}
 use Rattle.erasures.specs.Bound.{free, boundOf}
 use Rattle.erasures.specs.Whole.{BoundUpTo}
@@ -43,21 +44,17 @@ pub bound-end : (xs : List ℕ) (i d : ℕ) → length xs ≤ i → take i xs ++
 unfolding boundOf
 bound-end xs i d h = rw (drop-of-length-le xs, take-all, append-nil)
 
--- a group ends within the word
-pub room : (g w m : ℕ) → g < m → g * w + w ≤ m * w
-room g w m l = let z : suc g * w ≤ m * w = mul-le-mul-right w l in omega (arith, suc-mul g w)
+-- the part of group g, which starts at a, is lent and comes back as ys
+module _ (g w c a : ℕ) (marks held ys : List ℕ) (at : a ≡ g * w) (y : ys ≡ boundOf c (take (a + w - a) (drop a held))) where
+  put-back : take a held ++ (ys ++ drop (a + w - a) (drop a held)) ≡ withStretch w g held (boundOf c (stretch w g held))
+  put-back =
+      ap₂ (λ n x. take n held ++ (x ++ drop (n + w - n) (drop n held))) at (y ∙ ap (λ n. boundOf c (take (n + w - n) (drop n held))) at)
+      ∙ with-lent w g held (boundOf c (take (g * w + w - g * w) (drop (g * w) held)))
+      ∙ ap (λ p. withStretch w g held (boundOf c p)) (stretch-lent w g held)
 
--- the group's part is lent as k = w places and comes back as ys
-module _ (m g w c k : ℕ) (marks held ys : List ℕ) (e : k ≡ w) (y : ys ≡ boundOf c (take k (drop (g * w) held))) where
-  put-back : take (g * w) held ++ (ys ++ drop k (drop (g * w) held)) ≡ withStretch w g held (boundOf c (stretch w g held))
-  unfolding withStretch stretch
-  put-back = rw (y, e, drop-drop, suc-mul)
-
-  pub group-step : length marks ≡ m * w → g < m → BoundUpTo g w c marks held
-      → BoundUpTo (g + 1) w c marks (take (g * w) held ++ (ys ++ drop k (drop (g * w) held)))
-  group-step n l K =
-      let f : suc g * w ≤ length marks = subst (λ n. suc g * w ≤ n) (sym n) (mul-le-mul-right w l) in
-      rw (put-back, add-one) (upto-more g w c marks held f K)
+  pub group-step : a + w ≤ length marks → BoundUpTo g w c marks held
+      → BoundUpTo (g + 1) w c marks (take a held ++ (ys ++ drop (a + w - a) (drop a held)))
+  group-step fits K = rw (put-back, add-one) (upto-more g w c marks held (let e = suc-mul g w in omega arith) K)
 
 -- ---- a place whose mark is bound is not free
 pub bound-not-free : (marks bound : List ℕ) (p : ℕ) → getD marks p 0 ≡ getD bound p 0 → free marks bound p ≡ false

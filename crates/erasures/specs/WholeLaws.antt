@@ -2,7 +2,7 @@
 use mathlib.Core.Path.{_≡_, refl, sym, ap, ap₂, _∙_, subst}
 use mathlib.Core.Bool.{Bool, true, false, not, _&&_}
 use mathlib.Core.List.{List}
-use Prim.Native.Nat.{ℕ, suc, _+_, _-_, _*_, _/_, _%_, _≤_, _<_, min}
+use Prim.Native.Nat.{ℕ, zero, suc, _+_, _-_, _*_, _/_, _%_, _≤_, _<_, min}
 use native.Mathlib.Nat.{suc-mul, mul-le-mul-right, div-add-mod', div-lt-iff-lt-mul, mod-lt, min-le-left}
 use native.Mathlib.Omega.{arith}
 use native.Mathlib.Decide.{decLt}
@@ -14,6 +14,8 @@ use Rattle.counting.specs.CountLaws.{total-ext, total-sum, total-rows}
 use Rattle.code.specs.Marks.{lost, lostIn, excess}
 use Rattle.code.specs.Stretch.{stretch, withStretch}
 use Rattle.code.specs.StretchLaws.{stretch-at, stretch-length, stretch-count, with-length, with-inside, with-before, with-after}
+use Rattle.shape.specs.Shapes.{Limits, GoodIn}
+use Rattle.marks.specs.CountsLaws.{groups-whole}
 use Rattle.erasures.specs.Bound.{free, boundOf}
 use Rattle.erasures.specs.BoundLaws.{bound-length, bound-present, bound-count, bound-full}
 use Rattle.erasures.specs.Whole.{boundGroups, BoundAll, BoundUpTo}
@@ -124,7 +126,7 @@ module _ (m w c : ℕ) (marks bound : List ℕ) (long : length marks ≡ m * w) 
       let f = few g l in
       omega arith
 
-  pub bound-all : BoundAll m w c marks bound
+  bound-all : BoundAll m w c marks bound
   unfolding excess
   bound-all = record {
     size = K .size;
@@ -143,3 +145,23 @@ module _ (m w c : ℕ) (marks bound : List ℕ) (long : length marks ≡ m * w) 
         | yes k ↦ k
         | no k ↦ (let e : w ≡ 0 = omega arith in let q : p < m * 0 = subst (λ n. p < m * n) e l in absurd (omega arith))
       ]
+
+-- the whole groups of a list, bound
+pub upto-groups : (w c : ℕ) (marks : List ℕ) (g : ℕ) → g * w ≤ length marks → BoundUpTo g w c marks (boundGroups g w c marks)
+unfolding boundGroups
+upto-groups w c marks zero fits = upto-none w c marks
+upto-groups w c marks (suc g) fits =
+    let e = suc-mul g w in
+    let K = upto-groups w c marks g (omega arith) in
+    subst (λ xs. BoundUpTo (suc g) w c marks xs) (upto-more g w c marks (boundGroups g w c marks) fits K .equal) (upto-more g w c marks (boundGroups g w c marks) fits K)
+
+-- so are all of them, where the list has m·w places
+pub bound-groups : (m w c : ℕ) (marks : List ℕ) → length marks ≡ m * w → BoundAll m w c marks (boundGroups m w c marks)
+bound-groups m w c marks long = bound-all m w c marks (boundGroups m w c marks) long (upto-groups w c marks m (omega arith))
+
+-- the marks bound, from a copy of the marks
+pub bound-copy : {B : Limits} {m w c : ℕ} {marks from bound : List ℕ} → GoodIn B m w c → length marks ≡ m * w → from ≡ marks
+    → bound ≡ boundGroups (length from / w) w c from → BoundAll m w c marks bound
+bound-copy {m = m} {w = w} {c = c} {marks = marks} good size e k =
+    let pos : 0 < w = (let h = good .wide in omega arith) in
+    subst (BoundAll m w c marks) (sym (k ∙ ap₂ (λ n x. boundGroups n w c x) (groups-whole m w pos (ap length e ∙ size)) e)) (bound-groups m w c marks size)

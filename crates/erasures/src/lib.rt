@@ -1,11 +1,10 @@
 // The lost places of a word: in each group the first c are bound for the group's own equations, the others are free.
 ghost use mathlib.Core.Path.{_≡_};
 ghost use mathlib.Core.Bool.{true, false};
-ghost use Prim.Native.Nat.{ℕ, _*_, _<_};
+ghost use Prim.Native.Nat.{ℕ, _/_, _<_};
 ghost use lib.ListN.{length, getD};
-ghost use Rattle.shape.specs.Shapes.{Good};
 ghost use Rattle.erasures.specs.Bound.{free, boundOf};
-ghost use Rattle.erasures.specs.Whole.{boundGroups, BoundAll};
+ghost use Rattle.erasures.specs.Whole.{boundGroups};
 ghost use Rattle.erasures.specs.Places.{FreePlaces, NextFree};
 ghost use Rattle.erasures.specs.FirstTwo.{firstTwo};
 ghost use Rattle.erasures.specs.FirstTwoLaws.{freePlaces};
@@ -35,23 +34,18 @@ pub fn clear_free_part(part: &mut [u8], c: usize)
     }
 }
 
-// Clears the marks of the free places of every group. A shape that is not good, or marks of another length, are left as they are.
-pub fn clear_free(m: usize, w: usize, c: usize, marks: &mut [u8])
-    ensures bound { λ _. ⌜ (Good m w c → length (now (marks .entry)) ≡ m * w → BoundAll m w c (now (marks .entry)) (now (marks .exit))) ⌝ }
-    ensures size { λ _. ⌜ length (now (marks .exit)) ≡ length (now (marks .entry)) ⌝ }
-    ensures equal { λ _. ⌜ (Good m w c → length (now (marks .entry)) ≡ m * w → now (marks .exit) ≡ boundGroups m w c (now (marks .entry))) ⌝ }
-    ensures other { λ _. ⌜ ((Good m w c → length (now (marks .entry)) ≡ m * w → ⊥) → now (marks .exit) ≡ now (marks .entry)) ⌝ }
+// Clears the marks of the free places of every group of w places that is whole; a width of 0 has no group.
+pub fn clear_free(w: usize, c: usize, marks: &mut [u8])
+    ensures { λ _. ⌜ now (marks .exit) ≡ boundGroups (length (now (marks .entry)) / w) w c (now (marks .entry)) ⌝ }
 {
-    if shape::word_refusal(m, w, c, marks.len()) != 0 {
+    if w == 0 {
         return;
     }
-    let last = m - 1;
-    let mut g: usize = 0;
-    while g <= last {
-        let a = g * w;
+    let mut a: usize = 0;
+    while w <= marks.len() - a {
         let e = a + w;
         clear_free_part(&mut marks[a..e], c);
-        g += 1;
+        a = e;
     }
 }
 

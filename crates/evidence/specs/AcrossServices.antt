@@ -4,21 +4,21 @@ use mathlib.Core.Logic.{_↔_}
 use mathlib.Core.List.{List}
 use Prim.Native.Nat.{ℕ}
 use Rattle.code.specs.Word.{Codeword}
-use Rattle.recover.specs.Recover.{recoverOf}
-use Rattle.byte_edition.specs.Edition.{byteEdition}
+use Rattle.recover.specs.Recover.{recoverIn}
+use Rattle.code.specs.Edition.{Edition}
 use Rattle.recover.specs.DemandTwo.{Named}
 use Rattle.word_check.specs.declared.Checked.{Checked}
-use Rattle.word_check.specs.Checked.{checkedOf}
+use Rattle.word_check.specs.Checked.{checkedIn}
 use Rattle.stream.specs.NoneLost.{noneLost}
 use Rattle.desk_serve.specs.Serve.{Serving}
 
 -- Check answers as Recover does with no place lost: yes where that gives 0, and no with the group of its 9.
-pub record CheckedAsRecovered (m w c : ℕ) (word : List ℕ) : Type 0 where
-  pub yes : (checkedOf m w c word ≡ Checked.Codeword) ↔ ((recoverOf m w c word (noneLost word)) .number ≡ 0)
-  pub no : (g : ℕ) → (checkedOf m w c word ≡ Checked.Other g)
-      ↔ (((recoverOf m w c word (noneLost word)) .number ≡ 9) × ((recoverOf m w c word (noneLost word)) .group ≡ g))
+pub record CheckedAsRecovered (E : Edition) (m w c : ℕ) (word : List ℕ) : Type 0 where
+  pub yes : (checkedIn E m w c word ≡ Checked.Codeword) ↔ ((recoverIn E m w c word (noneLost word)) .number ≡ 0)
+  pub no : (g : ℕ) → (checkedIn E m w c word ≡ Checked.Other g)
+      ↔ (((recoverIn E m w c word (noneLost word)) .number ≡ 9) × ((recoverIn E m w c word (noneLost word)) .group ≡ g))
   -- "the lowest group whose present bytes no filling can satisfy locally, or m"
-  pub named : (g : ℕ) → checkedOf m w c word ≡ Checked.Other g → Named byteEdition m w c word (noneLost word) g
+  pub named : (g : ℕ) → checkedIn E m w c word ≡ Checked.Other g → Named E m w c word (noneLost word) g
 
 -- Two serves under one handle end alike: the same number, the same group, the same desk and, where the number is 0, the same word.
 pub record SameServing (a b : Serving) : Type 0 where

@@ -26,7 +26,7 @@ use Rattle.recover.specs.AttemptLaws.{accepted, eight-exactly}
 use Rattle.recover.specs.DemandTwo.{Named}
 use Rattle.recover.specs.DemandTwoLaws.{good-start, demand-two, lost-bytes}
 use Rattle.word_check.specs.declared.Checked.{Checked}
-use Rattle.word_check.specs.Checked.{wholeGroup, checkedIn, checkedOf}
+use Rattle.word_check.specs.Checked.{wholeGroupIn, checkedIn}
 use Rattle.word_check.specs.Laws.{yes-exactly}
 use Rattle.stream.specs.NoneLost.{noneLost}
 use Rattle.stream.specs.NoneLostLaws.{none-marked, codeword-stays, other-nine}
@@ -53,12 +53,12 @@ pub recover-as-judge : (m w c : ℕ) (word marks : List ℕ) → Good m w c → 
     → length marks ≡ m * w → ((p : ℕ) → getD marks p 0 < 2) → ((recoverOf m w c word marks) .number ≡ 8) ↔ (judgedNumberOf m w c marks ≡ 8)
 recover-as-judge m w c word marks good size small marks-size each = recover-as-judge-in bytes-sound m w c word marks good size small marks-size each
 
-module _ (m w c : ℕ) (word : List ℕ) (good : Good m w c) (s : Symbols byteEdition (m * w) word) where
+module _ {E : Edition} (S : Sound E) (m w c : ℕ) (word : List ℕ) (good : GoodIn (E .limits) m w c) (s : Symbols E (m * w) word) where
   -- of a codeword
-  checked-yes : Codeword byteEdition m w c word → CheckedAsRecovered m w c word
+  checked-yes : Codeword E m w c word → CheckedAsRecovered E m w c word
   checked-yes C =
-      let k = yes-exactly byteEdition m w c word good s .1 C in
-      let r : (recoverOf m w c word (noneLost word)) .number ≡ 0 = ap (λ o. o .number) (codeword-stays good word s C) in
+      let k = yes-exactly E m w c word good s .1 C in
+      let r : (recoverIn E m w c word (noneLost word)) .number ≡ 0 = ap (λ o. o .number) (codeword-stays S good word s C) in
       record {
         yes = ((λ _. r), (λ _. k));
         no = λ g. ((λ q. absurd (let z : _≡_ {A = ℕ} 0 1 = cc in omega arith)), (λ q. absurd (let z = q .0 in omega arith)));
@@ -66,23 +66,23 @@ module _ (m w c : ℕ) (word : List ℕ) (good : Good m w c) (s : Symbols byteEd
       }
 
   -- of another word
-  checked-other : isCodeword byteEdition m w c word ≡ false → checkedOf m w c word ≡ Checked.Other (wholeGroup m w c word)
+  checked-other : isCodeword E m w c word ≡ false → checkedIn E m w c word ≡ Checked.Other (wholeGroupIn E m w c word)
   unfolding checkedIn
   checked-other e = rw (word-of-good m w c (length word) good (s .size), e)
 
-  checked-no : isCodeword byteEdition m w c word ≡ false → CheckedAsRecovered m w c word
+  checked-no : isCodeword E m w c word ≡ false → CheckedAsRecovered E m w c word
   checked-no e =
       let k = checked-other e in
-      let r = other-nine good word s e in
-      let n : (recoverOf m w c word (noneLost word)) .number ≡ 9 = ap (λ o. o .number) r in
-      let h : (recoverOf m w c word (noneLost word)) .group ≡ wholeGroup m w c word = ap (λ o. o .group) r in
-      let M = none-marked good word s in
-      let D = demand-two bytes-sound m w c word (noneLost word) good (s .size) (s .each) (M .size) (M .each) in
-      let same : (g : ℕ) → checkedOf m w c word ≡ Checked.Other g → wholeGroup m w c word ≡ g = λ g q. ap otherGroup (sym k ∙ q) in
+      let r = other-nine S good word s e in
+      let n : (recoverIn E m w c word (noneLost word)) .number ≡ 9 = ap (λ o. o .number) r in
+      let h : (recoverIn E m w c word (noneLost word)) .group ≡ wholeGroupIn E m w c word = ap (λ o. o .group) r in
+      let M = none-marked S good word s in
+      let D = demand-two S m w c word (noneLost word) good (s .size) (s .each) (M .size) (M .each) in
+      let same : (g : ℕ) → checkedIn E m w c word ≡ Checked.Other g → wholeGroupIn E m w c word ≡ g = λ g q. ap otherGroup (sym k ∙ q) in
       record {
         yes = ((λ q. absurd (let z : _≡_ {A = ℕ} 0 1 = cc in omega arith)), (λ q. absurd (omega arith)));
         no = λ g. ((λ q. (n, h ∙ same g q)), (λ q. k ∙ ap Checked.Other (sym h ∙ q .1)));
-        named = λ g q. subst (Named byteEdition m w c word (noneLost word)) (h ∙ same g q) (D .group n);
+        named = λ g q. subst (Named E m w c word (noneLost word)) (h ∙ same g q) (D .group n);
       }
     where
       otherGroup : Checked → ℕ
@@ -90,16 +90,22 @@ module _ (m w c : ℕ) (word : List ℕ) (good : Good m w c) (s : Symbols byteEd
       otherGroup (Checked.Other g) = g
       otherGroup (Checked.Refused r) = 0
 
--- for a good shape and n bytes
-pub check-as-recover : (m w c : ℕ) (word : List ℕ) → Good m w c → length word ≡ m * w → ((p : ℕ) → getD word p 0 < 256) → CheckedAsRecovered m w c word
-check-as-recover m w c word good size small = go (isCodeword byteEdition m w c word) refl
+-- in every sound edition, for a good shape and n symbols
+pub check-as-recover-in : {E : Edition} (S : Sound E) (m w c : ℕ) (word : List ℕ) → GoodIn (E .limits) m w c → length word ≡ m * w
+    → ((p : ℕ) → getD word p 0 < 2 ^ E .bits) → CheckedAsRecovered E m w c word
+check-as-recover-in {E} S m w c word good size small = go (isCodeword E m w c word) refl
   where
-    s : Symbols byteEdition (m * w) word
+    s : Symbols E (m * w) word
     s = record { size = size; each = small }
 
-    go : (b : Bool) → isCodeword byteEdition m w c word ≡ b → CheckedAsRecovered m w c word
-    go true e = checked-yes m w c word good s (record { symbols = s; zero = subst T (sym e) tt })
-    go false e = checked-no m w c word good s e
+    go : (b : Bool) → isCodeword E m w c word ≡ b → CheckedAsRecovered E m w c word
+    go true e = checked-yes S m w c word good s (record { symbols = s; zero = subst T (sym e) tt })
+    go false e = checked-no S m w c word good s e
+
+-- of bytes
+pub check-as-recover : (m w c : ℕ) (word : List ℕ) → Good m w c → length word ≡ m * w → ((p : ℕ) → getD word p 0 < 256)
+    → CheckedAsRecovered byteEdition m w c word
+check-as-recover m w c word good size small = check-as-recover-in bytes-sound m w c word good size small
 
 -- "The byte standing in a lost place has no effect on any answer": of Serve, where two words of one length agree at the places that the job's
 -- marks give as present.

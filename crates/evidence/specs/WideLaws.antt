@@ -1,4 +1,4 @@
--- Demands 2 and 3 and what holds of Judge in the sixteen-bit edition: the statements over the edition, at this one.
+-- Demands 2 and 3 and what holds of Judge and Check in the sixteen-bit edition: the statements over the edition, at this one.
 use mathlib.Core.Path.{_≡_}
 use mathlib.Core.Logic.{_↔_}
 use mathlib.Core.List.{List}
@@ -26,7 +26,8 @@ use Rattle.encode.specs.DemandTwo as Encode
 use Rattle.encode.specs.Laws as EncodeLaws
 use Rattle.order.specs.RepairOrder.{recoverAfter, OrderHolds}
 use Rattle.order.specs.RepairOrderLaws.{order-theorem, same-recovery}
-use Rattle.evidence.specs.AcrossServicesLaws.{recover-as-judge-in}
+use Rattle.evidence.specs.AcrossServices.{CheckedAsRecovered}
+use Rattle.evidence.specs.AcrossServicesLaws.{recover-as-judge-in, check-as-recover-in}
 
 -- "Encoding gives the one codeword that carries the data, and the data come out again", for c up to 3
 pub encode-demand : (m w c : ℕ) (carried word : List ℕ) → SoldIn wideLimits m w c → length carried ≡ dataCount m w c → ((i : ℕ) → getD carried i 0 < 65536)
@@ -60,6 +61,11 @@ module _ (m w c : ℕ) (word marks : List ℕ) (good : GoodIn wideLimits m w c) 
 pub order-any : (m w c : ℕ) (list word marks : List ℕ) → ((p : ℕ) → getD word p 0 < 65536)
     → SameEnd (recoverAfter wideEdition m w c list word marks) (recoverIn wideEdition m w c word marks)
 order-any m w c list word marks small = same-recovery wide-sound m w c list word marks small
+
+-- Check answers as Recover with no place lost
+pub check-as-recover : (m w c : ℕ) (word : List ℕ) → GoodIn wideLimits m w c → length word ≡ m * w → ((p : ℕ) → getD word p 0 < 65536)
+    → CheckedAsRecovered wideEdition m w c word
+check-as-recover m w c word good size small = check-as-recover-in wide-sound m w c word good size small
 
 -- for marks that Judge accepts
 module _ (m w c : ℕ) (marks : List ℕ) (accepted : marksRefusalIn wideLimits m w c marks ≡ 0) where

@@ -203,7 +203,7 @@ pub last-outcome : recoverOf 2 3 1 (1 ∷ 1 ∷ 0 ∷ 78 ∷ 206 ∷ 129 ∷ [])
     ≡ contradictory 1 (1 ∷ 1 ∷ 0 ∷ 78 ∷ 206 ∷ 129 ∷ []) (0 ∷ 0 ∷ 0 ∷ 0 ∷ 0 ∷ 0 ∷ [])
 unfolding lastChanged
 last-outcome =
-    other-nine (good-of-refusal 2 3 1 good-2-3-1) lastChanged last-symbols last-no-codeword
+    other-nine bytes-sound (good-of-refusal 2 3 1 good-2-3-1) lastChanged last-symbols last-no-codeword
     ∙ ap (λ g. contradictory g lastChanged (noneLost lastChanged)) last-group
 
 pub last-byte : outcomeList (recoverOf 2 3 1 (1 ∷ 1 ∷ 0 ∷ 78 ∷ 206 ∷ 129 ∷ []) (0 ∷ 0 ∷ 0 ∷ 0 ∷ 0 ∷ 0 ∷ []))
@@ -252,5 +252,5 @@ pub across-outcome : recoverOf 2 3 1 (1 ∷ 1 ∷ 0 ∷ 0 ∷ 0 ∷ 0 ∷ []) (0
     ≡ contradictory 2 (1 ∷ 1 ∷ 0 ∷ 0 ∷ 0 ∷ 0 ∷ []) (0 ∷ 0 ∷ 0 ∷ 0 ∷ 0 ∷ 0 ∷ [])
 unfolding secondZero
 across-outcome =
-    other-nine (good-of-refusal 2 3 1 good-2-3-1) secondZero zero-symbols zero-no-codeword
+    other-nine bytes-sound (good-of-refusal 2 3 1 good-2-3-1) secondZero zero-symbols zero-no-codeword
     ∙ ap (λ g. contradictory g secondZero (noneLost secondZero)) zero-group

@@ -1,127 +1,54 @@
 // The services as C calls them: numbers and lent bytes, each with its length, and the number given back, 0 for done; with the group that a 9
 // carries, where a service gives one.
 use c_answers::Mended;
-use judge::Judged;
 use profile::Profiled;
-use shape::Described;
-use word_check::Checked;
 ghost use mathlib.Core.Path.{_≡_};
 ghost use lib.ListN.{length, getD};
-ghost use Rattle.shape.specs.Shapes.{shapeRefusal, bufferRefusal, describedNumber, describedFigures, figuresOf};
+ghost use Rattle.shape.specs.Shapes.{shapeRefusal, bufferRefusal, figuresOf};
 ghost use Rattle.word_check.specs.Checked.{checkedOf};
 ghost use Rattle.c_answers.specs.Mends.{outcomeMended};
-ghost use Rattle.exports.specs.Numbers.{checkedMended};
+ghost use Rattle.c_figures.specs.Numbers.{checkedMended};
 ghost use Rattle.places.specs.Places.{extractedData};
-ghost use Rattle.judge.specs.Judgement.{judgedNumber, judgedNumberOf};
+ghost use Rattle.judge.specs.Judgement.{judgedNumberOf};
 ghost use Rattle.profile.specs.Profiled.{profiledOf};
 ghost use Rattle.exports.specs.Profiles.{profileAnswer};
 ghost use Rattle.recover.specs.Recover.{recoverOf};
 ghost use Rattle.repair.specs.Repair.{repairOf};
 ghost use Rattle.encode.specs.Encode.{encodeRefusal, encodedBuffer};
 
-// The number of a judgement.
-fn judged_number(judged: Judged) -> u8
-    ensures { λ r. ⌜ r ≡ judgedNumber judged ⌝ }
-{
-    match judged {
-        Judged::Determined => 0,
-        Judged::Refused(r) => r,
-    }
-}
-
-// The number of a check, 0 for a codeword and 9 for another word, and the group that the 9 carries.
-fn mended_of_check(checked: Checked) -> Mended
-    ensures { λ r. ⌜ r ≡ checkedMended checked ⌝ }
-{
-    match checked {
-        Checked::Codeword => Mended {
-            number: 0,
-            group: 0,
-        },
-        Checked::Other(broken) => Mended {
-            number: 9,
-            group: broken,
-        },
-        Checked::Refused(refusal) => Mended {
-            number: refusal,
-            group: 0,
-        },
-    }
-}
-
-// The number of a description.
-fn described_number(described: Described) -> u8
-    ensures { λ r. ⌜ r ≡ describedNumber described ⌝ }
-{
-    match described {
-        Described::Figures { n, k, sure } => 0,
-        Described::Refused(r) => r,
-    }
-}
-
-// Its first figure, the places of a word; 0 if it is refused.
-fn described_places(described: Described) -> usize
-    ensures { λ r. ⌜ r ≡ getD (describedFigures described) 0 0 ⌝ }
-{
-    match described {
-        Described::Figures { n, k, sure } => n,
-        Described::Refused(r) => 0,
-    }
-}
-
-// Its second figure, the bytes of data.
-fn described_data(described: Described) -> usize
-    ensures { λ r. ⌜ r ≡ getD (describedFigures described) 1 0 ⌝ }
-{
-    match described {
-        Described::Figures { n, k, sure } => k,
-        Described::Refused(r) => 0,
-    }
-}
-
-// Its third figure, the sure count.
-fn described_sure(described: Described) -> usize
-    ensures { λ r. ⌜ r ≡ getD (describedFigures described) 2 0 ⌝ }
-{
-    match described {
-        Described::Figures { n, k, sure } => sure,
-        Described::Refused(r) => 0,
-    }
-}
-
 #[no_mangle]
 pub extern "C" fn axlebloom_describe(m: usize, w: usize, c: usize) -> u8
     ensures { λ r. ⌜ r ≡ shapeRefusal m w c ⌝ }
 {
-    described_number(shape::describe(m, w, c))
+    c_figures::described_number(shape::describe(m, w, c))
 }
 
 #[no_mangle]
 pub extern "C" fn axlebloom_places(m: usize, w: usize, c: usize) -> usize
     ensures { λ r. ⌜ r ≡ getD (figuresOf m w c) 0 0 ⌝ }
 {
-    described_places(shape::describe(m, w, c))
+    c_figures::described_places(shape::describe(m, w, c))
 }
 
 #[no_mangle]
 pub extern "C" fn axlebloom_data(m: usize, w: usize, c: usize) -> usize
     ensures { λ r. ⌜ r ≡ getD (figuresOf m w c) 1 0 ⌝ }
 {
-    described_data(shape::describe(m, w, c))
+    c_figures::described_data(shape::describe(m, w, c))
 }
 
 #[no_mangle]
 pub extern "C" fn axlebloom_sure(m: usize, w: usize, c: usize) -> usize
     ensures { λ r. ⌜ r ≡ getD (figuresOf m w c) 2 0 ⌝ }
 {
-    described_sure(shape::describe(m, w, c))
+    c_figures::described_sure(shape::describe(m, w, c))
 }
 
 #[no_mangle]
 pub extern "C" fn axlebloom_check(m: usize, w: usize, c: usize, word: &[u8]) -> Mended
     ensures { λ r. ⌜ r ≡ checkedMended (checkedOf m w c (now (word .entry))) ⌝ }
 {
-    mended_of_check(word_check::check(m, w, c, word))
+    c_figures::mended_of_check(word_check::check(m, w, c, word))
 }
 
 #[no_mangle]
@@ -156,7 +83,7 @@ pub extern "C" fn axlebloom_extract(
 pub extern "C" fn axlebloom_judge(m: usize, w: usize, c: usize, marks: &[u8]) -> u8
     ensures { λ r. ⌜ r ≡ judgedNumberOf m w c (now (marks .entry)) ⌝ }
 {
-    judged_number(judge::judge(m, w, c, marks))
+    c_figures::judged_number(judge::judge(m, w, c, marks))
 }
 
 #[no_mangle]

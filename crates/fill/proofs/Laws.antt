@@ -1,13 +1,15 @@
 -- The steps of the loops, the syndromes as inner products, and what the solution of the equations does.
 use mathlib.Core.Path.{_≡_, refl, sym, ap, ap₂, _∙_}
-use mathlib.Core.Bool.{Bool, true, false, true≢false}
-use mathlib.Core.List.{List}
-use Prim.Native.Nat.{ℕ, zero, suc, _+_, _≤_, _<_}
+use mathlib.Core.Bool.{Bool, true, false, cond, true≢false}
+use mathlib.Core.List.{List, [], _∷_, _++_, append-assoc, append-nil}
+use Prim.Native.Nat.{ℕ, zero, suc, _+_, _-_, _≤_, _<_}
+use native.Mathlib.Nat.{le-of-eq}
 use native.Mathlib.Numerals.{add-one}
 use native.Mathlib.Decide.{ℕ-discrete, decLt}
 use native.Mathlib.Omega.{arith}
-use lib.ListN.{length, getD, set, replicate}
-use lib.Seq.{getD-set-same, getD-set-other}
+use lib.Dec.{eqb}
+use lib.ListN.{length, getD, set, take, drop, replicate, length-take, length-replicate, take-append-drop}
+use lib.Seq.{getD-set-same, getD-set-other, take-all, take-suc-set, drop-cons, drop-set-lt}
 use Rattle.counting.specs.Count.{countBelow, one}
 use Rattle.counting.specs.CountLaws.{total-suc, total-ext}
 use Rattle.binary_field.specs.Xor.{_⊕_}
@@ -26,7 +28,7 @@ use Rattle.check_rows.specs.RowsLaws.{power-at}
 use Rattle.solve.specs.Elimination.{entry, eliminated}
 use Rattle.solve.specs.Steps.{System}
 use Rattle.solve.specs.SolutionLaws.{solution}
-use Rattle.fill.specs.Positions.{Positions}
+use Rattle.fill.specs.Positions.{Positions, firstLost}
 use Rattle.fill.specs.Placed.{placed}
 use Rattle.fill.specs.PlacedLaws.{length-placed, placed-other, placed-at, placed-sum}
 use Rattle.fill.specs.EquationsLaws.{EquationsIn, independent}
@@ -69,6 +71,53 @@ module _ (marks : List ℕ) where
     pub found-none : Positions marks (i + 1) at n
     found-none = record { inside = λ j l. let b = P .inside j l in omega arith; erased = P .erased; ascending = P .ascending }
 
+-- the first lost places, as the search writes them: n are found up to i
+pub length-first : (k i : ℕ) (marks : List ℕ) → length (firstLost k i marks) ≡ k
+unfolding firstLost
+length-first k i [] = length-replicate k 0
+length-first k i (m ∷ marks) = go (eqb m 1) (length-first (k - 1) (suc i) marks) (length-first k (suc i) marks)
+  where
+    go : (b : Bool) → length (firstLost (k - 1) (suc i) marks) ≡ k - 1 → length (firstLost k (suc i) marks) ≡ k
+        → length (cond b (take k (i ∷ firstLost (k - 1) (suc i) marks)) (firstLost k (suc i) marks)) ≡ k
+    go true e f = length-take k (i ∷ firstLost (k - 1) (suc i) marks) ∙ omega arith
+    go false e f = f
+
+module _ (marks at : List ℕ) (i n : ℕ) (l : i < length marks) where
+  pub first-none : lost marks i ≡ false → firstLost (4 - n) (i + 1) (drop (i + 1) marks) ≡ firstLost (4 - n) i (drop i marks)
+  unfolding firstLost
+  first-none e = rw (add-one i, drop-cons marks i 0 l, e)
+
+  pub first-next : lost marks i ≡ true → n < 4 → length at ≡ 4
+      → take (n + 1) (set at n i) ++ firstLost (4 - (n + 1)) (i + 1) (drop (i + 1) marks) ≡ take n at ++ firstLost (4 - n) i (drop i marks)
+  unfolding firstLost
+  first-next e h size =
+      let d : 4 - n ≡ suc (4 - suc n) = omega arith in
+      let z : suc (4 - suc n) - 1 ≡ 4 - suc n = omega arith in
+      let k : length (firstLost (4 - suc n) (suc i) (drop (suc i) marks)) ≤ 4 - suc n = le-of-eq (length-first (4 - suc n) (suc i) (drop (suc i) marks)) in
+      rw (add-one n, add-one i, d, drop-cons marks i 0 l, e, z, take-suc-set at n i (omega arith), append-assoc)
+      (ap (λ t. take n at ++ (i ∷ t)) (sym (take-all (4 - suc n) (firstLost (4 - suc n) (suc i) (drop (suc i) marks)) k)))
+
+-- what is not yet written is 0
+pub rest-zero : (at : List ℕ) (i n : ℕ) → n < 4 → length at ≡ 4 → drop n at ≡ replicate (4 - n) 0 → drop (n + 1) (set at n i) ≡ replicate (4 - (n + 1)) 0
+rest-zero at i n h size e =
+    let d : 4 - n ≡ suc (4 - suc n) = omega arith in
+    let s : n < suc n = omega arith in
+    rw (add-one n, drop-set-lt) (ap (drop 1) (sym (drop-cons at n 0 (omega arith)) ∙ e ∙ ap (λ k. replicate k 0) d))
+
+-- the search at its end
+pub first-all : (at : List ℕ) (i n : ℕ) → drop n at ≡ replicate (4 - n) 0 → take n at ++ firstLost (4 - n) i [] ≡ at
+unfolding firstLost
+first-all at i n e = ap (λ t. take n at ++ t) (sym e) ∙ take-append-drop n at
+
+-- none are written after the fourth
+pub first-full : (marks at : List ℕ) (i n : ℕ) → 4 ≤ n → length at ≡ 4 → take n at ++ firstLost (4 - n) i marks ≡ at
+first-full marks at i n h size =
+    ap₂ _++_ (take-all n at (omega arith)) (empty (firstLost (4 - n) i marks) (length-first (4 - n) i marks ∙ omega arith)) ∙ append-nil at
+  where
+    empty : (xs : List ℕ) → length xs ≡ 0 → xs ≡ []
+    empty [] e = refl
+    empty (x ∷ xs) e = absurd (omega arith)
+
 -- ---- a syndrome
 pub syndrome : (part : List ℕ) (e : ℕ) → e < 4 → length part ≤ 16
     → innerProduct 8 285 (length part) part (getD powerRows e noRow) ≡ localSum byteEdition (length part) part 0 e
@@ -106,7 +155,7 @@ zeros-at (suc n) k zero j = at-zero k j
 zeros-at (suc n) k (suc i) j = zeros-at n k i j
 
 -- xs with zeros, and then the solution, in the lost places
-module _ (marks xs ys zs at : List ℕ) (Z M N : List (List ℕ)) (t : ℕ) (P : Positions marks (length xs) at t)
+module _ (marks xs ys zs at : List ℕ) (Z N : List (List ℕ)) (t : ℕ) (P : Positions marks (length xs) at t)
     (hy : ys ≡ placed xs at Z t) (hz : zs ≡ placed ys at N t) where
   same-size : length ys ≡ length xs
   same-size = ap length hy ∙ length-placed xs at Z t
@@ -118,13 +167,31 @@ module _ (marks xs ys zs at : List ℕ) (Z M N : List (List ℕ)) (t : ℕ) (P :
       other : (i : ℕ) → i < t → p ≡ getD at i 0 → ⊥
       other i l q = true≢false (sym (P .erased i l) ∙ ap (lost marks) (sym q) ∙ e)
 
+  -- symbols N that have the sums of the rest
+  module _ (E : Edition) (blank : (i : ℕ) → entry Z i 4 ≡ 0) (fits : length xs ≤ E .small)
+      (solved : (e : ℕ) → e < t → sumBelow t (λ i. times E (entry N i 4) (raised E (E .locator (getD at i 0)) e)) ≡ localSum E (length ys) ys 0 e) where
+    sums-zero : (e : ℕ) → e < t → localSum E (length ys) zs 0 e ≡ 0
+    sums-zero e h =
+        ap (λ l. localSum E (length ys) l 0 e) hz
+        ∙ placed-sum ys at N t (P .ascending) (λ i l. rw same-size (P .inside i l)) E
+        (λ i l. ap (λ l. getD l (getD at i 0) 0) hy ∙ placed-at xs at Z t (P .ascending) (P .inside) i l ∙ blank i) e
+        ∙ ap (λ s. localSum E (length ys) ys 0 e ⊕ s) (solved e h) ∙ ⊕-self _
+
+    pub filled-by : length marks ≡ length xs → t ≤ 4 → t ≡ lostIn (length xs) marks 0 → FilledIn E marks xs zs
+    filled-by same few ht = record {
+      size = ap length hz ∙ length-placed ys at N t ∙ same-size;
+      present = kept;
+      zero = λ _ _ _ e h. rw same-size at (sums-zero e (rw ht h));
+      other = λ n. absurd (n fits same (omega arith));
+    }
+
   apart : (i j : ℕ) → i < t → j < t → ¬ (i ≡ j) → ¬ (getD at i 0 ≡ getD at j 0)
   apart i j hi hj n q = elim (decLt i j) [
     | yes l ↦ (let a = P .ascending i j l hj in omega arith)
     | no l ↦ (let a = P .ascending j i (omega arith) hi in omega arith)
   ]
 
-  module _ (E : Edition) (T : Sound E) (blank : (i : ℕ) → entry Z i 4 ≡ 0) (fits : length xs ≤ E .small) (S : System (E .bits) M t)
+  module _ (E : Edition) (T : Sound E) (blank : (i : ℕ) → entry Z i 4 ≡ 0) (fits : length xs ≤ E .small) (M : List (List ℕ)) (S : System (E .bits) M t)
       (Q : EquationsIn E ys at t M)
       (hN : N ≡ eliminated (E .bits) (E .poly) M t) where
     solved : (e : ℕ) → e < t → sumBelow t (λ i. times E (entry N i 4) (raised E (E .locator (getD at i 0)) e)) ≡ localSum E (length ys) ys 0 e
@@ -134,17 +201,6 @@ module _ (marks xs ys zs at : List ℕ) (Z M N : List (List ℕ)) (t : ℕ) (P :
         (independent E T t (λ i. getD at i 0) (λ i l. let b = P .inside i l in omega arith) apart M (λ e i he hi. Q e he .left i hi)) 4 .solves e h
         ∙ Q e h .right
 
-    sums-zero : (e : ℕ) → e < t → localSum E (length ys) zs 0 e ≡ 0
-    sums-zero e h =
-        ap (λ l. localSum E (length ys) l 0 e) hz
-        ∙ placed-sum ys at N t (P .ascending) (λ i l. rw same-size (P .inside i l)) E
-        (λ i l. ap (λ l. getD l (getD at i 0) 0) hy ∙ placed-at xs at Z t (P .ascending) (P .inside) i l ∙ blank i) e
-        ∙ ap (λ s. localSum E (length ys) ys 0 e ⊕ s) (solved e h) ∙ ⊕-self _
-
+    -- the solution of the equations
     pub filled : length marks ≡ length xs → t ≤ 4 → t ≡ lostIn (length xs) marks 0 → FilledIn E marks xs zs
-    filled same few ht = record {
-      size = ap length hz ∙ length-placed ys at N t ∙ same-size;
-      present = kept;
-      zero = λ _ _ _ e h. rw same-size at (sums-zero e (rw ht h));
-      other = λ n. absurd (n fits same (omega arith));
-    }
+    filled same few ht = filled-by E blank fits solved same few ht

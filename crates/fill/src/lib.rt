@@ -8,12 +8,12 @@ ghost use Rattle.fill.specs.Placed.{placed};
 ghost use Rattle.fill.specs.EquationsLaws.{Equation, Equations};
 
 // The positions of the first four lost places, in order, and how many places are lost.
-struct Erasures {
-    at: [usize; 4],
-    count: usize,
+pub struct Erasures {
+    pub at: [usize; 4],
+    pub count: usize,
 }
 
-fn find(marks: &[u8]) -> Erasures
+pub fn find(marks: &[u8]) -> Erasures
     ensures { λ r. ⌜ Found (now (marks .entry)) (r .at) (r .count) ⌝ }
 {
     let mut at = [0usize; 4];

@@ -17,7 +17,7 @@ pub fn judge(m: usize, w: usize, c: usize, marks: &[u8]) -> Judged
     if r != 0 {
         return Judged::Refused(r);
     }
-    if 2 < marks::excess_of(m, w, c, marks) {
+    if 2 < marks::pattern_excess(w, c, marks) {
         Judged::Refused(8)
     } else {
         Judged::Determined

@@ -1,6 +1,6 @@
 // Marks of lost places: their refusal, the count of one group and the excess of a whole pattern.
 ghost use mathlib.Core.Path.{_≡_};
-ghost use Prim.Native.Nat.{_-_, _*_, _≤_, min};
+ghost use Prim.Native.Nat.{_-_, _*_, _/_, _≤_, min};
 ghost use lib.ListN.{length};
 ghost use Rattle.shape.specs.Shapes.{Good};
 ghost use Rattle.code.specs.Marks.{lostIn, excess};
@@ -85,8 +85,28 @@ pub fn smaller(l: usize, c: usize) -> usize
     if l < c { l } else { c }
 }
 
-// The excess of the marks of a good shape: the lost places less those that each group can fill by its own c checks.
-// A shape that is not good, or marks of another length, have none.
+// The excess of a pattern: the lost places less those that each group of w places can fill by its own c checks.
+// Groups that are whole count, and a width of 0 has none.
+pub fn pattern_excess(w: usize, c: usize, marks: &[u8]) -> usize
+    ensures { λ r. ⌜ r ≡ excess (length (now (marks .entry)) / w) w c (now (marks .entry)) ⌝ }
+{
+    if w == 0 {
+        return 0;
+    }
+    let mut lost: usize = 0;
+    let mut own: usize = 0;
+    let mut a: usize = 0;
+    while w <= marks.len() - a {
+        let e = a + w;
+        let l = lost_in(&marks[a..e]);
+        lost += l;
+        own += smaller(l, c);
+        a = e;
+    }
+    less(lost, own)
+}
+
+// The excess of the marks of a good shape. A shape that is not good, or marks of another length, have none.
 pub fn excess_of(m: usize, w: usize, c: usize, marks: &[u8]) -> usize
     ensures { λ r. ⌜ (Good m w c → length (now (marks .entry)) ≡ m * w → r ≡ excess m w c (now (marks .entry))) ⌝ }
     ensures { λ r. ⌜ ((Good m w c → length (now (marks .entry)) ≡ m * w → ⊥) → r ≡ 0) ⌝ }
@@ -94,16 +114,5 @@ pub fn excess_of(m: usize, w: usize, c: usize, marks: &[u8]) -> usize
     if shape::word_refusal(m, w, c, marks.len()) != 0 {
         return 0;
     }
-    let mut lost: usize = 0;
-    let mut own: usize = 0;
-    let mut g: usize = 0;
-    while g < m {
-        let a = g * w;
-        let e = a + w;
-        let l = lost_in(&marks[a..e]);
-        lost += l;
-        own += smaller(l, c);
-        g += 1;
-    }
-    less(lost, own)
+    pattern_excess(w, c, marks)
 }

@@ -1,18 +1,20 @@
 -- The laws of data places and check places.
 use mathlib.Core.Path.{_≡_, refl, sym, ap, ap₂, _∙_}
 use mathlib.Core.Bool.{true, false, _||_, _&&_, or-false}
-use mathlib.Core.List.{List, [], _∷_}
+use mathlib.Core.List.{List, [], _∷_, _++_, append-nil}
 use Prim.Native.Nat.{ℕ, zero, suc, _+_, _-_, _*_, _/_, _%_, _≤_, _<_}
-use native.Mathlib.Nat.{add-zero, zero-add, zero-mul, suc-mul, mul-comm, mod-eq-of-lt, div-eq-of-lt, mul-add-mod-self-right, mul-add-div-right}
+use native.Mathlib.Nat.{le-of-eq, div-zero, add-zero, zero-add, zero-mul, suc-mul, mul-comm, mod-eq-of-lt, div-eq-of-lt, mul-add-mod-self-right, mul-add-div-right}
 use native.Mathlib.Decide.{decLe}
 use native.Mathlib.Omega.{arith}
 use lib.Dec.{eqb, leb}
-use lib.ListN.{length, getD, length-map}
+use lib.ListN.{length, getD, length-map, drop-of-length-le}
 use borrow.Author.Tests.{le-leb, lt-leb, eq-eqb, ne-eqb}
 use Rattle.shape.specs.Shapes.{Limits, GoodIn, placeCount, dataCount}
 use Rattle.shape.specs.Laws.{data-and-checks, word-of-good, buffers-of-good}
 use Rattle.places.specs.Places.{isCheck, othersFrom, dataPlaces, bytesAt, extractOf, placedOf, mark, checkMarks, extractedDataIn, placedWordIn}
-use Rattle.places.specs.Places.{markedChecksIn}
+use Rattle.places.specs.Places.{marksFrom, markedChecksIn}
+use Rattle.places.specs.Runs.{withChecks}
+use Rattle.marks.specs.CountsLaws.{groups-whole}
 use Rattle.counting.specs.Count.{totalBelow, countBelow, one}
 use Rattle.counting.specs.CountLaws.{total-append, count-ext}
 use Rattle.places.specs.CountLaws.{count-from}
@@ -137,6 +139,18 @@ module _ (m w c : ℕ) where
   unfolding extractOf dataPlaces bytesAt
   agree-extract x y h p l e =
       FromLaws.ext-others (isCheck m w c) (λ p. getD x p 0) (λ p. getD y p 0) 0 (placeCount m w) h p (omega arith) (omega arith) e
+
+-- marks of m·w places with the checks of all their groups lost
+pub checks-whole : (m w c : ℕ) (marks : List ℕ) → 0 < w → length marks ≡ m * w → withChecks w c marks ≡ checkMarks m w c
+unfolding withChecks
+checks-whole m w c marks pos size =
+    rw (groups-whole m w pos size) (ap (λ t. checkMarks m w c ++ t) (drop-of-length-le marks (le-of-eq size)) ∙ append-nil (checkMarks m w c))
+
+-- and of a width of 0
+pub no-groups : (w c : ℕ) (marks : List ℕ) → w ≡ 0 → withChecks w c marks ≡ marks
+unfolding withChecks checkMarks marksFrom
+no-groups w c marks e =
+    rw (ap (λ v. length marks / v) e ∙ div-zero (length marks), zero-mul w) refl
 
 -- "m 2, w 3, c 1, data 1, 1: word 1, 1, 0, 78, 206, 128."
 pub extract-2-3-1 : extractOf 2 3 1 (1 ∷ 1 ∷ 0 ∷ 78 ∷ 206 ∷ 128 ∷ []) ≡ 1 ∷ 1 ∷ []

@@ -2,30 +2,32 @@
 use shape::Answer;
 ghost use mathlib.Core.Path.{_≡_};
 ghost use mathlib.Core.List.{_++_};
-ghost use Prim.Native.Nat.{_-_, _≤_, _<_};
+ghost use Prim.Native.Nat.{_-_, _≤_};
 ghost use lib.ListN.{length, replicate};
 ghost use Rattle.shape.specs.Shapes.{Good, placeCount, dataCount, bufferRefusal};
 ghost use Rattle.shape.specs.Answers.{answerNumber};
-ghost use Rattle.places.specs.Places.{isCheck, extractOf, placedOf, checkMarks, extractedOf, extractedData, placedWord, markedChecks};
-ghost use Rattle.places.specs.Runs.{dataIn};
+ghost use Rattle.places.specs.Places.{extractOf, placedOf, extractedOf, extractedData, placedWord, markedChecks};
+ghost use Rattle.places.specs.Runs.{dataOf, dataIn, withChecks};
 
-// Whether place p is a check place.
-fn is_check(m: usize, w: usize, c: usize, p: usize) -> bool
-    requires { ⌜ Good m w c ⌝ }
-    requires { ⌜ p < placeCount m w ⌝ }
-    ensures { λ r. ⌜ r ≡ isCheck m w c p ⌝ }
+// How many places of a group carry data, in the last group and in another; none where its checks are too many.
+fn data_of(w: usize, c: usize, last: bool) -> usize
+    ensures { λ r. ⌜ r ≡ dataOf w c last ⌝ }
 {
-    let j = p % w;
-    if w <= j + c {
-        return true;
-    }
-    if p / w + 1 == m {
-        return w <= j + (c + 2);
-    }
-    false
+    let inner = marks::less(w, c);
+    if last { marks::less(inner, 2) } else { inner }
 }
 
-// Copies the data bytes of word, in word order.
+// How many places of group g carry data.
+pub fn data_in(m: usize, w: usize, c: usize, g: usize) -> usize
+    ensures { λ r. ⌜ r ≡ dataIn m w c g ⌝ }
+{
+    if m <= g {
+        return data_of(w, c, false);
+    }
+    data_of(w, c, m - g == 1)
+}
+
+// Copies the data bytes of word, in word order, group by group.
 fn copy_data(m: usize, w: usize, c: usize, word: &[u8], bytes: &mut [u8])
     requires { ⌜ Good m w c ⌝ }
     requires { ⌜ length (now word) ≡ placeCount m w ⌝ }
@@ -33,13 +35,15 @@ fn copy_data(m: usize, w: usize, c: usize, word: &[u8], bytes: &mut [u8])
     ensures { λ _. ⌜ now (bytes .exit) ≡ extractOf m w c (now (word .entry)) ⌝ }
 {
     let mut i: usize = 0;
-    let mut p: usize = 0;
-    while p < word.len() {
-        if !is_check(m, w, c, p) {
-            bytes[i] = word[p];
-            i += 1;
-        }
-        p += 1;
+    let mut g: usize = 0;
+    while g < m {
+        let a = g * w;
+        let d = data_in(m, w, c, g);
+        let e = a + d;
+        let n = i + d;
+        buffers::copy(&word[a..e], &mut bytes[i..n]);
+        i = n;
+        g += 1;
     }
 }
 
@@ -55,15 +59,6 @@ pub fn extract(m: usize, w: usize, c: usize, word: &[u8], bytes: &mut [u8]) -> A
     }
     copy_data(m, w, c, word, bytes);
     Answer::Done
-}
-
-// How many places of group g carry data.
-fn data_in(m: usize, w: usize, c: usize, g: usize) -> usize
-    requires { ⌜ Good m w c ⌝ }
-    requires { ⌜ g < m ⌝ }
-    ensures { λ r. ⌜ r ≡ dataIn m w c g ⌝ }
-{
-    if g + 1 == m { w - (c + 2) } else { w - c }
 }
 
 // Writes bytes to the front of a part, and 0 after them.
@@ -114,19 +109,20 @@ fn mark_part(d: usize, part: &mut [u8])
     buffers::set_all(&mut part[d..], 1);
 }
 
-// Writes the mark of each place, group by group.
-fn write_marks(m: usize, w: usize, c: usize, marks: &mut [u8])
-    requires { ⌜ Good m w c ⌝ }
-    requires { ⌜ length (now marks) ≡ placeCount m w ⌝ }
-    ensures { λ _. ⌜ now (marks .exit) ≡ checkMarks m w c ⌝ }
+// Marks the check places of every group of w places, and clears its other marks. Groups that are whole count: places after them stay as they are,
+// and a width of 0 has no group.
+pub fn mark_groups(w: usize, c: usize, marks: &mut [u8])
+    ensures { λ _. ⌜ now (marks .exit) ≡ withChecks w c (now (marks .entry)) ⌝ }
 {
-    let mut g: usize = 0;
-    while g < m {
-        let a = g * w;
+    if w == 0 {
+        return;
+    }
+    let mut a: usize = 0;
+    while w <= marks.len() - a {
         let e = a + w;
-        let d = data_in(m, w, c, g);
+        let d = data_of(w, c, marks.len() - e < w);
         mark_part(d, &mut marks[a..e]);
-        g += 1;
+        a = e;
     }
 }
 
@@ -137,5 +133,5 @@ pub fn mark_checks(m: usize, w: usize, c: usize, marks: &mut [u8])
     if shape::word_refusal(m, w, c, marks.len()) != 0 {
         return;
     }
-    write_marks(m, w, c, marks);
+    mark_groups(w, c, marks);
 }

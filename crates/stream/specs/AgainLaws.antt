@@ -36,7 +36,7 @@ module _ {m w c : ℕ} (g : Good m w c) (word : List ℕ) (C : Codeword byteEdit
   codeword-again =
       let l = places-most g in
       let h = C .symbols .each in
-      rw (word-back word h (omega arith), bytes-back word h, marks-back word h, ne-eqb m 0 (omega arith), codeword-stays g word (C .symbols) C)
+      rw (word-back word h (omega arith), bytes-back word h, marks-back word h, ne-eqb m 0 (omega arith), codeword-stays bytes-sound g word (C .symbols) C)
 
 -- ---- every word that is answered is a codeword of a good shape
 line-bytes : (line : List ℕ) (i : ℕ) → getD (lineBytes line) i 0 < 256

@@ -1,6 +1,6 @@
-// Whole buffers of symbols copied.
+// Whole buffers of symbols copied and set.
 ghost use mathlib.Core.Path.{_≡_};
-ghost use lib.ListN.{length};
+ghost use lib.ListN.{length, replicate};
 
 // Copies one buffer over another of the same length; one of another length is left as it is.
 pub fn copy(from: &[u16], to: &mut [u16])
@@ -14,6 +14,17 @@ pub fn copy(from: &[u16], to: &mut [u16])
     let mut i: usize = 0;
     while i < to.len() {
         to[i] = from[i];
+        i += 1;
+    }
+}
+
+// Sets every symbol to v.
+pub fn set_all(buffer: &mut [u16], v: u16)
+    ensures { λ _. ⌜ now (buffer .exit) ≡ replicate (length (now (buffer .entry))) v ⌝ }
+{
+    let mut i: usize = 0;
+    while i < buffer.len() {
+        buffer[i] = v;
         i += 1;
     }
 }

@@ -1,1 +1,3 @@
 pub mod TwoLaws
+pub mod Moved
+pub mod MovedLaws

@@ -1,4 +1,5 @@
 // The candidate for a word of the sixteen-bit edition with lost places: where the excess is at most two, what any codeword that agrees with the present symbols must be.
+use wide_sums::Sums;
 ghost use mathlib.Core.Path.{_≡_};
 ghost use mathlib.Core.Bool.{false};
 ghost use Prim.Native.Nat.{ℕ, _*_, _/_, _%_, _≤_, _<_};
@@ -9,10 +10,11 @@ ghost use Rattle.wide_edition.specs.Edition.{wideLimits, wideEdition};
 ghost use Rattle.code.specs.Combined.{combined};
 ghost use Rattle.code.specs.Lone.{lone};
 ghost use Rattle.code.specs.Stretch.{stretch};
-ghost use Rattle.wide_sums.specs.Survey.{acrossOf};
+ghost use Rattle.wide_sums.specs.Across.{acrossOf, noSums};
 ghost use Rattle.erasures.specs.Whole.{BoundAll};
 ghost use Rattle.candidate.specs.Steps.{Blanked, GroupsFilledIn, DirectionIn, AddedIn};
 ghost use Rattle.candidate.specs.Solved.{SolvedIn, SolvedOneIn};
+ghost use Rattle.wide_candidate.specs.Moved.{movedBy};
 ghost use Rattle.candidate.specs.Mended.{BoundFew, MendedOneIn, MendedTwoIn, MendedIn, IsCandidateIn};
 
 // Writes word into base, with 0 in the lost places.
@@ -81,9 +83,9 @@ fn one_unknown(a: u16, b: u16, s: u16, t: u16) -> u16
     ensures { λ r. ⌜ SolvedOneIn wideEdition a b s t r ⌝ }
 {
     if a == 0 {
-        wide_field::product(t, wide_field::inverse(b))
+        wide_field::product(t, wide_solve::inverse(b))
     } else {
-        wide_field::product(s, wide_field::inverse(a))
+        wide_field::product(s, wide_solve::inverse(a))
     }
 }
 
@@ -98,7 +100,7 @@ fn two_unknowns(a1: u16, a2: u16, b1: u16, b2: u16, s: u16, t: u16) -> Unknowns
     ensures { λ r. ⌜ SolvedIn wideEdition a1 a2 b1 b2 s t (r .first) (r .second) ⌝ }
 {
     let d = wide_field::product(a1, b2) ^ wide_field::product(a2, b1);
-    let i = wide_field::inverse(d);
+    let i = wide_solve::inverse(d);
     let first = wide_field::product(i, wide_field::product(s, b2) ^ wide_field::product(t, a2));
     let second = wide_field::product(i, wide_field::product(a1, t) ^ wide_field::product(b1, s));
     Unknowns { first, second }
@@ -131,7 +133,7 @@ fn way(m: usize, w: usize, c: usize, p: usize, bound: &[u8]) -> [u16; 256]
 }
 
 // The coefficients of the direction h of group g in the two sums across.
-fn weights(m: usize, w: usize, c: usize, g: usize, h: [u16; 256]) -> wide_sums::Sums
+fn weights(m: usize, w: usize, c: usize, g: usize, h: [u16; 256]) -> Sums
     requires { ⌜ GoodIn wideLimits m w c ⌝ }
     requires { ⌜ g < m ⌝ }
     ensures { λ r. ⌜ r ≡ acrossOf m w c (lone m w g (take w h)) ⌝ }
@@ -139,30 +141,53 @@ fn weights(m: usize, w: usize, c: usize, g: usize, h: [u16; 256]) -> wide_sums::
     wide_sums::group_sums(&h[..w], c, g)
 }
 
-// Sets the one free place p, and with it the bound places of its group, so that the sums across are zero if they can be.
-fn mend_one(m: usize, w: usize, c: usize, p: usize, bound: &[u8], word: &mut [u16])
+// The two sums across of a word, after u times a direction with the coefficients a was added to it.
+fn moved(s: Sums, u: u16, a: Sums) -> Sums
+    ensures { λ r. ⌜ r ≡ movedBy u a s ⌝ }
+{
+    let first = s.first ^ wide_field::product(u, a.first);
+    let second = s.second ^ wide_field::product(u, a.second);
+    Sums { first, second }
+}
+
+// Sets the one free place p, and with it the bound places of its group, so that the sums across, which are s, become zero if they can be.
+// It gives back what they have become.
+fn mend_one(m: usize, w: usize, c: usize, p: usize, bound: &[u8], word: &mut [u16], s: Sums) -> Sums
     requires { ⌜ GoodIn wideLimits m w c ⌝ }
     requires { ⌜ length (now word) ≡ m * w ⌝ }
     requires { ⌜ p < m * w ⌝ }
     requires { ⌜ BoundFew m w c p (now bound) ⌝ }
+    requires { ⌜ s ≡ acrossOf m w c (now word) ⌝ }
     ensures { λ _. ⌜ MendedOneIn wideEdition m w c p (now (bound .entry)) (now (word .entry)) (now (word .exit)) ⌝ }
+    ensures { λ r. ⌜ r ≡ acrossOf m w c (now (word .exit)) ⌝ }
 {
     let g = p / w;
     let h = way(m, w, c, p, bound);
     let a = weights(m, w, c, g, h);
-    let s = wide_sums::pass_over(m, w, c, word);
     let u = one_unknown(a.first, a.second, s.first, s.second);
     add_direction(m, w, g, u, h, word);
+    moved(s, u, a)
 }
 
 // The same for two free places p and q.
-fn mend_two(m: usize, w: usize, c: usize, p: usize, q: usize, bound: &[u8], word: &mut [u16])
+fn mend_two(
+    m: usize,
+    w: usize,
+    c: usize,
+    p: usize,
+    q: usize,
+    bound: &[u8],
+    word: &mut [u16],
+    s: Sums,
+) -> Sums
     requires { ⌜ GoodIn wideLimits m w c ⌝ }
     requires { ⌜ length (now word) ≡ m * w ⌝ }
     requires { ⌜ (p < m * w) × (q < m * w) ⌝ }
     requires { ⌜ BoundFew m w c p (now bound) ⌝ }
     requires { ⌜ BoundFew m w c q (now bound) ⌝ }
+    requires { ⌜ s ≡ acrossOf m w c (now word) ⌝ }
     ensures { λ _. ⌜ MendedTwoIn wideEdition m w c p q (now (bound .entry)) (now (word .entry)) (now (word .exit)) ⌝ }
+    ensures { λ r. ⌜ r ≡ acrossOf m w c (now (word .exit)) ⌝ }
 {
     let g = p / w;
     let h = way(m, w, c, p, bound);
@@ -170,31 +195,34 @@ fn mend_two(m: usize, w: usize, c: usize, p: usize, q: usize, bound: &[u8], word
     let i = q / w;
     let k = way(m, w, c, q, bound);
     let b = weights(m, w, c, i, k);
-    let s = wide_sums::pass_over(m, w, c, word);
     let u = two_unknowns(a.first, b.first, a.second, b.second, s.first, s.second);
     add_direction(m, w, g, u.first, h, word);
     add_direction(m, w, i, u.second, k, word);
+    let t = moved(s, u.first, a);
+    moved(t, u.second, b)
 }
 
-// Sets the first two free places, or as many as there are, so that the sums across are zero if they can be.
-fn mend(m: usize, w: usize, c: usize, marks: &[u8], bound: &[u8], word: &mut [u16])
+// Sets the first two free places, or as many as there are, so that the sums across are zero if they can be, and gives these sums back.
+fn mend(m: usize, w: usize, c: usize, marks: &[u8], bound: &[u8], word: &mut [u16]) -> Sums
     requires { ⌜ GoodIn wideLimits m w c ⌝ }
     requires { ⌜ length (now word) ≡ m * w ⌝ }
     requires { ⌜ length (now marks) ≡ m * w ⌝ }
     requires { ⌜ BoundAll m w c (now marks) (now bound) ⌝ }
     ensures { λ _. ⌜ MendedIn wideEdition m w c (now (marks .entry)) (now (bound .entry)) (now (word .entry)) (now (word .exit)) ⌝ }
+    ensures { λ r. ⌜ r ≡ acrossOf m w c (now (word .exit)) ⌝ }
 {
     let f = erasures::free_places(marks, bound);
+    let s = wide_sums::across(m, w, c, word);
     if f.count == 1 {
-        mend_one(m, w, c, f.first, bound, word);
-        return;
+        return mend_one(m, w, c, f.first, bound, word, s);
     }
     if f.count == 2 {
-        mend_two(m, w, c, f.first, f.second, bound, word);
+        return mend_two(m, w, c, f.first, f.second, bound, word, s);
     }
+    s
 }
 
-// The candidate of a good shape; bound comes to hold the marks of the places that the groups keep.
+// The candidate of a good shape, and its sums across; bound comes to hold the marks of the places that the groups keep.
 fn rebuild(
     m: usize,
     w: usize,
@@ -203,39 +231,49 @@ fn rebuild(
     marks: &[u8],
     bound: &mut [u8],
     out: &mut [u16],
-)
+) -> Sums
     requires { ⌜ GoodIn wideLimits m w c ⌝ }
     requires { ⌜ length (now word) ≡ m * w ⌝ }
     requires { ⌜ length (now marks) ≡ m * w ⌝ }
     requires { ⌜ length (now bound) ≡ m * w ⌝ }
     requires { ⌜ length (now out) ≡ m * w ⌝ }
     ensures { λ _. ⌜ IsCandidateIn wideEdition m w c (now (marks .entry)) (now (word .entry)) (now (out .exit)) ⌝ }
+    ensures { λ r. ⌜ r ≡ acrossOf m w c (now (out .exit)) ⌝ }
 {
     buffers::copy(marks, bound);
-    wide_marks::clear_free(m, w, c, bound);
+    erasures::clear_free(w, c, bound);
     blank_lost(word, marks, out);
     fill_groups(m, w, c, bound, out);
-    mend(m, w, c, marks, bound, out);
+    mend(m, w, c, marks, bound, out)
 }
 
 // Writes the candidate into out: the present symbols of word and, where the excess is at most two, in the lost places what any codeword that agrees
-// with them must have.
-// A shape that is not good, or lengths that are not its own, leave out as it is.
-pub fn candidate(m: usize, w: usize, c: usize, word: &[u16], marks: &[u8], out: &mut [u16])
+// with them must have. It gives back the candidate's two sums across.
+// A shape that is not good, or lengths that are not its own, leave out as it is, and the sums are 0.
+pub fn candidate(m: usize, w: usize, c: usize, word: &[u16], marks: &[u8], out: &mut [u16]) -> Sums
     ensures { λ _. ⌜ (GoodIn wideLimits m w c → length (now (word .entry)) ≡ m * w → length (now (marks .entry)) ≡ m * w → length (now (out .entry)) ≡ m * w → IsCandidateIn wideEdition m w c (now (marks .entry)) (now (word .entry)) (now (out .exit))) ⌝ }
+    ensures { λ r. ⌜ (GoodIn wideLimits m w c → length (now (word .entry)) ≡ m * w → length (now (marks .entry)) ≡ m * w → length (now (out .entry)) ≡ m * w → r ≡ acrossOf m w c (now (out .exit))) ⌝ }
     ensures { λ _. ⌜ length (now (out .exit)) ≡ length (now (out .entry)) ⌝ }
-    ensures { λ _. ⌜ ((GoodIn wideLimits m w c → length (now (word .entry)) ≡ m * w → length (now (marks .entry)) ≡ m * w → length (now (out .entry)) ≡ m * w → ⊥) → now (out .exit) ≡ now (out .entry)) ⌝ }
+    ensures { λ r. ⌜ ((GoodIn wideLimits m w c → length (now (word .entry)) ≡ m * w → length (now (marks .entry)) ≡ m * w → length (now (out .entry)) ≡ m * w → ⊥) → (now (out .exit) ≡ now (out .entry)) × (r ≡ noSums)) ⌝ }
 {
+    let none = Sums {
+        first: 0,
+        second: 0,
+    };
     if wide_shape::word_refusal(m, w, c, word.len()) != 0 {
-        return;
+        return none;
     }
     if marks.len() != word.len() {
-        return;
+        return none;
     }
     if out.len() != word.len() {
-        return;
+        return none;
     }
     let n = word.len();
+    if n <= 64 {
+        let mut near = [0u8; 64];
+        return rebuild(m, w, c, word, marks, &mut near[..n], out);
+    }
     let mut bound = [0u8; 4096];
-    rebuild(m, w, c, word, marks, &mut bound[..n], out);
+    rebuild(m, w, c, word, marks, &mut bound[..n], out)
 }

@@ -28,6 +28,22 @@ fn fill_checks(m: usize, w: usize, c: usize, word: &mut [u16], marks: &mut [u8])
     wide_recover::recover(m, w, c, word, marks);
 }
 
+// The same, with room of its own for the marks: less of it for a word of at most 64 places, since it takes time to clear.
+fn complete(m: usize, w: usize, c: usize, word: &mut [u16])
+    requires { ⌜ GoodIn wideLimits m w c ⌝ }
+    requires { ⌜ length (now word) ≡ placeCount m w ⌝ }
+    ensures { λ _. ⌜ now (word .exit) ≡ (recoverIn wideEdition m w c (now (word .entry)) (checkMarks m w c)) .word ⌝ }
+{
+    let n = word.len();
+    if n <= 64 {
+        let mut near = [0u8; 64];
+        fill_checks(m, w, c, word, &mut near[..n]);
+        return;
+    }
+    let mut marks = [0u8; 4096];
+    fill_checks(m, w, c, word, &mut marks[..n]);
+}
+
 // Encodes k symbols into a word of n: the one codeword that carries them.
 pub fn encode(m: usize, w: usize, c: usize, symbols: &[u16], word: &mut [u16]) -> Answer
     ensures answer { λ r. ⌜ r ≡ encodeIn wideLimits m w c (now (symbols .entry)) (now (word .entry)) ⌝ }
@@ -39,8 +55,6 @@ pub fn encode(m: usize, w: usize, c: usize, symbols: &[u16], word: &mut [u16]) -
         return Answer::Refused(r);
     }
     wide_places::place(m, w, c, symbols, word);
-    let n = word.len();
-    let mut marks = [0u8; 4096];
-    fill_checks(m, w, c, word, &mut marks[..n]);
+    complete(m, w, c, word);
     Answer::Done
 }

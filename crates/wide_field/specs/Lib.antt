@@ -1,3 +1,5 @@
+pub mod Sixteenfold
+pub mod SixteenfoldLaws
 pub mod Symbols
 pub mod SymbolsLaws
 pub mod Locators

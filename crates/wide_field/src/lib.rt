@@ -1,12 +1,12 @@
-// The field of 65,536 elements: doubling, the product by shifts, inverses, and the 256 locators.
+// The field of 65,536 elements: doubling, the product by shifts, and the 256 locators.
 ghost use mathlib.Core.Path.{_≡_};
-ghost use Prim.Native.Nat.{ℕ, _+_, _<_, _≤_};
+ghost use Prim.Native.Nat.{_%_, _<_, _≤_};
 ghost use lib.ListN.{length, getD};
 ghost use Rattle.binary_field.specs.Xor.{_⊕_};
-ghost use Rattle.binary_field.specs.Product.{double, bitSum, product};
+ghost use Rattle.binary_field.specs.Product.{double, product};
 ghost use Rattle.binary_field.specs.Sum.{sumBelow};
 ghost use Rattle.binary_field.specs.Power.{power};
-ghost use Rattle.binary_field.specs.Inverse.{inverse};
+ghost use Rattle.wide_field.specs.Sixteenfold.{sixteenfold};
 ghost use Rattle.wide_field.specs.LocatorRow.{locatorRow};
 
 // What is left of 69643, if the bit that a doubling shifts out is set.
@@ -24,22 +24,23 @@ pub fn double(a: u16) -> u16
     (a << 1) ^ reduction(a)
 }
 
-// A product on its way: what is gathered, the factor as shifted, and the bits not yet passed.
-struct Passing {
-    sum: u16,
-    shifted: u16,
-    rest: u16,
+// Sixteen times a: a shift left by four, and what the bits shifted out stand for.
+fn sixteenfold(a: u16) -> u16
+    ensures { λ r. ⌜ r ≡ sixteenfold a ⌝ }
+{
+    let h = a / 4096;
+    (a << 4) ^ (h ^ ((h << 1) ^ ((h << 3) ^ (h << 12))))
 }
 
-// Eight of the sixteen steps of a product. A loop of eight is unrolled, one of sixteen is not.
-fn eight_bits(r: u16, a: u16, b: u16) -> Passing
-    ensures { λ h. ⌜ ((n : ℕ) → h .sum ⊕ bitSum 16 69643 n (h .shifted) (h .rest) ≡ r ⊕ bitSum 16 69643 (8 + n) a b) ⌝ }
+// r and a times the number of the lowest four bits of b.
+fn four_bits(r: u16, a: u16, b: u16) -> u16
+    ensures { λ s. ⌜ s ≡ r ⊕ product 16 69643 a (b % 16) ⌝ }
 {
     let mut sum = r;
     let mut shifted = a;
-    let mut rest = b;
+    let mut rest = b % 16;
     let mut i: usize = 0;
-    while i < 8 {
+    while i < 4 {
         if rest % 2 == 1 {
             sum = sum ^ shifted;
         }
@@ -47,31 +48,17 @@ fn eight_bits(r: u16, a: u16, b: u16) -> Passing
         rest = rest / 2;
         i += 1;
     }
-    Passing { sum, shifted, rest }
+    sum
 }
 
-// The product by shifts: the sum over the set bits of b of a times that power of two.
+// The product by shifts, four bits of b at a time from the highest on. The four multiples of a are the same each time, and worked out once.
 pub fn product(a: u16, b: u16) -> u16
     ensures { λ r. ⌜ r ≡ product 16 69643 a b ⌝ }
 {
-    let low = eight_bits(0, a, b);
-    let high = eight_bits(low.sum, low.shifted, low.rest);
-    high.sum
-}
-
-// a to the power 65,534, which is the inverse of a, and 0 for 0: the product of a^2, a^4, a^8, ..
-pub fn inverse(a: u16) -> u16
-    ensures { λ r. ⌜ r ≡ inverse 16 69643 a ⌝ }
-{
-    let mut r: u16 = 1;
-    let mut x = a;
-    let mut i: usize = 0;
-    while i < 15 {
-        x = product(x, x);
-        r = product(r, x);
-        i += 1;
-    }
-    r
+    let p = four_bits(0, a, b / 4096);
+    let q = four_bits(sixteenfold(p), a, b / 256);
+    let s = four_bits(sixteenfold(q), a, b / 16);
+    four_bits(sixteenfold(s), a, b)
 }
 
 // 2 to the power n, by doubling.

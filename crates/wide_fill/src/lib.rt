@@ -3,35 +3,11 @@ ghost use mathlib.Core.Path.{_≡_};
 ghost use Prim.Native.Nat.{ℕ, _≤_, _<_};
 ghost use lib.ListN.{length, getD};
 ghost use Rattle.fill.specs.Filled.{FilledIn};
-ghost use Rattle.fill.specs.Positions.{Inside, Found};
+ghost use Rattle.fill.specs.Positions.{Inside};
 ghost use Rattle.fill.specs.Placed.{placed};
 ghost use Rattle.wide_field.specs.LocatorRow.{locatorRow};
 ghost use Rattle.wide_edition.specs.Edition.{wideEdition};
 ghost use Rattle.wide_fill.specs.Column.{columnOf};
-
-// The positions of the first four lost places, in order, and how many places are lost.
-struct Erasures {
-    at: [usize; 4],
-    count: usize,
-}
-
-fn find(marks: &[u8]) -> Erasures
-    ensures { λ r. ⌜ Found (now (marks .entry)) (r .at) (r .count) ⌝ }
-{
-    let mut at = [0usize; 4];
-    let mut n: usize = 0;
-    let mut i: usize = 0;
-    while i < marks.len() {
-        if marks[i] == 1 {
-            if n < 4 {
-                at[n] = i;
-            }
-            n += 1;
-        }
-        i += 1;
-    }
-    Erasures { at, count: n }
-}
 
 // Writes the symbol i of u at position at[i], for each i below t.
 fn place(part: &mut [u16], at: [usize; 4], u: [u16; 4], t: usize)
@@ -76,7 +52,7 @@ pub fn fill(part: &mut [u16], marks: &[u8])
     if marks.len() != part.len() {
         return;
     }
-    let erasures = find(marks);
+    let erasures = fill::find(marks);
     let t = erasures.count;
     if 4 < t {
         return;

@@ -1,30 +1,15 @@
 // Which places of a word of the sixteen-bit edition carry data: taking the data out, putting it in, and marking the check places.
 use shape::Answer;
 ghost use mathlib.Core.Path.{_≡_};
-ghost use Prim.Native.Nat.{_<_};
-ghost use lib.ListN.{length};
+ghost use mathlib.Core.List.{_++_};
+ghost use Prim.Native.Nat.{_-_, _≤_};
+ghost use lib.ListN.{length, replicate};
 ghost use Rattle.shape.specs.Shapes.{GoodIn, placeCount, dataCount, bufferRefusalIn};
 ghost use Rattle.wide_edition.specs.Edition.{wideLimits};
 ghost use Rattle.shape.specs.Answers.{answerNumber};
-ghost use Rattle.places.specs.Places.{isCheck, extractOf, placedOf, checkMarks, extractedIn, extractedDataIn, placedWordIn, markedChecksIn};
+ghost use Rattle.places.specs.Places.{extractOf, placedOf, extractedIn, extractedDataIn, placedWordIn, markedChecksIn};
 
-// Whether place p is a check place.
-fn is_check(m: usize, w: usize, c: usize, p: usize) -> bool
-    requires { ⌜ GoodIn wideLimits m w c ⌝ }
-    requires { ⌜ p < placeCount m w ⌝ }
-    ensures { λ r. ⌜ r ≡ isCheck m w c p ⌝ }
-{
-    let j = p % w;
-    if w <= j + c {
-        return true;
-    }
-    if p / w + 1 == m {
-        return w <= j + (c + 2);
-    }
-    false
-}
-
-// Copies the data symbols of word, in word order.
+// Copies the data symbols of word, in word order, group by group.
 fn copy_data(m: usize, w: usize, c: usize, word: &[u16], symbols: &mut [u16])
     requires { ⌜ GoodIn wideLimits m w c ⌝ }
     requires { ⌜ length (now word) ≡ placeCount m w ⌝ }
@@ -32,13 +17,15 @@ fn copy_data(m: usize, w: usize, c: usize, word: &[u16], symbols: &mut [u16])
     ensures { λ _. ⌜ now (symbols .exit) ≡ extractOf m w c (now (word .entry)) ⌝ }
 {
     let mut i: usize = 0;
-    let mut p: usize = 0;
-    while p < word.len() {
-        if !is_check(m, w, c, p) {
-            symbols[i] = word[p];
-            i += 1;
-        }
-        p += 1;
+    let mut g: usize = 0;
+    while g < m {
+        let a = g * w;
+        let d = places::data_in(m, w, c, g);
+        let e = a + d;
+        let n = i + d;
+        wide_buffers::copy(&word[a..e], &mut symbols[i..n]);
+        i = n;
+        g += 1;
     }
 }
 
@@ -56,7 +43,17 @@ pub fn extract(m: usize, w: usize, c: usize, word: &[u16], symbols: &mut [u16]) 
     Answer::Done
 }
 
-// Writes data into the data places, in word order, and 0 into the check places.
+// Writes symbols to the front of a part, and 0 after them.
+fn spread_part(symbols: &[u16], part: &mut [u16])
+    requires { ⌜ length (now symbols) ≤ length (now part) ⌝ }
+    ensures { λ _. ⌜ now (part .exit) ≡ now (symbols .entry) ++ replicate (length (now (part .entry)) - length (now (symbols .entry))) 0 ⌝ }
+{
+    let d = symbols.len();
+    wide_buffers::copy(symbols, &mut part[..d]);
+    wide_buffers::set_all(&mut part[d..], 0);
+}
+
+// Writes data into the data places, in word order, and 0 into the check places, group by group.
 fn spread_data(m: usize, w: usize, c: usize, symbols: &[u16], word: &mut [u16])
     requires { ⌜ GoodIn wideLimits m w c ⌝ }
     requires { ⌜ length (now word) ≡ placeCount m w ⌝ }
@@ -64,15 +61,14 @@ fn spread_data(m: usize, w: usize, c: usize, symbols: &[u16], word: &mut [u16])
     ensures { λ _. ⌜ now (word .exit) ≡ placedOf m w c (now (symbols .entry)) ⌝ }
 {
     let mut i: usize = 0;
-    let mut p: usize = 0;
-    while p < word.len() {
-        if is_check(m, w, c, p) {
-            word[p] = 0;
-        } else {
-            word[p] = symbols[i];
-            i += 1;
-        }
-        p += 1;
+    let mut g: usize = 0;
+    while g < m {
+        let a = g * w;
+        let e = a + w;
+        let n = i + places::data_in(m, w, c, g);
+        spread_part(&symbols[i..n], &mut word[a..e]);
+        i = n;
+        g += 1;
     }
 }
 
@@ -86,23 +82,6 @@ pub fn place(m: usize, w: usize, c: usize, symbols: &[u16], word: &mut [u16])
     spread_data(m, w, c, symbols, word);
 }
 
-// Writes the mark of each place.
-fn write_marks(m: usize, w: usize, c: usize, marks: &mut [u8])
-    requires { ⌜ GoodIn wideLimits m w c ⌝ }
-    requires { ⌜ length (now marks) ≡ placeCount m w ⌝ }
-    ensures { λ _. ⌜ now (marks .exit) ≡ checkMarks m w c ⌝ }
-{
-    let mut p: usize = 0;
-    while p < marks.len() {
-        if is_check(m, w, c, p) {
-            marks[p] = 1;
-        } else {
-            marks[p] = 0;
-        }
-        p += 1;
-    }
-}
-
 // Marks with the check places lost; nothing is written where the shape or the length is wrong.
 pub fn mark_checks(m: usize, w: usize, c: usize, marks: &mut [u8])
     ensures { λ _. ⌜ now (marks .exit) ≡ markedChecksIn wideLimits m w c (now (marks .entry)) ⌝ }
@@ -110,5 +89,5 @@ pub fn mark_checks(m: usize, w: usize, c: usize, marks: &mut [u8])
     if wide_shape::word_refusal(m, w, c, marks.len()) != 0 {
         return;
     }
-    write_marks(m, w, c, marks);
+    places::mark_groups(w, c, marks);
 }

@@ -1,15 +1,20 @@
 // The service Recover of the sixteen-bit edition.
 use shape::Mending;
 use syndrome::Tested;
+use wide_sums::Sums;
 ghost use mathlib.Core.Path.{_≡_};
-ghost use Prim.Native.Nat.{_*_, _≤_};
+ghost use mathlib.Core.Bool.{true, false};
+ghost use Prim.Native.Nat.{_*_, _≤_, _<_};
 ghost use lib.ListN.{length};
 ghost use Rattle.wide_edition.specs.Edition.{wideLimits, wideEdition};
 ghost use Rattle.shape.specs.Shapes.{GoodIn};
 ghost use Rattle.shape.specs.Answers.{mendingAt, mendingNumber};
-ghost use Rattle.code.specs.Marks.{excess};
+ghost use Rattle.code.specs.Word.{isLocal};
+ghost use Rattle.code.specs.Marks.{lostIn, excess};
+ghost use Rattle.syndrome.specs.Tests.{brokenGroupIn, testedIn};
+ghost use Rattle.wide_sums.specs.Across.{acrossOf};
 ghost use Rattle.recover.specs.Recover.{recoverRefusalIn, recoverIn};
-ghost use Rattle.recover.specs.Attempt.{AttemptIn};
+ghost use Rattle.recover.specs.Attempt.{FullSatisfiedIn, AttemptIn};
 
 // The refusal of a call by its shape, its lengths and its marks, 1 to 4, 26, 5 and 6; 0 if there is none.
 pub fn refusal(m: usize, w: usize, c: usize, word: &[u16], marks: &[u8]) -> u8
@@ -20,6 +25,67 @@ pub fn refusal(m: usize, w: usize, c: usize, word: &[u16], marks: &[u8]) -> u8
         return r;
     }
     wide_marks::marks_refusal(m, w, c, marks)
+}
+
+// Whether the first c local sums of one group's stretch are zero, if its filling with these marks has made as many of them zero as places are
+// lost: with c or more of them nothing is left to test.
+pub fn filled_zero(marks: &[u8], part: &[u16], c: usize) -> bool
+    ensures few { λ r. ⌜ (lostIn (length (now (marks .entry))) (now (marks .entry)) 0 < c → length (now (part .entry)) ≤ 256 → c ≤ 4 → r ≡ isLocal wideEdition (length (now (part .entry))) c (now (part .entry)) 0) ⌝ }
+    ensures many { λ r. ⌜ (c ≤ lostIn (length (now (marks .entry))) (now (marks .entry)) 0 → r ≡ true) ⌝ }
+    ensures other { λ r. ⌜ (lostIn (length (now (marks .entry))) (now (marks .entry)) 0 < c → (length (now (part .entry)) ≤ 256 → c ≤ 4 → ⊥) → r ≡ false) ⌝ }
+{
+    if marks::lost_in(marks) < c {
+        return wide_sums::local_zero(part, c);
+    }
+    true
+}
+
+// The lowest group whose local sums are not all zero, m if there is none, of a word in which those with c or more lost places are satisfied.
+fn broken_group(m: usize, w: usize, c: usize, marks: &[u8], word: &[u16]) -> usize
+    requires { ⌜ GoodIn wideLimits m w c ⌝ }
+    requires { ⌜ length (now marks) ≡ m * w ⌝ }
+    requires { ⌜ length (now word) ≡ m * w ⌝ }
+    requires { ⌜ FullSatisfiedIn wideEdition m w c (now marks) (now word) ⌝ }
+    ensures { λ r. ⌜ r ≡ brokenGroupIn wideEdition m w c (now (word .entry)) ⌝ }
+{
+    let mut g: usize = 0;
+    while g < m {
+        let a = g * w;
+        let e = a + w;
+        if !filled_zero(&marks[a..e], &word[a..e], c) {
+            return g;
+        }
+        g += 1;
+    }
+    g
+}
+
+// The test of such a word's equations, with its sums across.
+fn test(m: usize, w: usize, c: usize, marks: &[u8], word: &[u16], s: Sums) -> Tested
+    requires { ⌜ GoodIn wideLimits m w c ⌝ }
+    requires { ⌜ length (now marks) ≡ m * w ⌝ }
+    requires { ⌜ length (now word) ≡ m * w ⌝ }
+    requires { ⌜ FullSatisfiedIn wideEdition m w c (now marks) (now word) ⌝ }
+    requires { ⌜ s ≡ acrossOf m w c (now word) ⌝ }
+    ensures { λ r. ⌜ r ≡ testedIn wideEdition m w c (now (word .entry)) ⌝ }
+{
+    let group = broken_group(m, w, c, marks, word);
+    if group != m {
+        return Tested {
+            codeword: false,
+            group,
+        };
+    }
+    if s.first != 0 {
+        return Tested {
+            codeword: false,
+            group,
+        };
+    }
+    Tested {
+        codeword: s.second == 0,
+        group,
+    }
 }
 
 // Writes the candidate, made in found, into the word if it is a codeword; else it names the group that contradicts.
@@ -37,14 +103,30 @@ fn attempt(
     requires { ⌜ length (now found) ≡ m * w ⌝ }
     ensures { λ r. ⌜ AttemptIn wideEdition m w c (now (marks .entry)) (now (word .entry)) (now (word .exit)) r ⌝ }
 {
-    wide_candidate::candidate(m, w, c, word, marks, found);
-    let tested = wide_sums::test(m, w, c, found);
+    let s = wide_candidate::candidate(m, w, c, word, marks, found);
+    let tested = test(m, w, c, marks, found, s);
     if !tested.codeword {
         return tested;
     }
     let end = word.len();
     wide_buffers::copy(&found[..end], &mut word[..end]);
     tested
+}
+
+// The same, with room of its own for the candidate: less of it for a word of at most 64 places, since it takes time to clear.
+fn attempt_apart(m: usize, w: usize, c: usize, word: &mut [u16], marks: &[u8]) -> Tested
+    requires { ⌜ GoodIn wideLimits m w c ⌝ }
+    requires { ⌜ length (now word) ≡ m * w ⌝ }
+    requires { ⌜ length (now marks) ≡ m * w ⌝ }
+    ensures { λ r. ⌜ AttemptIn wideEdition m w c (now (marks .entry)) (now (word .entry)) (now (word .exit)) r ⌝ }
+{
+    let n = word.len();
+    if n <= 64 {
+        let mut near = [0u16; 64];
+        return attempt(m, w, c, word, marks, &mut near[..n]);
+    }
+    let mut found = [0u16; 4096];
+    attempt(m, w, c, word, marks, &mut found[..n])
 }
 
 // What comes after the test of the excess: the codeword that agrees is written and all marks are cleared, or it answers 9 with the group that contradicts and changes nothing.
@@ -56,9 +138,7 @@ fn recover_determined(m: usize, w: usize, c: usize, word: &mut [u16], marks: &mu
     ensures marks { λ _. ⌜ now (marks .exit) ≡ (recoverIn wideEdition m w c (now (word .entry)) (now (marks .entry))) .marks ⌝ }
     ensures never_eight { λ r. ⌜ (mendingNumber r ≡ 8 → ⊥) ⌝ }
 {
-    let n = word.len();
-    let mut found = [0u16; 4096];
-    let tested = attempt(m, w, c, word, marks, &mut found[..n]);
+    let tested = attempt_apart(m, w, c, word, marks);
     let done = tested.codeword;
     buffers::clear_if(done, marks);
     if !done {
@@ -77,7 +157,7 @@ pub fn recover(m: usize, w: usize, c: usize, word: &mut [u16], marks: &mut [u8])
     if r != 0 {
         return Mending::Refused(r);
     }
-    if 2 < wide_marks::excess_of(m, w, c, marks) {
+    if 2 < marks::pattern_excess(w, c, marks) {
         return Mending::Refused(8);
     }
     recover_determined(m, w, c, word, marks)

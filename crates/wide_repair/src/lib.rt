@@ -21,7 +21,7 @@ fn attempt(c: usize, part: &mut [u16], marks: &[u8], found: &mut [u16]) -> bool
 {
     wide_buffers::copy(part, found);
     wide_fill::fill(found, marks);
-    if !wide_sums::local_zero(found, c) {
+    if !wide_recover::filled_zero(marks, found, c) {
         return false;
     }
     wide_buffers::copy(found, part);

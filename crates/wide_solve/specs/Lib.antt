@@ -1,4 +1,6 @@
 pub mod Small
 pub mod SmallLaws
+pub mod Norm
+pub mod NormLaws
 pub mod Peel
 pub mod PeelLaws

@@ -19,7 +19,7 @@ use Rattle.wide_field.specs.LocatorRow.{locatorRow}
 use Rattle.wide_field.specs.LocatorRowLaws.{row-at}
 use Rattle.wide_solve.specs.Small.{digits, basis, IsSmall, inverseRow}
 
-digits-add : (a b : ℕ) → digits (a ⊕ b) ≡ digits a ⊕ digits b
+pub digits-add : (a b : ℕ) → digits (a ⊕ b) ≡ digits a ⊕ digits b
 unfolding digits
 digits-add a b =
     ap (λ x. x % 2 ^ 8) (ap (λ x. (a ⊕ b) ⊕ x) (⊕-shr a b 7) ∙ ⊕-swap a b (a / 2 ^ 7) (b / 2 ^ 7)) ∙ ⊕-mod (a ⊕ a / 2 ^ 7) (b ⊕ b / 2 ^ 7) 8
@@ -28,7 +28,7 @@ pub digits-lt : (a : ℕ) → digits a < 256
 unfolding digits
 digits-lt a = mod-lt (a ⊕ a / 2 ^ 7) (lit< tt)
 
-map-add : (ts : List ℕ) (a b : ℕ) → linearMap ts (a ⊕ b) ≡ linearMap ts a ⊕ linearMap ts b
+pub map-add : (ts : List ℕ) (a b : ℕ) → linearMap ts (a ⊕ b) ≡ linearMap ts a ⊕ linearMap ts b
 unfolding linearMap
 map-add [] a b = sym (⊕-zero-l 0)
 map-add (t ∷ ts) a b =
@@ -74,11 +74,14 @@ by-digits zero h n = absurd (n map-none)
 by-digits (suc b) h n =
     eqb→eq (product 16 69643 (linearMap basis (suc b)) (getD inverseRow (suc b) 0)) 1 (all-at 255 inverseRight inverses-right b (omega arith))
 
--- the product by what the row has is the quotient
-pub small-quotient : (a u : ℕ) → IsSmall a → (a ≡ 0 → ⊥) → u < 65536 → product 16 69643 a (product 16 69643 u (getD inverseRow (digits a) 0)) ≡ u
+-- what the row has is the inverse
+pub small-inverse : (a : ℕ) → IsSmall a → (a ≡ 0 → ⊥) → product 16 69643 a (getD inverseRow (digits a) 0) ≡ 1
 unfolding IsSmall
+small-inverse a s n =
+    ap (λ x. product 16 69643 x (getD inverseRow (digits a) 0)) (sym s) ∙ by-digits (digits a) (digits-lt a) (λ z. n (sym s ∙ z))
+
+-- so the product by it is the quotient
+pub small-quotient : (a u : ℕ) → IsSmall a → (a ≡ 0 → ⊥) → u < 65536 → product 16 69643 a (product 16 69643 u (getD inverseRow (digits a) 0)) ≡ u
 small-quotient a u s n h =
-    product-left-comm 16 69643 a u (getD inverseRow (digits a) 0)
-    ∙ ap (product 16 69643 u)
-    (ap (λ x. product 16 69643 x (getD inverseRow (digits a) 0)) (sym s) ∙ by-digits (digits a) (digits-lt a) (λ z. n (sym s ∙ z)))
+    product-left-comm 16 69643 a u (getD inverseRow (digits a) 0) ∙ ap (product 16 69643 u) (small-inverse a s n)
     ∙ product-one 16 69643 (lit< tt) u h

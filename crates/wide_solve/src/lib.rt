@@ -1,11 +1,14 @@
 // Solves for the symbols of up to four lost places of one group, from the group's power sums: the last place is taken out of the sums, the others
 // are solved for, and each is divided by the difference of its locator and the last. Differences of locators are in the field of 256 elements,
-// whose inverses are one constant row.
+// whose inverses are one constant row. The inverse of any symbol comes from the same row.
 ghost use mathlib.Core.Path.{_≡_};
 ghost use Prim.Native.Nat.{_≤_, _<_};
 ghost use lib.ListN.{getD, replicate};
 ghost use Rattle.binary_field.specs.Product.{product};
-ghost use Rattle.wide_solve.specs.Small.{IsSmall, inverseRow};
+ghost use Rattle.binary_field.specs.Power.{power};
+ghost use Rattle.binary_field.specs.Inverse.{inverse};
+ghost use Rattle.wide_solve.specs.Small.{digits, IsSmall, inverseRow};
+ghost use Rattle.wide_solve.specs.Norm.{conjugateRow};
 ghost use Rattle.wide_solve.specs.Peel.{HasSums, Apart};
 
 // The inverses of the small field's elements, by eight digits of each.
@@ -278,6 +281,7 @@ fn inverses() -> [u16; 256]
 // u divided by an element of the small field other than 0.
 fn quotient(u: u16, a: u16, row: &[u16]) -> u16
     requires { ⌜ now row ≡ inverseRow ⌝ }
+    ensures { λ r. ⌜ r ≡ product 16 69643 u (getD inverseRow (digits a) 0) ⌝ }
     ensures { λ r. ⌜ (IsSmall a → (a ≡ 0 → ⊥) → product 16 69643 a r ≡ u) ⌝ }
 {
     let d = ((a ^ (a >> 7)) % 256) as usize;
@@ -351,4 +355,58 @@ pub fn symbols(x: [u16; 4], s: [u16; 6], t: usize) -> [u16; 4]
         return four(x, s, &row);
     }
     none
+}
+
+// The 256th powers of 1, 2, 4, ..
+const CONJUGATES: [u16; 16] = [
+    1,
+    2863,
+    5790,
+    333,
+    2680,
+    57648,
+    90,
+    5632,
+    6016,
+    20322,
+    24230,
+    42285,
+    4420,
+    15404,
+    19244,
+    35816,
+];
+
+fn conjugates() -> [u16; 16]
+    ensures { λ r. ⌜ r ≡ conjugateRow ⌝ }
+{
+    CONJUGATES
+}
+
+// a to the power 256: it is linear in a, so the sum of what the set bits of a give.
+fn conjugate(a: u16) -> u16
+    ensures { λ r. ⌜ r ≡ power 16 69643 a 256 ⌝ }
+{
+    let row = conjugates();
+    let mut sum: u16 = 0;
+    let mut rest = a;
+    let mut i: usize = 0;
+    while i < 16 {
+        if rest % 2 == 1 {
+            sum = sum ^ row[i];
+        }
+        rest = rest / 2;
+        i += 1;
+    }
+    sum
+}
+
+// The inverse of a, and 0 for 0: a to the power 256 over the norm of a, which is a to the power 257 and in the small field.
+pub fn inverse(a: u16) -> u16
+    ensures { λ r. ⌜ r ≡ inverse 16 69643 a ⌝ }
+{
+    let b = conjugate(a);
+    let norm = wide_field::product(a, b);
+    let row = inverses();
+    quotient(b, norm, &row)
 }

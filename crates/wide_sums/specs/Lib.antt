@@ -1,4 +1,4 @@
 pub mod PowerSums
 pub mod PowerSumsLaws
-pub mod Survey
-pub mod SurveyLaws
+pub mod Across
+pub mod Fold

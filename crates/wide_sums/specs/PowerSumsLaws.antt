@@ -12,7 +12,7 @@ use Rattle.binary_field.specs.Xor.{_⊕_, masked}
 use Rattle.binary_field.specs.Product.{double, bitSum, product}
 use Rattle.binary_field.specs.ProductLaws.{product-assoc, product-comm, product-left-comm, product-one, product-add}
 use Rattle.binary_field.specs.Power.{power}
-use Rattle.binary_field.specs.PowerLaws.{power-zero, power-suc, power-swap, power-double, product-power, frobenius}
+use Rattle.binary_field.specs.PowerLaws.{power-zero, power-suc, power-swap, product-power, frobenius}
 use Rattle.binary_field.specs.Sum.{sumBelow}
 use Rattle.binary_field.specs.SumLaws.{sum-ext, sum-add, sum-scale}
 use Rattle.code.specs.Edition.{Edition, Sound, times, raised}
@@ -56,7 +56,7 @@ module _ {E : Edition} (S : Sound E) (w : ℕ) (narrow : w ≤ E .small) (c : �
       ∙ ap (λ s. times E (getD part (0 * w + j) 0) (h j) ⊕ s) (product-left-comm (E .bits) (E .poly) (getD part (0 * w + j) 0) f (k j)))
       ∙ sum-add w _ _ ∙ ap (λ s. sumBelow w (λ j. times E (getD part (0 * w + j) 0) (h j)) ⊕ s) (sum-scale (E .bits) (E .poly) w f _)
 
-  -- "the sum over all places of byte·b": P_c + 2·P_(c+1)
+  -- the sum of byte·b: P_c + 2·P_(c+1)
   pub first-share : groupSum E w part 0 (coefficient E c) ≡ localSum E w part 0 c ⊕ times E 2 (localSum E w part 0 (suc c))
   unfolding coefficient
   first-share = two-parts 2 _ _
@@ -82,11 +82,10 @@ module _ {E : Edition} (S : Sound E) (w : ℕ) (narrow : w ≤ E .small) (c : �
   unfolding groupSum
   same-coefficients = sum-ext w _ _ (λ j l. ap (times E (getD part (0 * w + j) 0)) (second-coefficient-at j l))
 
-  -- "the sum over all places, in group i counted from 0, of byte·2^i·b^q": 2^i·(P_c + 2^q·P_(c+1))
-  pub second-share : (g : ℕ) → groupSum E w part 0 (secondCoefficient E c g)
-      ≡ times E (raised E 2 g) (localSum E w part 0 c ⊕ times E (raised E 2 (E .small)) (localSum E w part 0 (suc c)))
-  second-share g =
-      sym (second-coefficient-group E w c g part) ∙ ap (times E (raised E 2 g)) (same-coefficients ∙ two-parts (raised E 2 (E .small)) _ _)
+  -- the same with b^q: P_c + 2^q·P_(c+1)
+  pub second-share : groupSum E w part 0 (λ j. raised E (coefficient E c j) (E .small))
+      ≡ localSum E w part 0 c ⊕ times E (raised E 2 (E .small)) (localSum E w part 0 (suc c))
+  second-share = same-coefficients ∙ two-parts (raised E 2 (E .small)) _ _
 
 -- two tests that agree below n
 all-same : (n : ℕ) (f g : ℕ → Bool) → ((i : ℕ) → i < n → f i ≡ g i) → allBelow n f ≡ allBelow n g
@@ -112,21 +111,15 @@ module _ (part sums : List ℕ) (c n : ℕ) (P : PowerSums part n sums) where
     pub sums-first : getD sums c 0 ⊕ product 16 69643 2 (getD sums (c + 1) 0) ≡ groupSum wideEdition (length part) part 0 (coefficient wideEdition c)
     sums-first = ap₂ (λ p q. p ⊕ product 16 69643 2 q) (P c (omega arith)) upper ∙ sym (first-share wide-sound (length part) narrow c part)
 
-    pub sums-second : (g weight : ℕ) → weight ≡ raised wideEdition 2 g
-        → product 16 69643 weight (getD sums c 0 ⊕ product 16 69643 2863 (getD sums (c + 1) 0))
-        ≡ groupSum wideEdition (length part) part 0 (secondCoefficient wideEdition c g)
-    sums-second g weight e =
-        ap₂ (product 16 69643) e (ap₂ (λ p q. p ⊕ product 16 69643 2863 q) (P c (omega arith)) upper
-        ∙ ap (λ t. localSum wideEdition (length part) part 0 c ⊕ product 16 69643 t (localSum wideEdition (length part) part 0 (suc c))) (sym two-small))
-        ∙ sym (second-share wide-sound (length part) narrow c part g)
+    pub sums-second : getD sums c 0 ⊕ product 16 69643 2863 (getD sums (c + 1) 0)
+        ≡ groupSum wideEdition (length part) part 0 (λ j. raised wideEdition (coefficient wideEdition c j) 256)
+    sums-second =
+        ap₂ (λ p q. p ⊕ product 16 69643 2863 q) (P c (omega arith)) upper
+        ∙ ap (λ t. localSum wideEdition (length part) part 0 c ⊕ product 16 69643 t (localSum wideEdition (length part) part 0 (suc c))) (sym two-small)
+        ∙ sym (second-share wide-sound (length part) narrow c part)
 
--- the power of two of the next group
-two : double 16 69643 1 ≡ 2
-unfolding double masked _⊕_
-two = refl
-
-pub weight-next : (g weight : ℕ) → weight ≡ raised wideEdition 2 g → double 16 69643 weight ≡ raised wideEdition 2 (g + 1)
-weight-next g weight e =
-    ap (double 16 69643) e
-    ∙ sym (ap (power 16 69643 2) (add-one g) ∙ subst (λ b. power 16 69643 b (suc g) ≡ double 16 69643 (power 16 69643 b g)) two
-    (power-double 16 69643 (lit< tt) g))
+    -- the second times 2^g
+    pub sums-weighted : (g weight s : ℕ) → weight ≡ raised wideEdition 2 g → s ≡ getD sums c 0 ⊕ product 16 69643 2863 (getD sums (c + 1) 0)
+        → product 16 69643 weight s ≡ groupSum wideEdition (length part) part 0 (secondCoefficient wideEdition c g)
+    sums-weighted g weight s e f =
+        ap₂ (product 16 69643) e (f ∙ sums-second) ∙ second-coefficient-group wideEdition (length part) c g part

@@ -3,7 +3,7 @@ use borrow.Author.Needs.{needs}
 use Rattle.erasures.specs.Whole.{BoundAll}
 use Rattle.byte_edition.specs.EditionLaws.{bytes-sound}
 use Rattle.candidate.specs.WholeLaws.{is-candidate}
-use Rattle.candidate.proofs.Laws.{bound-copy}
+use Rattle.erasures.specs.WholeLaws.{bound-copy}
 use Rattle.candidate.proofs.rebuild.Statement.{statement}
 use Rattle.candidate.proofs.rebuild.Tie as tie
 
@@ -18,11 +18,11 @@ blank-lost-requires c κs = search needs
 
 -- the marks bound, once that is done
 keeps : (k : tie.After-clear-free) → let s = k .before .before .before .before .before .before .before .before .before .before in
-    BoundAll (s .args .m) (s .args .w) (s .args .c) (s .args .marks .now) (k .clear-free .last .1 .1 .1 .0)
+    BoundAll (s .args .m) (s .args .w) (s .args .c) (s .args .marks .now) (k .clear-free .last .1 .1 .0)
 keeps k =
     let d = k .before .before .before .before in
     let s = d .before .before .before .before .before .before in
-    bound-copy (s .pre .0) (s .pre .1 .1 .0) (d .copy .ensures .0 (s .pre .1 .1 .0 ∙ sym (s .pre .1 .1 .1 .0))) (k .clear-free .ensures .0)
+    bound-copy (s .pre .0) (s .pre .1 .1 .0) (d .copy .ensures .0 (s .pre .1 .1 .0 ∙ sym (s .pre .1 .1 .1 .0))) (k .clear-free .ensures)
 
 fill-groups-requires : tie.Need-fill-groups-requires
 fill-groups-requires c κs =

@@ -96,7 +96,7 @@ loop-again c =
     let L = s .loop .inv .0 in
     let f = few (c .before) in
     let n = ap (λ n. n - a .c) (c .before .lost-in .ensures) in
-    let e = excess-turn L (s .loop .g) (t .loop-test .taken) refl in
+    let e = excess-turn (a .w) (a .c) (a .marks .now) (s .loop .g) (s .loop .g * a .w) refl (end-fits L (s .loop .g) (t .loop-test .taken)) refl in
     let k = ap₂ (λ x n. set x (s .loop .g) n) (s .loop .inv .3) (c .before .lost-in .ensures) ∙ counts-turn L (s .loop .g) (t .loop-test .taken) refl in
     ⊎-elim (λ t. (L, omega arith, omega arith, k, omega arith)) (λ t. (L, omega arith, omega arith, k, omega arith)) (c .if2 .came)
 

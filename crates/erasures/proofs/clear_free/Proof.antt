@@ -1,52 +1,40 @@
-use mathlib.Core.Path.{_≡_, refl, sym, _∙_, subst}
-use Prim.Native.Nat.{_+_, _-_, _*_, _≤_}
+use mathlib.Core.Path.{_≡_, refl, sym, ap, _∙_}
+use Prim.Native.Nat.{ℕ, _+_, _-_, _*_, _/_, _≤_}
+use native.Mathlib.Nat.{div-zero}
 use native.Mathlib.Omega.{arith}
-use lib.ListN.{length}
 use borrow.Author.Needs.{needs}
-use Rattle.shape.specs.Shapes.{Good}
-use Rattle.shape.specs.Laws.{good-of-word, word-of-good}
-use Rattle.erasures.specs.Whole.{BoundUpTo}
-use Rattle.erasures.specs.WholeLaws.{upto-none, bound-all}
-use Rattle.erasures.proofs.Laws.{room, group-step}
+use lib.ListN.{length}
+use Rattle.marks.specs.CountsLaws.{group-next, groups-passed}
+use Rattle.erasures.specs.Whole.{boundGroups, BoundUpTo}
+use Rattle.erasures.specs.WholeLaws.{upto-none}
+use Rattle.erasures.proofs.Laws.{group-step}
 use Rattle.erasures.proofs.clear_free.Statement.{statement}
 use Rattle.erasures.proofs.clear_free.Tie as tie
 
+-- a is where group g starts
 abbrev Inv-loop : tie.InvT-loop
-Inv-loop m w c marks₀ last g₀ marks g = (g ≤ m) × Good m w c × (length marks₀ ≡ m * w) × BoundUpTo g w c marks₀ marks
+Inv-loop w c marks₀ a₀ marks a = (g : ℕ) × (a ≡ g * w) × (a ≤ length marks₀) × BoundUpTo g w c marks₀ marks
 
 abbrev μ-loop : tie.MeasureT-loop
-μ-loop m w c marks₀ last g₀ marks g = m - g
-
-word-refusal-requires : tie.Need-word-refusal-requires Inv-loop μ-loop
-word-refusal-requires c κs = search needs
+μ-loop w c marks₀ a₀ marks a = length marks₀ - a
 
 returns : tie.Need-returns Inv-loop μ-loop
+unfolding boundGroups
 returns c =
-    let a = c .before .before .before .args in
-    let n : Good (a .m) (a .w) (a .c) → length (a .marks .now) ≡ a .m * a .w → ⊥ =
-    λ G e. c .if1 .taken (c .before .word-refusal .ensures ∙ word-of-good (a .m) (a .w) (a .c) (length (a .marks .now)) G e) in
-    (λ G e. absurd (n G e), (refl, (λ G e. absurd (n G e), λ _. refl)))
-
-sub-last : tie.Need-sub-last Inv-loop μ-loop
-sub-last c =
-    let a = c .before .before .before .args in
-    good-of-word (a .m) (a .w) (a .c) (length (a .marks .now)) (sym (c .before .word-refusal .ensures) ∙ c .if1 .left) .0 .some
+    let a = c .before .before .args in
+    let e : length (a .marks .now) / a .w ≡ 0 = ap (λ w. length (a .marks .now) / w) (c .if1 .taken) ∙ div-zero (length (a .marks .now)) in
+    sym (ap (λ m. boundGroups m (a .w) (a .c) (a .marks .now)) e)
 
 loop-holds : tie.Need-loop-holds Inv-loop μ-loop
 loop-holds c =
-    let a = c .before .before .before .args in
-    let G = good-of-word (a .m) (a .w) (a .c) (length (a .marks .now)) (sym (c .before .word-refusal .ensures) ∙ c .if1 .left) in
-    (omega arith, G .0, G .1, upto-none (a .w) (a .c) (a .marks .now))
+    let a = c .before .before .args in
+    (0, omega arith, omega arith, upto-none (a .w) (a .c) (a .marks .now))
 
-mul-a : tie.Need-mul-a Inv-loop μ-loop
-mul-a c =
-    let a = c .before .before .before .before .before .args in
-    omega (arith, room (c .before .loop .g) (a .w) (a .m) (omega arith))
+sub-loop : tie.Need-sub-loop Inv-loop μ-loop
+sub-loop c = let i = c .loop .inv in omega (arith, i .2, i .3 .size)
 
 add-e : tie.Need-add-e Inv-loop μ-loop
-add-e c =
-    let a = c .before .before .before .before .before .args in
-    omega (arith, room (c .before .loop .g) (a .w) (a .m) (omega arith))
+add-e c = let i = c .before .loop .inv in omega (arith, i .2, i .3 .size)
 
 sub-clear-free-part : tie.Need-sub-clear-free-part Inv-loop μ-loop
 sub-clear-free-part c = search needs
@@ -55,31 +43,29 @@ part-clear-free-part-start : tie.Need-part-clear-free-part-start Inv-loop μ-loo
 part-clear-free-part-start c = search needs
 
 part-clear-free-part-end : tie.Need-part-clear-free-part-end Inv-loop μ-loop
-part-clear-free-part-end c =
-    let a = c .before .before .before .before .before .args in
-    omega (arith, room (c .before .loop .g) (a .w) (a .m) (omega arith))
+part-clear-free-part-end c = let i = c .before .loop .inv in omega (arith, i .2, i .3 .size)
 
 clear-free-part-requires : tie.Need-clear-free-part-requires Inv-loop μ-loop
 clear-free-part-requires c κs = search needs
 
-add-g : tie.Need-add-g Inv-loop μ-loop
-add-g c = omega arith
-
 loop-less : tie.Need-loop-less Inv-loop μ-loop
-loop-less c = omega arith
+loop-less c =
+    let s = c .before .before .before .before .before in
+    let i = s .loop .inv in
+    omega (arith, i .2, i .3 .size)
 
 loop-again : tie.Need-loop-again Inv-loop μ-loop
 loop-again c =
     let s = c .before .before .before .before .before in
-    let a = s .before .before .before .before .args in
-    let g = s .loop .g in
-    let k = g * a .w + a .w - g * a .w in
-    let e : k ≡ a .w = omega arith in
-    let r = c .before .before .clear-free-part in (
-      omega arith,
-      s .loop .inv .1,
-      s .loop .inv .2,
-      group-step (a .m) g (a .w) (a .c) k (a .marks .now) (s .loop .marks) (r .last .0) e (r .ensures) (s .loop .inv .2) (omega arith) (s .loop .inv .3),
+    let a = s .before .before .before .args in
+    let i = s .loop .inv in
+    let g : ℕ = i .0 in
+    let r = c .before .before .clear-free-part in
+    let room : s .loop .a + a .w ≤ length (a .marks .now) = omega (arith, i .2, i .3 .size) in (
+      g + 1,
+      group-next (a .w) g (s .loop .a) (i .1),
+      room,
+      group-step g (a .w) (a .c) (s .loop .a) (a .marks .now) (s .loop .marks) (r .last .0) (i .1) (r .ensures) room (i .3),
     )
 
 same-length : tie.Need-same-length Inv-loop μ-loop
@@ -88,11 +74,10 @@ same-length c = c .before .loop .inv .3 .size
 returns-2 : tie.Need-returns-2 Inv-loop μ-loop
 returns-2 c =
     let s = c .before in
-    let a = s .before .before .before .before .args in
+    let a = s .before .before .before .args in
     let i = s .loop .inv in
-    let e : s .loop .g ≡ a .m = omega arith in
-    let K = subst (λ h. BoundUpTo h (a .w) (a .c) (a .marks .now) (s .loop .marks)) e (i .3) in
-    (λ _ n. bound-all (a .m) (a .w) (a .c) (a .marks .now) (s .loop .marks) n K, (K .size, (λ _ _. K .equal, λ n. absurd (n (i .1) (i .2)))))
+    let e = groups-passed (a .w) (length (a .marks .now)) (i .0) (s .loop .a) (i .1) (i .2) (omega (arith, i .2, i .3 .size)) in
+    i .3 .equal ∙ ap (λ m. boundGroups m (a .w) (a .c) (a .marks .now)) (sym e)
 
 pub clear-free-spec : {M : Type 1} → statement M
 clear-free-spec =
@@ -100,17 +85,14 @@ clear-free-spec =
     (tie.spec
     Inv-loop
     μ-loop
-    word-refusal-requires
     returns
-    sub-last
     loop-holds
-    mul-a
+    sub-loop
     add-e
     sub-clear-free-part
     part-clear-free-part-start
     part-clear-free-part-end
     clear-free-part-requires
-    add-g
     loop-less
     loop-again
     same-length

@@ -1,5 +1,5 @@
 use mathlib.Core.Path.{ap, _∙_}
-use Rattle.exports_wide.specs.Numbers.{checkedMended}
+use Rattle.c_figures.specs.Numbers.{checkedMended}
 use borrow.Author.Needs.{needs}
 use Rattle.exports_wide.proofs.axlebloom_wide_check.Statement.{statement}
 use Rattle.exports_wide.proofs.axlebloom_wide_check.Tie as tie

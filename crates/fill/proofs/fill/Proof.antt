@@ -56,9 +56,9 @@ returns-5 c =
     let t : ℕ = f .find .result .count in
     let m : min t 4 ≡ t = omega arith in
     let w : length (a .marks .now) ≡ length (a .part .now) = omega arith in
-    filled (a .marks .now) (a .part .now) (z .place .last .0) (p .place2 .last .0) (f .find .result .at) _ (q .equations .result) (x .eliminate .result) t
+    filled (a .marks .now) (a .part .now) (z .place .last .0) (p .place2 .last .0) (f .find .result .at) _ (x .eliminate .result) t
     (rw w at (f .find .ensures .few (omega arith))) (z .place .ensures) (p .place2 .ensures) byteEdition bytes-sound (λ i. zeros-at 4 16 i 4) (omega arith)
-    (array-system w8 16 4 (q .equations .result) _ (q .equations .ok) t (omega arith)) (q .equations .ensures) (rw m at (x .eliminate .ensures))
+    (q .equations .result) (array-system w8 16 4 (q .equations .result) _ (q .equations .ok) t (omega arith)) (q .equations .ensures) (rw m at (x .eliminate .ensures))
     w (omega arith) (rw w at (f .find .ensures .all))
 
 pub fill-spec : {M : Type 1} → statement M

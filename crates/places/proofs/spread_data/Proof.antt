@@ -36,7 +36,7 @@ add-e : tie.Need-add-e Inv-loop μ-loop
 add-e c = omega (arith, group-room _ (c .before .before .before .before .args .w) (c .before .loop .g) (c .loop-test .taken))
 
 data-in-requires : tie.Need-data-in-requires Inv-loop μ-loop
-data-in-requires c κs = (c .before .before .before .before .pre .0, c .loop-test .taken)
+data-in-requires c κs = search needs
 
 add-n : tie.Need-add-n Inv-loop μ-loop
 add-n c =
@@ -80,7 +80,7 @@ spread-part-requires c κs =
     let s = t .before in
     let b = s .before .before .before in
     let a = b .args in
-    let R = runs-of (b .pre .0) (s .loop .g) (t .loop-test .taken) in
+    let R = runs-of (a .m) (a .w) (a .c) (s .loop .g) (t .loop-test .taken) in
     let f = R .fits in
     let e = d .data-in .ensures in
     let k = lent-size (a .m) (a .w) (s .loop .g) (t .loop-test .taken) (s .loop .word) (s .loop .inv .1) in
@@ -112,7 +112,7 @@ loop-again c =
     let q = d .data-in .ensures in
     let room : i + n ≤ length bytes = data-room (b .pre .0) g (t .loop-test .taken) i n (length bytes) (s .loop .inv .2) q (b .pre .1 .1) in
     let k = lent-size (a .m) (a .w) g (t .loop-test .taken) x (s .loop .inv .1) in
-    let R : Runs (a .m) (a .w) (a .c) g n = rw (← q) at (runs-of (b .pre .0) g (t .loop-test .taken)) in
+    let R : Runs (a .m) (a .w) (a .c) (g * a .w) n = rw (← q) at (runs-of (a .m) (a .w) (a .c) g (t .loop-test .taken)) in
     let z : i + n - i ≡ n = omega arith in
     let own : length (take (i + n - i) (drop i bytes)) ≡ n = (let j = length-drop i bytes in length-take-le (i + n - i) (drop i bytes) (omega arith) ∙ z) in
     let e : p .spread-part .last .1 .0 ≡ take n (drop i bytes) ++ replicate (a .w - n) 0 =
@@ -122,8 +122,7 @@ loop-again c =
       search needs,
       λ l. (let u = data-next (b .pre .0) g (t .loop-test .taken) l in omega arith),
       spread-turn (a .m) (a .w) g (t .loop-test .taken) (a .c) n R x (p .spread-part .last .1 .0) (drop (g * a .w + a .w - g * a .w) (drop (g * a .w) x))
-          (s .loop .inv .1)
-          bytes i room e
+          (s .loop .inv .1) bytes i room e
           ∙ s .loop .inv .3,
     )
 

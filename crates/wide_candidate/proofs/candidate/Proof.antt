@@ -1,7 +1,9 @@
-use mathlib.Core.Path.{refl, sym, _∙_}
+use mathlib.Core.Path.{_≡_, refl, sym, _∙_}
+use Prim.Native.Nat.{_*_}
 use native.Mathlib.Omega.{arith}
 use lib.ListN.{length, length-take}
 use borrow.Author.Needs.{needs}
+use Rattle.shape.specs.Shapes.{GoodIn}
 use Rattle.shape.specs.Laws.{word-of-good, places-most}
 use Rattle.code.specs.Lent.{LentIn}
 use Rattle.code.specs.LentLaws.{lent-in}
@@ -16,7 +18,9 @@ returns : tie.Need-returns
 returns c =
     let r = c .before in
     let a = r .before .before .before .before .args in
-    (λ G e _ _. absurd (c .if1 .taken (r .word-refusal .ensures ∙ word-of-good (a .m) (a .w) (a .c) (length (a .word .now)) G e)), (refl, λ _. refl))
+    let never : GoodIn wideLimits (a .m) (a .w) (a .c) → length (a .word .now) ≡ a .m * a .w → ⊥ =
+    λ G e. c .if1 .taken (r .word-refusal .ensures ∙ word-of-good (a .m) (a .w) (a .c) (length (a .word .now)) G e) in
+    (λ G e _ _. absurd (never G e), (λ G e _ _. absurd (never G e), (refl, λ _. (refl, refl))))
 
 -- past the first test the shape is good, and the word has its length
 shaped : (t : tie.Else1) → let a = t .before .before .before .before .before .args in LentIn wideLimits (a .m) (a .w) (a .c) (a .word .now)
@@ -26,30 +30,20 @@ shaped t =
     lent-in wideLimits (a .m) (a .w) (a .c) (a .word .now) (sym (r .word-refusal .ensures) ∙ t .if1 .left)
 
 returns-2 : tie.Need-returns-2
-returns-2 c = (λ _ e f _. absurd (c .if2 .taken (f ∙ sym e)), (refl, λ _. refl))
+returns-2 c = (λ _ e f _. absurd (c .if2 .taken (f ∙ sym e)), (λ _ e f _. absurd (c .if2 .taken (f ∙ sym e)), (refl, λ _. (refl, refl))))
 
 returns-3 : tie.Need-returns-3
-returns-3 c = (λ _ e _ f. absurd (c .if3 .taken (f ∙ sym e)), (refl, λ _. refl))
+returns-3 c = (λ _ e _ f. absurd (c .if3 .taken (f ∙ sym e)), (λ _ e _ f. absurd (c .if3 .taken (f ∙ sym e)), (refl, λ _. (refl, refl))))
 
-array-borrow-prefix-bound : tie.Need-array-borrow-prefix-bound
-array-borrow-prefix-bound c =
-    let t = c .before .before in
-    let L = shaped t in
-    let l = places-most (L .good) in
-    omega arith
+array-borrow-prefix-near : tie.Need-array-borrow-prefix-near
+array-borrow-prefix-near c = omega arith
 
 slice-aggregate-rebuild : tie.Need-slice-aggregate-rebuild
-slice-aggregate-rebuild c =
-    let t = c .before .before .before in
-    let L = shaped t in
-    let l = places-most (L .good) in
-    simp length-take (omega arith)
+slice-aggregate-rebuild c = simp length-take (omega arith)
 
 rebuild-requires : tie.Need-rebuild-requires
 rebuild-requires c κs =
-    let t = c .before .before .before .before in
-    let L = shaped t in
-    let l = places-most (L .good) in
+    let L = shaped (c .before .before .before .before .before) in
     (L .good, (L .size, (omega arith, (simp length-take (omega arith), omega arith))))
 
 same-length : tie.Need-same-length
@@ -57,8 +51,34 @@ same-length c = search needs
 
 returns-4 : tie.Need-returns-4
 returns-4 c =
-    let L = shaped (c .before .before .before .before .before .before .before .before) in
-    (search needs, (search needs, λ k. absurd (k (L .good) (L .size) (omega arith) (omega arith))))
+    let L = shaped (c .before .before .before .before .before .before .before .before .before) in
+    (search needs, (search needs, (search needs, λ k. absurd (k (L .good) (L .size) (omega arith) (omega arith)))))
+
+array-borrow-prefix-bound : tie.Need-array-borrow-prefix-bound
+array-borrow-prefix-bound c =
+    let L = shaped (c .before .before .before) in
+    let l = places-most (L .good) in
+    omega arith
+
+slice-aggregate-rebuild-2 : tie.Need-slice-aggregate-rebuild-2
+slice-aggregate-rebuild-2 c =
+    let L = shaped (c .before .before .before .before) in
+    let l = places-most (L .good) in
+    simp length-take (omega arith)
+
+rebuild-requires-2 : tie.Need-rebuild-requires-2
+rebuild-requires-2 c κs =
+    let L = shaped (c .before .before .before .before .before) in
+    let l = places-most (L .good) in
+    (L .good, (L .size, (omega arith, (simp length-take (omega arith), omega arith))))
+
+same-length-2 : tie.Need-same-length-2
+same-length-2 c = search needs
+
+returns-5 : tie.Need-returns-5
+returns-5 c =
+    let L = shaped (c .before .before .before .before .before .before .before .before .before) in
+    (search needs, (search needs, (search needs, λ k. absurd (k (L .good) (L .size) (omega arith) (omega arith)))))
 
 pub candidate-spec : {M : Type 1} → statement M
 candidate-spec =
@@ -68,8 +88,13 @@ candidate-spec =
     returns
     returns-2
     returns-3
-    array-borrow-prefix-bound
+    array-borrow-prefix-near
     slice-aggregate-rebuild
     rebuild-requires
     same-length
-    returns-4)
+    returns-4
+    array-borrow-prefix-bound
+    slice-aggregate-rebuild-2
+    rebuild-requires-2
+    same-length-2
+    returns-5)

@@ -9,13 +9,19 @@ use Rattle.wide_candidate.proofs.mend.Tie as tie
 free-places-requires : tie.Need-free-places-requires
 free-places-requires c κs = search needs
 
+across-requires : tie.Need-across-requires
+across-requires c κs = search needs
+
 mend-one-requires : tie.Need-mend-one-requires
 mend-one-requires c κs =
-    let f = c .before .before .before in
+    let x = c .before .before .before in
+    let f = x .before .before in
     let s = f .before .before .before .before in
     let P = f .free-places .ensures .0 in
-    let l = P .less 0 (omega arith) in
-    (s .pre .0, (s .pre .1 .0, (omega arith, few-at (s .pre .1 .1 .1) P (s .pre .1 .1 .0) 0 (omega arith))))
+    let l = P .less 0 (omega arith) in (
+      s .pre .0,
+      (s .pre .1 .0, (omega arith, (few-at (s .pre .1 .1 .1) P (s .pre .1 .1 .0) 0 (omega arith), x .across .ensures .0 (s .pre .0) (s .pre .1 .0)))),
+    )
 
 same-length : tie.Need-same-length
 same-length c = search needs
@@ -24,11 +30,12 @@ returns : tie.Need-returns
 returns c =
     let g = c .before .before in
     let t = g .before .before in
-    MendedIn.one (rw (t .if1 .taken) at (t .before .before .free-places .ensures .0)) (g .mend-one .ensures)
+    (MendedIn.one (rw (t .if1 .taken) at (t .before .before .before .before .free-places .ensures .0)) (g .mend-one .ensures .0), g .mend-one .ensures .1)
 
 mend-two-requires : tie.Need-mend-two-requires
 mend-two-requires c κs =
-    let f = c .before .before .before .before .before in
+    let x = c .before .before .before .before .before in
+    let f = x .before .before in
     let s = f .before .before .before .before in
     let P = f .free-places .ensures .0 in
     let l = P .less 0 (omega arith) in
@@ -38,7 +45,10 @@ mend-two-requires c κs =
         s .pre .1 .0,
         (
           (omega arith, omega arith),
-          (few-at (s .pre .1 .1 .1) P (s .pre .1 .1 .0) 0 (omega arith), few-at (s .pre .1 .1 .1) P (s .pre .1 .1 .0) 1 (omega arith)),
+          (
+            few-at (s .pre .1 .1 .1) P (s .pre .1 .1 .0) 0 (omega arith),
+            (few-at (s .pre .1 .1 .1) P (s .pre .1 .1 .0) 1 (omega arith), x .across .ensures .0 (s .pre .0) (s .pre .1 .0)),
+          ),
         ),
       ),
     )
@@ -49,25 +59,34 @@ same-length-2 c = search needs
 returns-2 : tie.Need-returns-2
 returns-2 c =
     let g = c .before .before in
-    let t = g .before .before in
-    MendedIn.two (rw (t .if2 .taken) at (t .before .before .before .before .free-places .ensures .0)) (g .mend-two .ensures)
+    let t = g .before .before in (
+      MendedIn.two (rw (t .if2 .taken) at (t .before .before .before .before .before .before .free-places .ensures .0)) (g .mend-two .ensures .0),
+      g .mend-two .ensures .1,
+    )
+
+same-length-3 : tie.Need-same-length-3
+same-length-3 c = search needs
 
 returns-3 : tie.Need-returns-3
 returns-3 c =
-    let f = c .before .before .before .before in
+    let x = c .before .before .before .before in
+    let f = x .before .before in
+    let s = f .before .before .before .before in
     let k = f .free-places .ensures .0 .most in
     let e : f .free-places .result .count ≡ 0 = omega arith in
-    MendedIn.none (rw e at (f .free-places .ensures .0)) refl
+    (MendedIn.none (rw e at (f .free-places .ensures .0)) refl, x .across .ensures .0 (s .pre .0) (s .pre .1 .0))
 
 pub mend-spec : {M : Type 1} → statement M
 mend-spec =
     tie.close
     (tie.spec
     free-places-requires
+    across-requires
     mend-one-requires
     same-length
     returns
     mend-two-requires
     same-length-2
     returns-2
+    same-length-3
     returns-3)

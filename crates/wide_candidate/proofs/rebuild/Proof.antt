@@ -3,7 +3,7 @@ use borrow.Author.Needs.{needs}
 use Rattle.erasures.specs.Whole.{BoundAll}
 use Rattle.wide_edition.specs.EditionLaws.{wide-sound}
 use Rattle.candidate.specs.WholeLaws.{is-candidate}
-use Rattle.candidate.proofs.Laws.{bound-copy}
+use Rattle.erasures.specs.WholeLaws.{bound-copy}
 use Rattle.wide_candidate.proofs.rebuild.Statement.{statement}
 use Rattle.wide_candidate.proofs.rebuild.Tie as tie
 
@@ -18,11 +18,11 @@ blank-lost-requires c κs = search needs
 
 -- the marks bound, once that is done
 keeps : (k : tie.After-clear-free) → let s = k .before .before .before .before .before .before .before .before .before .before in
-    BoundAll (s .args .m) (s .args .w) (s .args .c) (s .args .marks .now) (k .clear-free .last .1 .1 .1 .0)
+    BoundAll (s .args .m) (s .args .w) (s .args .c) (s .args .marks .now) (k .clear-free .last .1 .1 .0)
 keeps k =
     let d = k .before .before .before .before in
     let s = d .before .before .before .before .before .before in
-    bound-copy (s .pre .0) (s .pre .1 .1 .0) (d .copy .ensures .0 (s .pre .1 .1 .0 ∙ sym (s .pre .1 .1 .1 .0))) (k .clear-free .ensures .0)
+    bound-copy (s .pre .0) (s .pre .1 .1 .0) (d .copy .ensures .0 (s .pre .1 .1 .0 ∙ sym (s .pre .1 .1 .1 .0))) (k .clear-free .ensures)
 
 fill-groups-requires : tie.Need-fill-groups-requires
 fill-groups-requires c κs =
@@ -54,12 +54,14 @@ returns c =
     let k = b .before .before .before .before in
     let x = k .before .before .before .before .before .before .before .before .before in
     let s = x .before in
-    let a = s .args in
-    is-candidate wide-sound (a .m) (a .w) (a .c) (s .pre .0) (a .marks .now) _ (a .word .now) _ _ _
-    (record { size = s .pre .1 .0; each = λ p. x .shared-slice-known .given p .fits })
-    (record { size = f .fill-groups .ensures .size ∙ b .blank-lost .ensures .size ∙ s .pre .1 .0; each = λ p. y .slice-known6 .given p .fits })
-    (s .pre .1 .1 .0)
-    (keeps k) (b .blank-lost .ensures) (f .fill-groups .ensures) (e .mend .ensures)
+    let a = s .args in (
+      is-candidate wide-sound (a .m) (a .w) (a .c) (s .pre .0) (a .marks .now) _ (a .word .now) _ _ _
+          (record { size = s .pre .1 .0; each = λ p. x .shared-slice-known .given p .fits })
+          (record { size = f .fill-groups .ensures .size ∙ b .blank-lost .ensures .size ∙ s .pre .1 .0; each = λ p. y .slice-known6 .given p .fits })
+          (s .pre .1 .1 .0)
+          (keeps k) (b .blank-lost .ensures) (f .fill-groups .ensures) (e .mend .ensures .0),
+      e .mend .ensures .1,
+    )
 
 pub rebuild-spec : {M : Type 1} → statement M
 rebuild-spec =

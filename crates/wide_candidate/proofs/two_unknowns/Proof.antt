@@ -7,8 +7,8 @@ use Rattle.wide_candidate.proofs.two_unknowns.Statement.{statement}
 use Rattle.wide_candidate.proofs.two_unknowns.Tie as tie
 use Rattle.wide_candidate.proofs.two_unknowns.Reads as reads
 use Rattle.wide_candidate.proofs.two_unknowns.Lts as lts
-use Rattle.wide_field.proofs.inverse.Reads as inverse-reads
 use Rattle.wide_field.proofs.product.Reads as product-reads
+use Rattle.wide_solve.proofs.inverse.Reads as inverse-reads
 
 product-requires : tie.Need-product-requires
 product-requires c κs = search needs

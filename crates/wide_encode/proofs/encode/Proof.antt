@@ -1,9 +1,6 @@
-use mathlib.Core.Path.{_≡_, refl, sym, ap, _∙_, subst}
-use Prim.Native.Nat.{_≤_}
+use mathlib.Core.Path.{_≡_, refl, sym, ap, _∙_}
 use lib.ListN.{length}
-use lib.Seq.{length-take-le}
 use Rattle.shape.specs.RefusalsLaws.{unless-refused}
-use Rattle.shape.specs.Laws.{places-most}
 use Rattle.shape.specs.Answers.{answerAt}
 use Rattle.shape.specs.AnswersLaws.{answer-refused}
 use Rattle.encode.specs.Encode.{encodeRefusalIn, encodeIn, encodedBufferIn}
@@ -30,26 +27,14 @@ returns c =
 place-requires : tie.Need-place-requires
 place-requires c κs = search needs
 
-array-borrow-prefix-marks : tie.Need-array-borrow-prefix-marks
-array-borrow-prefix-marks c =
+complete-requires : tie.Need-complete-requires
+complete-requires c κs =
     let p = c .before .before .before in
     let r = p .before .before .before in
     let a = r .before .before .before .args in
     let z : encodeRefusalIn wideLimits (a .m) (a .w) (a .c) (length (a .word .now)) (length (a .symbols .now)) ≡ 0 = cc in
     let g = good-of-encode (a .m) (a .w) (a .c) (length (a .word .now)) (length (a .symbols .now)) z in
-    subst (λ n. n ≤ 4096) (sym (after-size wideEdition (a .m) (a .w) (a .c) (a .symbols .now) (a .word .now) _ z (p .place .ensures))) (places-most (g .0))
-
-slice-aggregate-fill-checks : tie.Need-slice-aggregate-fill-checks
-slice-aggregate-fill-checks c = sym (length-take-le _ _ (array-borrow-prefix-marks (c .before)))
-
-fill-checks-requires : tie.Need-fill-checks-requires
-fill-checks-requires c κs =
-    let p = c .before .before .before .before in
-    let r = p .before .before .before in
-    let a = r .before .before .before .args in
-    let z : encodeRefusalIn wideLimits (a .m) (a .w) (a .c) (length (a .word .now)) (length (a .symbols .now)) ≡ 0 = cc in
-    let g = good-of-encode (a .m) (a .w) (a .c) (length (a .word .now)) (length (a .symbols .now)) z in
-    (g .0, sym (slice-aggregate-fill-checks c) ∙ after-size wideEdition (a .m) (a .w) (a .c) (a .symbols .now) (a .word .now) _ z (p .place .ensures))
+    (g .0, after-size wideEdition (a .m) (a .w) (a .c) (a .symbols .now) (a .word .now) _ z (p .place .ensures))
 
 same-length : tie.Need-same-length
 same-length c = search needs
@@ -57,8 +42,8 @@ same-length c = search needs
 returns-2 : tie.Need-returns-2
 unfolding encodeIn
 returns-2 c =
-    let f = c .before .before .before in
-    let p = f .before .before .before .before .before in
+    let f = c .before .before in
+    let p = f .before .before .before .before in
     let r = p .before .before .before in
     let k = r .before .before in
     let a = k .before .args in
@@ -67,7 +52,7 @@ returns-2 c =
       (
         sym z,
         buffer-end wideEdition (a .m) (a .w) (a .c) (a .symbols .now) (a .word .now) _ z (p .place .ensures) wide-sound
-            (λ i. k .shared-slice-known .given i .fits) _ (f .fill-checks .ensures),
+            (λ i. k .shared-slice-known .given i .fits) _ (f .complete .ensures),
       ),
     )
 
@@ -78,8 +63,6 @@ encode-spec =
     refusal-requires
     returns
     place-requires
-    array-borrow-prefix-marks
-    slice-aggregate-fill-checks
-    fill-checks-requires
+    complete-requires
     same-length
     returns-2)

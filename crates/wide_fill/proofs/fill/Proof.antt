@@ -1,18 +1,19 @@
-use mathlib.Core.Path.{_≡_, refl}
+use mathlib.Core.Path.{_≡_, refl, _∙_}
 use mathlib.Core.List.{[], _∷_}
 use Prim.Native.Nat.{ℕ, zero, suc, _≤_, _<_}
 use native.Mathlib.Omega.{arith}
 use lib.ListN.{length, getD, replicate}
 use Rattle.wide_edition.specs.Edition.{wideEdition}
-use Rattle.fill.proofs.Laws.{unchanged}
-use Rattle.wide_fill.specs.ColumnLaws.{filled-none, filled-by}
+use Rattle.fill.proofs.Laws.{unchanged, filled-by}
+use Rattle.wide_fill.specs.Column.{columnOf}
+use Rattle.wide_fill.specs.ColumnLaws.{column-at, filled-none}
 use Rattle.wide_fill.specs.SolvedLaws.{locators-differ, solved-by}
 use borrow.Author.Needs.{needs}
 use Rattle.wide_fill.proofs.fill.Statement.{statement}
 use Rattle.wide_fill.proofs.fill.Tie as tie
 use Rattle.wide_fill.proofs.fill.Reads as reads
 use Rattle.wide_fill.proofs.fill.Lts as lts
-use Rattle.wide_fill.proofs.find.Reads as find-reads
+use Rattle.fill.proofs.find.Reads as find-reads
 use Rattle.wide_fill.proofs.locators_of.Reads as locators-of-reads
 use Rattle.wide_fill.proofs.place.Reads as place-reads
 use Rattle.wide_solve.proofs.symbols.Reads as symbols-reads
@@ -77,8 +78,8 @@ returns-5 c =
     let inside : (i : ℕ) → i < t → getD (f .find .result .at) i 0 < 256 = λ i l. let b = P .inside i l in omega arith in
     let own = x .locators-of .ensures in
     let apart = locators-differ (f .find .result .at) (x .locators-of .result) t few inside (P .ascending) own in
-    filled-by wideEdition (a .marks .now) (a .part .now) (z .place .last .0) (p .place2 .last .0) (f .find .result .at) _ (y .symbols .result) t P
-    (z .place .ensures) (p .place2 .ensures) zeros (omega arith)
+    filled-by (a .marks .now) (a .part .now) (z .place .last .0) (p .place2 .last .0) (f .find .result .at) _ (columnOf (y .symbols .result)) t P
+    (z .place .ensures) (p .place2 .ensures) wideEdition (λ i. column-at _ i ∙ zeros i) (omega arith)
     (solved-by (f .find .result .at) (x .locators-of .result) t few inside (P .ascending) own (z .place .last .0) (y .symbols .result) (q .power-sums .result)
     (q .power-sums .ensures .0 (omega arith) (omega arith)) (y .symbols .ensures .0 few apart))
     w few (rw w at (f .find .ensures .all))

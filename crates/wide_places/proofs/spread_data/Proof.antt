@@ -1,108 +1,152 @@
-use mathlib.Core.Path.{_≡_, refl, sym, ap, _∙_}
-use mathlib.Core.Bool.{true, false}
-use mathlib.Core.Logic.{⊎-elim}
+use mathlib.Core.Path.{_≡_, sym, ap, ap₂, _∙_}
 use mathlib.Core.List.{_++_}
-use Prim.Native.Nat.{_≤_, _-_, _+_}
+use Prim.Native.Nat.{ℕ, _+_, _-_, _*_, _≤_, _<_}
 use native.Mathlib.Omega.{arith}
-use lib.ListN.{length, getD, take, drop, length-set}
-use Rattle.places.specs.Places.{isCheck, othersFrom, spreadFrom, placedOf}
-use Rattle.places.proofs.Steps.{others-start, others-check, others-data}
-use Rattle.wide_places.proofs.Steps.{spread-start, spread-check, spread-data, spread-end}
-use Rattle.wide_edition.specs.Edition.{wideEdition}
+use native.Mathlib.Nat.{zero-mul}
+use lib.ListN.{length, take, drop, replicate, length-drop}
+use borrow.Author.Needs.{needs}
+use Rattle.places.specs.Places.{isCheck, spreadFrom, placedOf}
+use lib.Seq.{length-take-le}
+use Rattle.places.proofs.Runs.{Runs, runs-of, data-room, data-next, group-room, spread-turn, spread-first, spread-last, lent-size}
 use Rattle.wide_places.proofs.spread_data.Statement.{statement}
 use Rattle.wide_places.proofs.spread_data.Tie as tie
+use Rattle.wide_places.proofs.spread_data.Reads as reads
+use Rattle.wide_places.proofs.spread_data.Lts as lts
+use Rattle.places.proofs.data_in.Reads as data-in-reads
+use Rattle.wide_places.proofs.spread_part.Reads as spread-part-reads
 
 abbrev Inv-loop : tie.InvT-loop
-Inv-loop m w c wideEdition word₀ i₀ p₀ word i p =
-    (p ≤ length word₀) × (length word ≡ length word₀)
-    × (i + length (othersFrom (isCheck m w c) p (length word₀ - p)) ≡ length wideEdition)
-    × (take p word ++ spreadFrom (isCheck m w c) p (length word₀ - p) (drop i wideEdition) ≡ placedOf m w c wideEdition)
+Inv-loop m w c bytes word₀ i₀ g₀ word i g =
+    (g ≤ m) × (length word ≡ m * w) × (g < m → i ≡ g * (w - c)) × (take (g * w) word ++ spreadFrom (isCheck m w c) (g * w) ((m - g) * w) (drop i bytes)
+    ≡ placedOf m w c bytes)
 
 abbrev μ-loop : tie.MeasureT-loop
-μ-loop m w c wideEdition word₀ i₀ p₀ word i p = length word₀ - p
+μ-loop m w c bytes word₀ i₀ g₀ word i g = m - g
 
 loop-holds : tie.Need-loop-holds Inv-loop μ-loop
 loop-holds c =
     let s = c .before .before in
     let a = s .args in
-    let n = length (a .word .now) in
-    let o = others-start (a .m) (a .w) (a .c) n (s .pre .1 .0) (s .pre .0) in
-    (omega arith, refl, omega arith, spread-start (a .m) (a .w) (a .c) n (s .pre .1 .0) (a .symbols .now))
+    (omega arith, s .pre .1 .0, λ _. sym (zero-mul (a .w - a .c)), spread-first (a .m) (a .w) (a .c) (a .word .now) (a .symbols .now))
 
-is-check-requires : tie.Need-is-check-requires Inv-loop μ-loop
-is-check-requires c κs = (c .before .before .before .before .pre .0, omega arith)
+mul-a : tie.Need-mul-a Inv-loop μ-loop
+mul-a c = omega (arith, group-room _ (c .before .before .before .before .args .w) (c .before .loop .g) (c .loop-test .taken))
 
-mul-word : tie.Need-mul-word Inv-loop μ-loop
-mul-word c = omega arith
+add-e : tie.Need-add-e Inv-loop μ-loop
+add-e c = omega (arith, group-room _ (c .before .before .before .before .args .w) (c .before .loop .g) (c .loop-test .taken))
 
-slice-write-word : tie.Need-slice-write-word Inv-loop μ-loop
-slice-write-word c = omega arith
+data-in-requires : tie.Need-data-in-requires Inv-loop μ-loop
+data-in-requires c κs = search needs
 
-mul-word-2 : tie.Need-mul-word-2 Inv-loop μ-loop
-mul-word-2 c = omega arith
+add-n : tie.Need-add-n Inv-loop μ-loop
+add-n c =
+    let t = c .before in
+    let s = t .before in
+    let b = s .before .before .before in
+    omega (arith, data-room (b .pre .0) (s .loop .g) (t .loop-test .taken) _ _ _ (s .loop .inv .2) (c .data-in .ensures) (b .pre .1 .1))
 
-shared-slice-read-word : tie.Need-shared-slice-read-word Inv-loop μ-loop
-shared-slice-read-word c =
-    let s = c .before .before .before .before in
-    let a = s .before .before .before .args in
-    let k = c .before .before .is-check in
-    let o = ap length (others-data (isCheck (a .m) (a .w) (a .c)) (s .loop .p) (length (a .word .now)) (omega arith)
-    (sym (k .ensures) ∙ c .before .if1 .left)) in
+mul-spread-part : tie.Need-mul-spread-part Inv-loop μ-loop
+mul-spread-part c =
+    let t = c .before in
+    let s = t .before in
+    let b = s .before .before .before in
+    omega (arith, data-room (b .pre .0) (s .loop .g) (t .loop-test .taken) _ _ _ (s .loop .inv .2) (c .data-in .ensures) (b .pre .1 .1))
+
+sub-spread-part : tie.Need-sub-spread-part Inv-loop μ-loop
+sub-spread-part c = search needs
+
+part-spread-part-start : tie.Need-part-spread-part-start Inv-loop μ-loop
+part-spread-part-start c =
+    let t = c .before in
+    let s = t .before in
+    let b = s .before .before .before in
+    omega (arith, data-room (b .pre .0) (s .loop .g) (t .loop-test .taken) _ _ _ (s .loop .inv .2) (c .data-in .ensures) (b .pre .1 .1))
+
+part-spread-part-end : tie.Need-part-spread-part-end Inv-loop μ-loop
+part-spread-part-end c =
+    let t = c .before in
+    let s = t .before in
+    let b = s .before .before .before in
+    omega (arith, data-room (b .pre .0) (s .loop .g) (t .loop-test .taken) _ _ _ (s .loop .inv .2) (c .data-in .ensures) (b .pre .1 .1))
+
+mul-spread-part-2 : tie.Need-mul-spread-part-2 Inv-loop μ-loop
+mul-spread-part-2 c =
+    let t = c .before .before in omega (arith, group-room _ (t .before .before .before .before .args .w) (t .before .loop .g) (t .loop-test .taken))
+
+sub-spread-part-2 : tie.Need-sub-spread-part-2 Inv-loop μ-loop
+sub-spread-part-2 c = search needs
+
+part-spread-part-start-2 : tie.Need-part-spread-part-start-2 Inv-loop μ-loop
+part-spread-part-start-2 c =
+    let t = c .before .before in omega (arith, group-room _ (t .before .before .before .before .args .w) (t .before .loop .g) (t .loop-test .taken))
+
+part-spread-part-end-2 : tie.Need-part-spread-part-end-2 Inv-loop μ-loop
+part-spread-part-end-2 c =
+    let t = c .before .before in omega (arith, group-room _ (t .before .before .before .before .args .w) (t .before .loop .g) (t .loop-test .taken))
+
+spread-part-requires : tie.Need-spread-part-requires Inv-loop μ-loop
+spread-part-requires c κs =
+    let d = c .before .before in
+    let t = d .before in
+    let s = t .before in
+    let b = s .before .before .before in
+    let a = b .args in
+    let R = runs-of (a .m) (a .w) (a .c) (s .loop .g) (t .loop-test .taken) in
+    let f = R .fits in
+    let e = d .data-in .ensures in
+    let k = lent-size (a .m) (a .w) (s .loop .g) (t .loop-test .taken) (s .loop .word) (s .loop .inv .1) in
+    let h = data-room (b .pre .0) (s .loop .g) (t .loop-test .taken) _ _ _ (s .loop .inv .2) e (b .pre .1 .1) in
+    let j = length-drop (s .loop .i) (a .symbols .now) in
+    let q = length-take-le (s .loop .i + d .data-in .result - s .loop .i) (drop (s .loop .i) (a .symbols .now)) (omega arith) in
     omega arith
 
-mul-word-3 : tie.Need-mul-word-3 Inv-loop μ-loop
-mul-word-3 c = omega arith
-
-slice-write-word-2 : tie.Need-slice-write-word-2 Inv-loop μ-loop
-slice-write-word-2 c = omega arith
-
-add-i : tie.Need-add-i Inv-loop μ-loop
-add-i c = omega (arith, shared-slice-read-word c)
-
-add-p : tie.Need-add-p Inv-loop μ-loop
-add-p c = omega arith
+add-g : tie.Need-add-g Inv-loop μ-loop
+add-g c = omega arith
 
 loop-less : tie.Need-loop-less Inv-loop μ-loop
 loop-less c = omega arith
 
 loop-again : tie.Need-loop-again Inv-loop μ-loop
 loop-again c =
-    let s = c .before .before .before in
-    let a = s .before .before .before .args in
-    let f = isCheck (a .m) (a .w) (a .c) in
-    let p = s .loop .p in
-    let n = length (a .word .now) in
-    let k = c .before .is-check in
-    ⊎-elim
-    (λ t.
-    let e : f p ≡ true = sym (k .ensures) ∙ t .0 .taken in
-    let o = ap length (others-check f p n (omega arith) e) in
-    let d : length (c .if1 .word) ≡ length (s .loop .word) = cc (length-set (s .loop .word) p 0) in (
+    let p = c .before .before in
+    let d = p .before .before .before in
+    let t = d .before in
+    let s = t .before in
+    let b = s .before .before .before in
+    let a = b .args in
+    let g : ℕ = s .loop .g in
+    let n : ℕ = d .data-in .result in
+    let i : ℕ = s .loop .i in
+    let x = s .loop .word in
+    let bytes = a .symbols .now in
+    let at-g = s .loop .inv .2 (t .loop-test .taken) in
+    let q = d .data-in .ensures in
+    let room : i + n ≤ length bytes = data-room (b .pre .0) g (t .loop-test .taken) i n (length bytes) (s .loop .inv .2) q (b .pre .1 .1) in
+    let k = lent-size (a .m) (a .w) g (t .loop-test .taken) x (s .loop .inv .1) in
+    let R : Runs (a .m) (a .w) (a .c) (g * a .w) n = rw (← q) at (runs-of (a .m) (a .w) (a .c) g (t .loop-test .taken)) in
+    let z : i + n - i ≡ n = omega arith in
+    let own : length (take (i + n - i) (drop i bytes)) ≡ n = (let j = length-drop i bytes in length-take-le (i + n - i) (drop i bytes) (omega arith) ∙ z) in
+    let e : p .spread-part .last .1 .0 ≡ take n (drop i bytes) ++ replicate (a .w - n) 0 =
+    p .spread-part .ensures ∙ ap₂ (λ u v. take (i + n - i) (drop i bytes) ++ replicate (u - v) 0) k own
+    ∙ ap (λ u. take u (drop i bytes) ++ replicate (a .w - n) 0) z in (
       omega arith,
-      omega arith,
-      omega arith,
-      cc (spread-check f p n (omega arith) (s .loop .word) (drop (s .loop .i) (a .symbols .now)) (omega arith) e),
-    ))
-    (λ t.
-    let e : f p ≡ false = sym (k .ensures) ∙ t .0 .left in
-    let o = ap length (others-data f p n (omega arith) e) in
-    let d : length (c .if1 .word) ≡ length (s .loop .word) = cc (length-set (s .loop .word) p (getD (a .symbols .now) (s .loop .i) 0)) in (
-      omega arith,
-      omega arith,
-      omega arith,
-      cc (spread-data f p n (omega arith) (s .loop .word) (a .symbols .now) (s .loop .i) (omega arith) e),
-    ))
-    (c .if1 .came)
+      search needs,
+      λ l. (let u = data-next (b .pre .0) g (t .loop-test .taken) l in omega arith),
+      spread-turn (a .m) (a .w) g (t .loop-test .taken) (a .c) n R x (p .spread-part .last .1 .0) (drop (g * a .w + a .w - g * a .w) (drop (g * a .w) x))
+          (s .loop .inv .1) bytes i room e
+          ∙ s .loop .inv .3,
+    )
 
 same-length : tie.Need-same-length Inv-loop μ-loop
-same-length c = omega arith
+same-length c =
+    let f = c .before .before .before .before .pre .1 .0 in
+    omega arith
 
 returns : tie.Need-returns Inv-loop μ-loop
 returns c =
     let s = c .before in
     let a = s .before .before .before .args in
-    cc (spread-end (isCheck (a .m) (a .w) (a .c)) (s .loop .p) (length (a .word .now)) (omega arith) (s .loop .word) (drop (s .loop .i) (a .symbols .now))
-    (omega arith))
+    sym (spread-last (a .m) (a .w) (a .c) (s .loop .g) (omega arith) (s .loop .word) (s .loop .inv .1) (drop (s .loop .i) (a .symbols .now))) ∙ s .loop .inv .3
 
 pub spread-data-spec : {M : Type 1} → statement M
 spread-data-spec =
@@ -111,15 +155,20 @@ spread-data-spec =
     Inv-loop
     μ-loop
     loop-holds
-    is-check-requires
-    mul-word
-    slice-write-word
-    mul-word-2
-    shared-slice-read-word
-    mul-word-3
-    slice-write-word-2
-    add-i
-    add-p
+    mul-a
+    add-e
+    data-in-requires
+    add-n
+    mul-spread-part
+    sub-spread-part
+    part-spread-part-start
+    part-spread-part-end
+    mul-spread-part-2
+    sub-spread-part-2
+    part-spread-part-start-2
+    part-spread-part-end-2
+    spread-part-requires
+    add-g
     loop-less
     loop-again
     same-length

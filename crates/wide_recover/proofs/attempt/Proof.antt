@@ -8,12 +8,13 @@ use lib.Seq.{take-all, length-take-le}
 use borrow.Author.Tests.{not-true, not-false}
 use Rattle.shape.specs.Shapes.{GoodIn}
 use Rattle.code.specs.LentLaws.{end-fits}
+use Rattle.code.specs.Word.{Symbols}
+use Rattle.wide_edition.specs.Edition.{wideLimits, wideEdition}
+use Rattle.wide_edition.specs.EditionLaws.{wide-sound}
 use Rattle.syndrome.specs.declared.Tested.{Tested}
 use Rattle.recover.specs.Attempt.{AttemptIn}
-use Rattle.recover.specs.AttemptLaws.{attempt-done, attempt-failed}
+use Rattle.recover.specs.AttemptLaws.{full-satisfied, attempt-done, attempt-failed}
 use borrow.Author.Needs.{needs}
-use Rattle.wide_edition.specs.Edition.{wideLimits}
-use Rattle.wide_edition.specs.Edition.{wideEdition}
 use Rattle.wide_recover.proofs.attempt.Statement.{statement}
 use Rattle.wide_recover.proofs.attempt.Tie as tie
 
@@ -37,7 +38,25 @@ candidate-requires : tie.Need-candidate-requires
 candidate-requires c κs = search needs
 
 test-requires : tie.Need-test-requires
-test-requires c κs = search needs
+test-requires c κs =
+    let cand = c .before .before .before in
+    let a = cand .before .before .before .before .before .before in
+    let k = a .args in
+    let C = cand .candidate .ensures .0 (a .pre .0) (a .pre .1 .0) (a .pre .1 .1 .0) (a .pre .1 .1 .1) in
+    let s : Symbols wideEdition (k .m * k .w) (k .word .now) =
+    record { size = a .pre .1 .0; each = λ p. cand .before .before .before .before .before .slice-known .given p .fits } in (
+      a .pre .0,
+      (
+        a .pre .1 .1 .0,
+        (
+          C .size,
+          (
+            full-satisfied wide-sound (k .m) (k .w) (k .c) (a .pre .0) (k .marks .now) (k .word .now) _ s (a .pre .1 .1 .0) C,
+            cand .candidate .ensures .1 .0 (a .pre .0) (a .pre .1 .0) (a .pre .1 .1 .0) (a .pre .1 .1 .1),
+          ),
+        ),
+      ),
+    )
 
 same-length : tie.Need-same-length
 same-length c = search needs
@@ -50,7 +69,7 @@ returns c =
     let cand = c .before .before .before .before .before .before in
     let a = cand .before .before .before .before .before .before in
     let C = cand .candidate .ensures .0 (a .pre .0) (a .pre .1 .0) (a .pre .1 .1 .0) (a .pre .1 .1 .1) in
-    let t = c .before .before .test .ensures .0 (a .pre .0) (C .size) in
+    let t = c .before .before .test .ensures in
     let n = not-true _ (c .if1 .taken) in
     subst (AttemptIn wideEdition (a .args .m) (a .args .w) (a .args .c) (a .args .marks .now) (a .args .word .now) (a .args .word .now))
     (sym (as-tested _ _ _ _ t n))
@@ -93,7 +112,7 @@ returns-2 c =
     let a = cand .before .before .before .before .before .before in
     let C = cand .candidate .ensures .0 (a .pre .0) (a .pre .1 .0) (a .pre .1 .1 .0) (a .pre .1 .1 .1) in
     let same = sym (slice-aggregate-copy (copied .before .before)) ∙ slice-aggregate-copy-2 (copied .before) in
-    let t = e .before .before .test .ensures .0 (a .pre .0) (C .size) in
+    let t = e .before .before .test .ensures in
     let y = not-false _ (e .if1 .left) in
     subst (λ z. AttemptIn wideEdition (a .args .m) (a .args .w) (a .args .c) (a .args .marks .now) (a .args .word .now) z (e .before .before .test .result))
     (sym (whole _ (a .args .word .now) _ (C .size ∙ sym (a .pre .1 .0)) (copied .copy .ensures .0 same)))

@@ -1,9 +1,10 @@
 use mathlib.Core.Path.{_≡_, sym, ap, _∙_}
-use Prim.Native.Nat.{_≤_}
+use Prim.Native.Nat.{_≤_, _<_}
 use native.Mathlib.Omega.{arith}
 use Rattle.shape.specs.Answers.{mendingAt}
 use Rattle.shape.specs.AnswersLaws.{mending-refused}
 use Rattle.code.specs.Marks.{excess}
+use Rattle.marks.specs.CountsLaws.{groups-whole}
 use Rattle.recover.specs.Attempt.{AcceptedIn}
 use Rattle.recover.specs.AttemptLaws.{accepted, service-refused, service-eight}
 use borrow.Author.Needs.{needs}
@@ -43,8 +44,8 @@ fair t =
     let a = r .before .before .before .before .before .args in
     accepted (a .m) (a .w) (a .c) (a .word .now) (a .marks .now) (r .refusal .result) (r .refusal .ensures) (omega arith)
 
-excess-of-requires : tie.Need-excess-of-requires
-excess-of-requires c κs = search needs
+pattern-excess-requires : tie.Need-pattern-excess-requires
+pattern-excess-requires c κs = search needs
 
 same-length-3 : tie.Need-same-length-3
 same-length-3 c = search needs
@@ -52,13 +53,23 @@ same-length-3 c = search needs
 same-length-4 : tie.Need-same-length-4
 same-length-4 c = search needs
 
+-- what the second test counts is the excess
+excess-found : (x : tie.After-pattern-excess) → let a = x .before .before .before .before .before .before .before .before .args in
+    x .pattern-excess .result ≡ excess (a .m) (a .w) (a .c) (a .marks .now)
+excess-found x =
+    let t = x .before .before in
+    let a = t .before .before .before .before .before .before .args in
+    let A = fair t in
+    let pos : 0 < a .w = (let h = A .good .wide in omega arith) in
+    x .pattern-excess .ensures ∙ ap (λ n. excess n (a .w) (a .c) (a .marks .now)) (groups-whole (a .m) (a .w) pos (A .marks-size))
+
 returns-2 : tie.Need-returns-2
 returns-2 c =
     let x = c .before in
     let t = x .before .before in
     let k = t .before .before .before .before .before in
     let a = k .before .args in
-    let h = x .excess-of .ensures .0 (fair t .good) (fair t .marks-size) in
+    let h = excess-found x in
     let e = service-eight wide-sound (a .m) (a .w) (a .c) (a .word .now) (a .marks .now) (fair t) (λ p. k .slice-known .given p .fits)
     (rw (← h) (c .if2 .taken)) in
     (ap (λ o. mendingAt (o .number) (o .group)) (sym e), (ap (λ o. o .word) (sym e), ap (λ o. o .marks) (sym e)))
@@ -67,8 +78,7 @@ returns-2 c =
 low : (t : tie.Else2) → let a = t .before .before .before .before .before .before .before .before .before .args in
     excess (a .m) (a .w) (a .c) (a .marks .now) ≤ 2
 low t =
-    let A = fair (t .before .before .before) in
-    let h = t .before .excess-of .ensures .0 (A .good) (A .marks-size) in
+    let h = excess-found (t .before) in
     rw (← h) (t .if2 .left)
 
 recover-determined-requires : tie.Need-recover-determined-requires
@@ -91,7 +101,7 @@ recover-spec =
     same-length
     same-length-2
     returns
-    excess-of-requires
+    pattern-excess-requires
     same-length-3
     same-length-4
     returns-2

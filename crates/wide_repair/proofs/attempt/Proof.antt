@@ -6,10 +6,11 @@ use Prim.Native.Nat.{_≤_}
 use lib.ListN.{length}
 use Rattle.wide_edition.specs.Edition.{wideEdition}
 use Rattle.code.specs.Word.{isLocal}
+use Rattle.code.specs.Marks.{lostIn}
 use Rattle.fill.specs.Filled.{FilledIn}
 use Rattle.repair.specs.Repair.{PartAttemptIn}
 use Rattle.wide_edition.specs.EditionLaws.{wide-sound}
-use Rattle.repair.specs.RepairLaws.{part-done, part-failed}
+use Rattle.repair.specs.RepairLaws.{filled-tested, part-done, part-failed}
 use borrow.Author.Needs.{needs}
 use Rattle.wide_repair.proofs.attempt.Statement.{statement}
 use Rattle.wide_repair.proofs.attempt.Tie as tie
@@ -20,8 +21,8 @@ copy-requires c κs = search needs
 fill-requires : tie.Need-fill-requires
 fill-requires c κs = search needs
 
-local-zero-requires : tie.Need-local-zero-requires
-local-zero-requires c κs = search needs
+filled-zero-requires : tie.Need-filled-zero-requires
+filled-zero-requires c κs = search needs
 
 same-length : tie.Need-same-length
 same-length c = search needs
@@ -38,10 +39,15 @@ returns c =
     let s = cp .before .before .before .before .before in
     let a = s .before in
     let p = a .pre in
+    let same = cp .copy .ensures .0 (sym (p .1 .1 .1 .1 .0)) in
+    let q = p .1 .1 .1 .0 in
+    let test =
+    filled-tested (a .args .c) (a .args .marks .now) _ _ (z .filled-zero .result) (f .fill .ensures) (q ∙ sym (ap length same)) (z .filled-zero .ensures .0)
+    (subst (λ n. lostIn n (a .args .marks .now) 0 ≤ a .args .c) (sym q) (p .1 .1 .1 .1 .1)) (z .filled-zero .ensures .1 .0) in
     part-failed wide-sound (length (a .args .part .now)) (a .args .c) (p .0) (p .1 .0) (p .1 .1 .0) (a .args .marks .now) (a .args .part .now) _ _ refl
     (p .1 .1 .1 .0)
     (λ i. s .slice-known .given i .fits) (λ i. k .slice-known4 .given i .fits) (p .1 .1 .1 .1 .1)
-    (cp .copy .ensures .0 (sym (p .1 .1 .1 .1 .0))) (f .fill .ensures) _ (z .local-zero .ensures .0) (not-true _ (c .if1 .taken))
+    same (f .fill .ensures) _ test (not-true _ (c .if1 .taken))
 
 copy-requires-2 : tie.Need-copy-requires-2
 copy-requires-2 c κs = search needs
@@ -63,10 +69,15 @@ returns-2 c =
     let s = cp .before .before .before .before .before in
     let a = s .before in
     let p = a .pre in
+    let same = cp .copy .ensures .0 (sym (p .1 .1 .1 .1 .0)) in
+    let q = p .1 .1 .1 .0 in
+    let test =
+    filled-tested (a .args .c) (a .args .marks .now) _ _ (z .filled-zero .result) (f .fill .ensures) (q ∙ sym (ap length same)) (z .filled-zero .ensures .0)
+    (subst (λ n. lostIn n (a .args .marks .now) 0 ≤ a .args .c) (sym q) (p .1 .1 .1 .1 .1)) (z .filled-zero .ensures .1 .0) in
     part-done wide-sound (length (a .args .part .now)) (a .args .c) (p .0) (p .1 .0) (p .1 .1 .0) (a .args .marks .now) (a .args .part .now) _ _ refl
     (p .1 .1 .1 .0)
     (λ i. s .slice-known .given i .fits) (λ i. k .slice-known4 .given i .fits) (p .1 .1 .1 .1 .1)
-    (cp .copy .ensures .0 (sym (p .1 .1 .1 .1 .0))) (f .fill .ensures) _ (z .local-zero .ensures .0) _ (not-false _ (e .if1 .left)) (cp2 .copy2 .ensures .0)
+    same (f .fill .ensures) _ test _ (not-false _ (e .if1 .left)) (cp2 .copy2 .ensures .0)
 
 pub attempt-spec : {M : Type 1} → statement M
 attempt-spec =
@@ -74,7 +85,7 @@ attempt-spec =
     (tie.spec
     copy-requires
     fill-requires
-    local-zero-requires
+    filled-zero-requires
     same-length
     same-length-2
     returns

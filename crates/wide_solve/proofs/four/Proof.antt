@@ -96,7 +96,7 @@ returns c = λ d.
     (ap (λ b. getD (a .t2) 1 0 ⊕ b) (p1 .product .ensures)) (ap (λ b. getD (a .t2) 2 0 ⊕ b) (p2 .product2 .ensures))
     (ap (λ b. getD (a .t2) 3 0 ⊕ b) (p3 .product3 .ensures))
     (u .three .ensures (λ i j l h. d i j l (omega arith)))
-    (q1 .quotient .ensures (x .0) (x .1)) (q2 .quotient2 .ensures (y .0) (y .1)) (c .quotient3 .ensures (z .0) (z .1))
+    (q1 .quotient .ensures .1 (x .0) (x .1)) (q2 .quotient2 .ensures .1 (y .0) (y .1)) (c .quotient3 .ensures .1 (z .0) (z .1))
 
 pub four-spec : {M : Type 1} → statement M
 four-spec =

@@ -31,11 +31,11 @@ product-requires c κs = search needs
 
 returns : tie.Need-returns
 unfolding digits _⊕_
-returns c = λ small n.
+returns c =
     let s = c .before .before .before in
     let a : ℕ = s .args .a in
-    ap (product 16 69643 a) (c .product .ensures ∙ ap (λ l. product 16 69643 (s .args .u) (getD l (digits a) 0)) (s .pre))
-    ∙ small-quotient a (s .args .u) small n (omega arith)
+    let e = c .product .ensures ∙ ap (λ l. product 16 69643 (s .args .u) (getD l (digits a) 0)) (s .pre) in
+    (e, λ small n. ap (product 16 69643 a) e ∙ small-quotient a (s .args .u) small n (omega arith))
 
 pub quotient-spec : {M : Type 1} → statement M
 quotient-spec =

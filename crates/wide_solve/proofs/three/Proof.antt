@@ -74,7 +74,7 @@ returns c = λ d.
     (c .quotient2 .result) (omega arith) (omega arith)
     (ap (λ b. getD (a .t2) 1 0 ⊕ b) (p1 .product .ensures)) (ap (λ b. getD (a .t2) 2 0 ⊕ b) (p2 .product2 .ensures))
     (u .two .ensures (λ i j l h. d i j l (omega arith)))
-    (q .quotient .ensures (y .0) (y .1)) (c .quotient2 .ensures (z .0) (z .1))
+    (q .quotient .ensures .1 (y .0) (y .1)) (c .quotient2 .ensures .1 (z .0) (z .1))
 
 pub three-spec : {M : Type 1} → statement M
 three-spec =

@@ -41,7 +41,7 @@ returns c = λ d.
     let a = s .args in
     let y = d 0 1 (lit< tt) (lit< tt) in
     has-two (a .t1) (a .t2) (array-small w16 6 (a .t2) _ (s .good .1 .0) 0) (c .quotient .result) (omega arith)
-    (c .quotient .ensures (y .0) (y .1) ∙ ap (λ z. getD (a .t2) 1 0 ⊕ z) (c .before .product .ensures))
+    (c .quotient .ensures .1 (y .0) (y .1) ∙ ap (λ z. getD (a .t2) 1 0 ⊕ z) (c .before .product .ensures))
 
 pub two-spec : {M : Type 1} → statement M
 two-spec =

@@ -1,6 +1,6 @@
 use mathlib.Core.Path.{_∙_}
 use native.Mathlib.Omega.{arith}
-use Rattle.wide_sums.specs.PowerSumsLaws.{sums-first, sums-second}
+use Rattle.wide_sums.specs.PowerSumsLaws.{sums-first, sums-weighted}
 use borrow.Author.Needs.{needs}
 use Rattle.wide_sums.proofs.group_sums.Statement.{statement}
 use Rattle.wide_sums.proofs.group_sums.Tie as tie
@@ -20,20 +20,28 @@ add-power-sums c = search needs
 power-sums-requires : tie.Need-power-sums-requires
 power-sums-requires c κs = search needs
 
-share-requires : tie.Need-share-requires
-share-requires c κs = search needs
+first-of-requires : tie.Need-first-of-requires
+first-of-requires c κs = search needs
+
+second-of-requires : tie.Need-second-of-requires
+second-of-requires c κs = search needs
+
+product-requires : tie.Need-product-requires
+product-requires c κs = search needs
 
 returns-3 : tie.Need-returns-3
 returns-3 c =
-    let p = c .before in
+    let q = c .before in
+    let f = q .before in
+    let p = f .before in
     let w = p .before in
     let a = w .before .before .before .before .args in (
-      λ narrow few. c .share .ensures .0 ∙ sums-first (a .part .now) (p .power-sums .result) (a .c) _ (p .power-sums .ensures .0 narrow (omega arith)) narrow
+      λ narrow few. f .first-of .ensures ∙ sums-first (a .part .now) (p .power-sums .result) (a .c) _ (p .power-sums .ensures .0 narrow (omega arith)) narrow
           (omega arith),
       (
-        λ narrow few. c .share .ensures .1
-            ∙ sums-second (a .part .now) (p .power-sums .result) (a .c) _ (p .power-sums .ensures .0 narrow (omega arith)) narrow (omega arith) (a .g) _
-            (w .power-of-two .ensures),
+        λ narrow few. c .product .ensures
+            ∙ sums-weighted (a .part .now) (p .power-sums .result) (a .c) _ (p .power-sums .ensures .0 narrow (omega arith)) narrow (omega arith) (a .g) _ _
+            (w .power-of-two .ensures) (q .second-of .ensures),
         λ n. absurd (n (omega arith) (omega arith)),
       ),
     )
@@ -47,5 +55,7 @@ group-sums-spec =
     power-of-two-requires
     add-power-sums
     power-sums-requires
-    share-requires
+    first-of-requires
+    second-of-requires
+    product-requires
     returns-3)

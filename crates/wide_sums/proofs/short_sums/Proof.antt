@@ -1,0 +1,43 @@
+use mathlib.Core.Path.{_≡_, sym, _∙_}
+use native.Mathlib.Omega.{arith}
+use Rattle.check_rows.specs.PaddedLaws.{padded-sum}
+use Rattle.code.specs.Edition.{raised}
+use Rattle.wide_edition.specs.Edition.{wideEdition}
+use borrow.Author.Needs.{needs}
+use Rattle.wide_sums.proofs.short_sums.Statement.{statement}
+use Rattle.wide_sums.proofs.short_sums.Tie as tie
+
+padded-requires : tie.Need-padded-requires
+padded-requires c κs = search needs
+
+short-locators-requires : tie.Need-short-locators-requires
+short-locators-requires c κs = search needs
+
+slice-aggregate-gather : tie.Need-slice-aggregate-gather
+slice-aggregate-gather c = search needs
+
+slice-aggregate-gather-2 : tie.Need-slice-aggregate-gather-2
+slice-aggregate-gather-2 c = search needs
+
+gather-requires : tie.Need-gather-requires
+gather-requires c κs =
+    let r = c .before .before .short-locators .ensures in
+    let p = c .before .before .before .padded .ensures in
+    (r .0 ∙ sym (p .size), ((λ j l. r .1 j (omega (arith, p .size))), c .before .before .before .before .before .pre .1))
+
+returns : tie.Need-returns
+returns c =
+    let p = c .before .before .before .before .before .padded in
+    let s = c .before .before .before .before .before .before .before in
+    λ e l. c .before .gather .ensures e l ∙ padded-sum wideEdition (p .ensures) (s .pre .0) (λ j. raised wideEdition (wideEdition .locator j) e)
+
+pub short-sums-spec : {M : Type 1} → statement M
+short-sums-spec =
+    tie.close
+    (tie.spec
+    padded-requires
+    short-locators-requires
+    slice-aggregate-gather
+    slice-aggregate-gather-2
+    gather-requires
+    returns)
