@@ -1,35 +1,152 @@
--- Laws: Words with the present symbols of another for which both sums across are zero.
-use mathlib.Core.Path.{_≡_, refl, sym, ap, _∙_, subst}
-use mathlib.Core.Bool.{Bool, true, false, not, _&&_}
+-- Laws: The free places of a block rebuild.
+use mathlib.Core.Path.{_≡_, refl, sym, ap, ap₂, _∙_, subst}
+use mathlib.Core.Bool.{Bool, true, false, cond, not, _&&_, true≢false}
 use mathlib.Core.List.{List}
-use Prim.Native.Nat.{ℕ, zero, _+_, _*_, _/_, _%_, _<_, _≤_}
+use Prim.Native.Nat.{ℕ, zero, suc, _+_, _*_, _/_, _%_, _<_, _≤_}
 use native.Mathlib.Nat.{div-add-mod', mod-lt, div-lt-iff-lt-mul}
 use native.Mathlib.Omega.{arith}
-use native.Mathlib.Decide.{decLt}
-use lib.Dec.{T, eqb}
-use lib.ListN.{getD}
+use native.Mathlib.Decide.{ℕ-discrete, decLt}
+use borrow.Author.Tests.{eq-eqb, ne-eqb}
+use lib.Dec.{T, eqb, lit<}
+use lib.ListN.{length, getD}
 use Rattle.counting.specs.Test.{anyBelow}
 use Rattle.counting.specs.TestLaws.{any-at, none-at}
-use Rattle.binary_field.specs.ProductLaws.{product-zero}
-use Rattle.binary_field.specs.SumLaws.{sum-ext}
+use Rattle.binary_field.specs.Xor.{_⊕_}
+use Rattle.binary_field.specs.XorLaws.{⊕-self, ⊕-zero-l, ⊕-zero-r, ⊕-cancel, ⊕-lt}
+use Rattle.binary_field.specs.ProductLaws.{product-comm, product-assoc, product-add, add-product, product-zero, zero-product, product-one, product-lt, ring}
+use Rattle.binary_field.specs.Sum.{sumBelow}
+use Rattle.binary_field.specs.SumLaws.{sum-ext, sum-zero, sum-add, sum-single, scale-sum, sum-lt}
 use Rattle.shape.specs.Shapes.{Good}
 use Rattle.code.specs.Edition.{times}
 use Rattle.code.specs.Word.{Codeword}
-use Rattle.code.specs.Marks.{lost, lostIn}
+use Rattle.code.specs.Marks.{lost, lostIn, excess}
+use Rattle.code.specs.Blank.{blank}
+use Rattle.code.specs.BlankLaws.{blank-at, blank-codeword}
 use Rattle.code.specs.Determined.{listOf}
-use Rattle.code.specs.DeterminedLaws.{list-at}
+use Rattle.code.specs.DeterminedLaws.{list-at, unique}
 use Rattle.code.specs.Recovery.{Agrees}
 use Rattle.code.specs.Stretch.{stretch}
 use Rattle.code.specs.StretchLaws.{stretch-at, stretch-count}
 use Rattle.code.specs.CombinedLaws.{place-less}
 use Rattle.byte_edition.specs.Edition.{byteEdition}
+use Rattle.byte_edition.specs.EditionLaws.{bytes-sound, bytes-few}
 use Rattle.erasures.specs.Bound.{free}
 use Rattle.erasures.specs.Whole.{BoundAll}
-use Rattle.block_engine.specs.Group.{AgreesIn, Mendable}
+use Rattle.block_free.specs.Rows.{withAt, mixed}
+use Rattle.block_engine.specs.Group.{AgreesIn, Mendable, StandsFor}
 use Rattle.block_engine.specs.GroupLaws.{mendable}
 use Rattle.block_engine.specs.Whole.{rowSum, Across}
 use Rattle.block_engine.specs.WholeLaws.{joined-codeword, codeword-group, codeword-first, codeword-second}
-use Rattle.block_engine.specs.Free.{PresentSame, Completes, Completable}
+use Rattle.block_engine.specs.Free.{PresentSame, Completes, Completable, OneSolved, TwoSolved}
+
+-- ---- sums of rows
+module _ (n : ℕ) where
+  pub row-lt : (v a : ℕ → ℕ) → rowSum n v a < 256
+  unfolding rowSum
+  row-lt v a = sum-lt 8 n _ (λ p _. product-lt 8 285 (v p) (a p))
+
+  -- a symbol at place p by itself
+  pub row-at : (p u : ℕ) (v a : ℕ → ℕ) → p < n → rowSum n (withAt p u v) a ≡ rowSum n v (withAt p 0 a) ⊕ times byteEdition u (a p)
+  unfolding rowSum
+  row-at p u v a l =
+      sum-ext n _ _ (λ q _. term q) ∙ sum-add n (λ q. times byteEdition (v q) (withAt p 0 a q)) (λ q. cond (eqb q p) (times byteEdition u (a p)) 0)
+      ∙ ap (λ s. sumBelow n (λ q. times byteEdition (v q) (withAt p 0 a q)) ⊕ s)
+      (sum-single n p _ l (λ q _ d. ap (λ b. cond b (times byteEdition u (a p)) 0) (ne-eqb q p d)) ∙ ap (λ b. cond b (times byteEdition u (a p)) 0)
+      (eq-eqb p p refl))
+    where
+      term : (q : ℕ) → times byteEdition (withAt p u v q) (a q) ≡ times byteEdition (v q) (withAt p 0 a q) ⊕ cond (eqb q p) (times byteEdition u (a p)) 0
+      term q = elim (ℕ-discrete q p) [
+        | yes e ↦
+            (rw (eq-eqb q p e) (ap (λ i. times byteEdition u (a i)) e ∙ sym (⊕-zero-l _) ∙ ap (λ s. s ⊕ times byteEdition u (a p)) (sym
+            (product-zero 8 285 (v q)))))
+        | no e ↦ (rw (ne-eqb q p e) (sym (⊕-zero-r _)))
+      ]
+
+  -- a mixture of rows
+  pub row-mixed : (v a b : ℕ → ℕ) (f h : ℕ) → rowSum n v (mixed f h a b) ≡ times byteEdition (rowSum n v a) f ⊕ times byteEdition (rowSum n v b) h
+  unfolding rowSum
+  row-mixed v a b f h =
+      sum-ext n _ _ (λ q _. product-add 8 285 (v q) _ _ ∙ ap₂ _⊕_ (sym (product-assoc 8 285 (v q) (a q) f)) (sym (product-assoc 8 285 (v q) (b q) h)))
+      ∙ sum-add n _ _ ∙ ap₂ _⊕_ (scale-sum 8 285 n f _) (scale-sum 8 285 n h _)
+
+-- ---- what one and two free places ask of the factors
+one-times : (a : ℕ) → a < 256 → times byteEdition a 1 ≡ a
+one-times a l = product-one 8 285 (lit< tt) a l
+
+-- by the first row
+pub one-first : (a b i : ℕ) → a < 256 → b < 256 → times byteEdition a i ≡ 1 → OneSolved a b i 0 (times byteEdition b i) 1
+one-first a b i la lb e = record {
+  unit = ap₂ _⊕_ e (product-zero 8 285 b) ∙ ⊕-zero-r 1;
+  none = ap (λ s. times byteEdition a (times byteEdition b i) ⊕ s) (one-times b lb) ∙ ap (λ s. s ⊕ b) (swap a b i ∙ ap (times byteEdition b) e
+      ∙ one-times b lb) ∙ ⊕-self b;
+  first = λ s t ls lt z. value s t ∙ undo s ls;
+  second = λ s t ls lt z.
+      ap (λ u. times byteEdition (times byteEdition s i ⊕ u) b) (product-zero 8 285 t) ∙ ap (λ u. times byteEdition u b) (⊕-zero-r _) ∙ turn s i b
+      ∙ ⊕-cancel (ap (λ u. times byteEdition s (times byteEdition b i) ⊕ u) (sym (one-times t lt)) ∙ z);
+}
+  where
+    swap : (x y k : ℕ) → times byteEdition x (times byteEdition y k) ≡ times byteEdition y (times byteEdition x k)
+    swap x y k = simp ring
+
+    turn : (s i b : ℕ) → times byteEdition (times byteEdition s i) b ≡ times byteEdition s (times byteEdition b i)
+    turn s i b = simp ring
+
+    value : (s t : ℕ) → times byteEdition (times byteEdition s i ⊕ times byteEdition t 0) a ≡ times byteEdition s (times byteEdition a i)
+    value s t = ap (λ u. times byteEdition (times byteEdition s i ⊕ u) a) (product-zero 8 285 t) ∙ ap (λ u. times byteEdition u a) (⊕-zero-r _) ∙ turn s i a
+
+    undo : (s : ℕ) → s < 256 → times byteEdition s (times byteEdition a i) ≡ s
+    undo s l = ap (times byteEdition s) e ∙ one-times s l
+
+-- by the second, where the first has 0 there
+pub one-second : (a b i : ℕ) → a ≡ 0 → b < 256 → times byteEdition b i ≡ 1 → OneSolved a b 0 i 1 0
+one-second a b i z lb e = record {
+  unit = ap₂ _⊕_ (product-zero 8 285 a) e ∙ ⊕-zero-l 1;
+  none = ap₂ _⊕_ (ap (λ x. times byteEdition x 1) z ∙ zero-product 8 285 1) (product-zero 8 285 b) ∙ ⊕-self 0;
+  first = λ s t ls lt q.
+      ap (times byteEdition _) z ∙ product-zero 8 285 _ ∙ sym (sym (one-times s ls) ∙ sym (⊕-zero-r _) ∙ ap (λ u. times byteEdition s 1 ⊕ u) (sym
+      (product-zero 8 285 t)) ∙ q);
+  second = λ s t ls lt q.
+      ap (λ u. times byteEdition (u ⊕ times byteEdition t i) b) (product-zero 8 285 s) ∙ ap (λ u. times byteEdition u b) (⊕-zero-l _) ∙ turn t i b
+      ∙ ap (times byteEdition t) e ∙ one-times t lt;
+}
+  where
+    turn : (s i b : ℕ) → times byteEdition (times byteEdition s i) b ≡ times byteEdition s (times byteEdition b i)
+    turn s i b = simp ring
+
+-- by the determinant, of which i is the inverse
+pub two-solved : (a a′ b b′ i : ℕ) → times byteEdition (times byteEdition a b′ ⊕ times byteEdition a′ b) i ≡ 1
+    → TwoSolved a a′ b b′ (times byteEdition i b′) (times byteEdition i a′) (times byteEdition i b) (times byteEdition i a)
+two-solved a a′ b b′ i e = record {
+  unit = l1 ∙ e;
+  cross = l2;
+  unit′ = l3 ∙ e;
+  cross′ = l4;
+  first = λ s t ls lt. l5 s t ∙ ap (times byteEdition s) e ∙ one-times s ls;
+  second = λ s t ls lt. l6 s t ∙ ap (times byteEdition t) e ∙ one-times t lt;
+}
+  where
+    det : ℕ
+    det = times byteEdition (times byteEdition a b′ ⊕ times byteEdition a′ b) i
+
+    l1 : times byteEdition a (times byteEdition i b′) ⊕ times byteEdition b (times byteEdition i a′) ≡ det
+    l1 = simp ring
+
+    l2 : times byteEdition a′ (times byteEdition i b′) ⊕ times byteEdition b′ (times byteEdition i a′) ≡ 0
+    l2 = simp ring
+
+    l3 : times byteEdition a′ (times byteEdition i b) ⊕ times byteEdition b′ (times byteEdition i a) ≡ det
+    l3 = simp ring
+
+    l4 : times byteEdition a (times byteEdition i b) ⊕ times byteEdition b (times byteEdition i a) ≡ 0
+    l4 = simp ring
+
+    l5 : (s t : ℕ) → times byteEdition (times byteEdition s (times byteEdition i b′) ⊕ times byteEdition t (times byteEdition i a′)) a
+        ⊕ times byteEdition (times byteEdition s (times byteEdition i b) ⊕ times byteEdition t (times byteEdition i a)) a′ ≡ times byteEdition s det
+    l5 s t = simp ring
+
+    l6 : (s t : ℕ) → times byteEdition (times byteEdition s (times byteEdition i b′) ⊕ times byteEdition t (times byteEdition i a′)) b
+        ⊕ times byteEdition (times byteEdition s (times byteEdition i b) ⊕ times byteEdition t (times byteEdition i a)) b′ ≡ times byteEdition t det
+    l6 s t = simp ring
 
 -- ---- words
 -- a choice for every g below m
@@ -153,3 +270,237 @@ module _ (m w c : ℕ) (good : Good m w c) (marks bound : List ℕ) (K : BoundAl
         first = codeword-first m w c wide (good .few-checks) bound within y (Y .codeword) (λ p. getD y p 0) (λ p _ _. refl) a A;
         second = codeword-second m w c wide (good .few-checks) bound within y (Y .codeword) (λ p. getD y p 0) (λ p _ _. refl) b B;
       }
+
+    -- ---- what stands at the free places and nowhere else completes nothing, unless it is nothing
+    module _ (low : excess m w c marks ≤ 2) where
+      nothing-mendable : (g : ℕ) → g < m → Mendable w c g (stretch w g bound) (λ _. 0)
+      nothing-mendable g l =
+          let C = codeword-group m w c wide (good .few-checks) bound within (blank (m * w)) (blank-codeword byteEdition m w c) (λ _. 0)
+          (λ p _ _. blank-at (m * w) p) g l in
+          (_, C)
+
+      pub kernel : (z : ℕ → ℕ) → Completes (m * w) marks bound a b (λ _. 0) z → (p : ℕ) → p < m * w → lost bound p ≡ false → z p ≡ 0
+      kernel z C p l e =
+          let J = completed (λ _. 0) z nothing-mendable C in
+          let u : J .0 ≡ blank (m * w) =
+          unique byteEdition bytes-sound m w c (bytes-few (good .few)) wide (good .narrow) marks (J .0) (blank (m * w)) (J .1)
+          (blank-codeword byteEdition m w c)
+          (λ q h f. J .2 q h (K .bound-lost q h f) ∙ sym (C .same q h f) ∙ sym (blank-at (m * w) q)) low in
+          sym (J .2 p l e) ∙ ap (λ k. getD k p 0) u ∙ blank-at (m * w) p
+
+-- ---- one free place
+row-nothing : (n : ℕ) (a : ℕ → ℕ) → rowSum n (λ _. 0) a ≡ 0
+unfolding rowSum
+row-nothing n a = sum-zero n _ (λ p _. zero-product 8 285 (a p))
+
+at-here : (p u : ℕ) (v : ℕ → ℕ) → withAt p u v p ≡ u
+at-here p u v = ap (λ b. cond b u (v p)) (eq-eqb p p refl)
+
+at-other : (p u : ℕ) (v : ℕ → ℕ) (q : ℕ) → ¬ (q ≡ p) → withAt p u v q ≡ v q
+at-other p u v q d = ap (λ b. cond b u (v q)) (ne-eqb q p d)
+
+at-small : (p u : ℕ) (v : ℕ → ℕ) → u < 256 → ((q : ℕ) → v q < 256) → (q : ℕ) → withAt p u v q < 256
+at-small p u v l s q = go (eqb q p)
+  where
+    go : (b : Bool) → cond b u (v q) < 256
+    go true = l
+    go false = s q
+
+-- s and t are what z has at p times the entries there
+from-value : (z a b s t f h : ℕ) → s ⊕ times byteEdition z a ≡ 0 → t ⊕ times byteEdition z b ≡ 0 → times byteEdition s f ⊕ times byteEdition t h
+    ≡ times byteEdition z (times byteEdition a f ⊕ times byteEdition b h)
+from-value z a b s t f h e g = ap₂ (λ x y. times byteEdition x f ⊕ times byteEdition y h) (⊕-cancel e) (⊕-cancel g) ∙ spread z a b f h
+  where
+    spread : (z a b f h : ℕ) → times byteEdition (times byteEdition z a) f ⊕ times byteEdition (times byteEdition z b) h
+        ≡ times byteEdition z (times byteEdition a f ⊕ times byteEdition b h)
+    spread z a b f h = simp ring
+
+module _ (m w c : ℕ) (good : Good m w c) (marks bound : List ℕ) (K : BoundAll m w c marks bound) (a b : ℕ → ℕ)
+    (A : Across m w c bound 4 a) (B : Across m w c bound 5 b) (p : ℕ) (less : p < m * w) (lost-p : lost marks p ≡ true) (open-p : lost bound p ≡ false) where
+  -- place p alone
+  module _ (only : (q : ℕ) → q < m * w → lost marks q ≡ true → lost bound q ≡ false → q ≡ p) where
+    other-present : (q : ℕ) → q < m * w → lost bound q ≡ false → ¬ (q ≡ p) → lost marks q ≡ false
+    other-present q l e d = go (lost marks q) refl
+      where
+        go : (x : Bool) → lost marks q ≡ x → lost marks q ≡ false
+        go true f = absurd (d (only q l f e))
+        go false f = f
+
+    pub one-some : excess m w c marks ≤ 2 → a p ≡ 0 → b p ≡ 0 → ⊥
+    one-some low za zb =
+        let z : _≡_ {A = ℕ} 1 0 = sym (at-here p 1 (λ _. 0)) ∙ kernel m w c good marks bound K a b A B low (withAt p 1 (λ _. 0)) (record {
+          small = at-small p 1 (λ _. 0) (lit< tt) (λ _. lit< tt);
+          same = λ q l e. sym (at-other p 1 (λ _. 0) q (λ d. true≢false (sym lost-p ∙ ap (lost marks) (sym d) ∙ e)));
+          first = row-at (m * w) p 1 (λ _. 0) a less ∙ ap₂ _⊕_ (row-nothing (m * w) _) (ap (times byteEdition 1) za ∙ product-zero 8 285 1) ∙ ⊕-self 0;
+          second = row-at (m * w) p 1 (λ _. 0) b less ∙ ap₂ _⊕_ (row-nothing (m * w) _) (ap (times byteEdition 1) zb ∙ product-zero 8 285 1) ∙ ⊕-self 0;
+        }) p less open-p in
+        omega arith
+
+    module _ (f h d k : ℕ) (S : OneSolved (a p) (b p) f h d k) (v : ℕ → ℕ) (small : (q : ℕ) → v q < 256) where
+      s : ℕ
+      s = rowSum (m * w) v (withAt p 0 a)
+
+      t : ℕ
+      t = rowSum (m * w) v (withAt p 0 b)
+
+      sum-of : (x y : ℕ) → rowSum (m * w) v (mixed x y (withAt p 0 a) (withAt p 0 b)) ≡ times byteEdition s x ⊕ times byteEdition t y
+      unfolding s t
+      sum-of x y = row-mixed (m * w) v (withAt p 0 a) (withAt p 0 b) x y
+
+      -- the test row comes to 0: then the value row completes the word
+      pub one-completable : rowSum (m * w) v (mixed d k (withAt p 0 a) (withAt p 0 b)) ≡ 0 → Completable (m * w) marks bound a b v
+      unfolding s t
+      one-completable z =
+          let e : times byteEdition s d ⊕ times byteEdition t k ≡ 0 = sym (sum-of d k) ∙ z in
+          let u : ℕ = times byteEdition s f ⊕ times byteEdition t h in (
+            withAt p u v,
+            record {
+              small = at-small p u v (⊕-lt 8 _ _ (product-lt 8 285 s f) (product-lt 8 285 t h)) small;
+              same = λ q l g. sym (at-other p u v q (λ x. true≢false (sym lost-p ∙ ap (lost marks) (sym x) ∙ g)));
+              first = row-at (m * w) p u v a less ∙ ap (λ x. s ⊕ x) (S .first s t (row-lt (m * w) v _) (row-lt (m * w) v _) e) ∙ ⊕-self s;
+              second = row-at (m * w) p u v b less ∙ ap (λ x. t ⊕ x) (S .second s t (row-lt (m * w) v _) (row-lt (m * w) v _) e) ∙ ⊕-self t;
+            },
+          )
+
+      module _ (z : ℕ → ℕ) (C : Completes (m * w) marks bound a b v z) where
+        same-open : (q : ℕ) → q < m * w → lost bound q ≡ false → z q ≡ withAt p (z p) v q
+        same-open q l e = elim (ℕ-discrete q p) [
+          | yes d ↦ ap z d ∙ sym (ap (withAt p (z p) v) d ∙ at-here p (z p) v)
+          | no d ↦ sym (at-other p (z p) v q d ∙ C .same q l (other-present q l e d))
+        ]
+
+        s-is : s ⊕ times byteEdition (z p) (a p) ≡ 0
+        unfolding s
+        s-is = sym (row-at (m * w) p (z p) v a less) ∙ sym (row-agree m w c good marks bound K a b A B 4 a A z (withAt p (z p) v) same-open) ∙ C .first
+
+        t-is : t ⊕ times byteEdition (z p) (b p) ≡ 0
+        unfolding t
+        t-is = sym (row-at (m * w) p (z p) v b less) ∙ sym (row-agree m w c good marks bound K a b A B 5 b B z (withAt p (z p) v) same-open) ∙ C .second
+
+        pub one-value : rowSum (m * w) v (mixed f h (withAt p 0 a) (withAt p 0 b)) ≡ z p
+        one-value = sum-of f h ∙ from-value (z p) (a p) (b p) s t f h s-is t-is ∙ ap (times byteEdition (z p)) (S .unit) ∙ one-times (z p) (C .small p)
+
+        pub one-tested : rowSum (m * w) v (mixed d k (withAt p 0 a) (withAt p 0 b)) ≡ 0
+        one-tested = sum-of d k ∙ from-value (z p) (a p) (b p) s t d k s-is t-is ∙ ap (times byteEdition (z p)) (S .none) ∙ product-zero 8 285 (z p)
+
+  -- ---- two free places
+  module _ (q : ℕ) (less-q : q < m * w) (lost-q : lost marks q ≡ true) (open-q : lost bound q ≡ false) (apart : ¬ (q ≡ p))
+      (only : (r : ℕ) → r < m * w → lost marks r ≡ true → lost bound r ≡ false → ¬ (r ≡ p) → r ≡ q) where
+    both : (r : ℕ → ℕ) (v : ℕ → ℕ) (u x : ℕ)
+        → rowSum (m * w) (withAt p u (withAt q x v)) r ≡ rowSum (m * w) v (withAt q 0 (withAt p 0 r)) ⊕ (times byteEdition u (r p) ⊕ times byteEdition x (r q))
+    both r v u x =
+        row-at (m * w) p u (withAt q x v) r less
+        ∙ ap (λ i. i ⊕ times byteEdition u (r p)) (row-at (m * w) q x v (withAt p 0 r) less-q ∙ ap (λ i. rowSum (m * w) v (withAt q 0 (withAt p 0 r))
+        ⊕ times byteEdition x i) (at-other p 0 r q apart))
+        ∙ turn (rowSum (m * w) v (withAt q 0 (withAt p 0 r))) (times byteEdition x (r q)) (times byteEdition u (r p))
+      where
+        turn : (i j k : ℕ) → (i ⊕ j) ⊕ k ≡ i ⊕ (k ⊕ j)
+        turn i j k = simp ring
+
+    present-apart : (r : ℕ) → lost marks r ≡ false → ¬ (r ≡ p) × ¬ (r ≡ q)
+    present-apart r e = (λ x. true≢false (sym lost-p ∙ ap (lost marks) (sym x) ∙ e), λ x. true≢false (sym lost-q ∙ ap (lost marks) (sym x) ∙ e))
+
+    two-kernel : excess m w c marks ≤ 2 → (u x : ℕ) → u < 256 → x < 256 → times byteEdition u (a p) ⊕ times byteEdition x (a q) ≡ 0
+        → times byteEdition u (b p) ⊕ times byteEdition x (b q) ≡ 0
+        → (u ≡ 0) × (x ≡ 0)
+    two-kernel low u x lu lx ea eb =
+        let z : ℕ → ℕ = withAt p u (withAt q x (λ _. 0)) in
+        let N = kernel m w c good marks bound K a b A B low z (record {
+          small = at-small p u (withAt q x (λ _. 0)) lu (at-small q x (λ _. 0) lx (λ _. lit< tt));
+          same = λ r l e. let d = present-apart r e in sym (at-other p u (withAt q x (λ _. 0)) r (d .0) ∙ at-other q x (λ _. 0) r (d .1));
+          first = both a (λ _. 0) u x ∙ ap₂ _⊕_ (row-nothing (m * w) _) ea ∙ ⊕-self 0;
+          second = both b (λ _. 0) u x ∙ ap₂ _⊕_ (row-nothing (m * w) _) eb ∙ ⊕-self 0;
+        }) in
+        (sym (at-here p u (withAt q x (λ _. 0))) ∙ N p less open-p, sym (at-other p u (withAt q x (λ _. 0)) q apart ∙ at-here q x (λ _. 0)) ∙ N q less-q open-q)
+
+    -- the determinant is not 0
+    pub two-some : excess m w c marks ≤ 2 → a p < 256 → a q < 256 → b p < 256 → b q < 256 → times byteEdition (a p) (b q)
+        ⊕ times byteEdition (a q) (b p) ≡ 0 → ⊥
+    two-some low la la′ lb lb′ z =
+        let X = two-kernel low (a q) (a p) la′ la (k1 (a p) (a q)) (k2 (a p) (a q) (b p) (b q) ∙ z) in
+        let Y = two-kernel low (b q) (b p) lb′ lb (k3 (a p) (a q) (b p) (b q) ∙ z) (k1 (b p) (b q)) in
+        let O = two-kernel low 1 0 (lit< tt) (lit< tt) (zero-both (a p) (a q) (X .1)) (zero-both (b p) (b q) (Y .1)) in
+        let e = O .0 in
+        omega arith
+      where
+        k1 : (i j : ℕ) → times byteEdition j i ⊕ times byteEdition i j ≡ 0
+        k1 i j = simp ring
+
+        k2 : (i j k l : ℕ) → times byteEdition j k ⊕ times byteEdition i l ≡ times byteEdition i l ⊕ times byteEdition j k
+        k2 i j k l = simp ring
+
+        k3 : (i j k l : ℕ) → times byteEdition l i ⊕ times byteEdition k j ≡ times byteEdition i l ⊕ times byteEdition j k
+        k3 i j k l = simp ring
+
+        zero-both : (i j : ℕ) → i ≡ 0 → times byteEdition 1 i ⊕ times byteEdition 0 j ≡ 0
+        zero-both i j e = ap₂ _⊕_ (ap (times byteEdition 1) e ∙ product-zero 8 285 1) (zero-product 8 285 j) ∙ ⊕-self 0
+
+    module _ (f h f′ h′ : ℕ) (S : TwoSolved (a p) (a q) (b p) (b q) f h f′ h′) (v : ℕ → ℕ) (small : (r : ℕ) → v r < 256) where
+      s₂ : ℕ
+      s₂ = rowSum (m * w) v (withAt q 0 (withAt p 0 a))
+
+      t₂ : ℕ
+      t₂ = rowSum (m * w) v (withAt q 0 (withAt p 0 b))
+
+      sum-two : (x y : ℕ) → rowSum (m * w) v (mixed x y (withAt q 0 (withAt p 0 a)) (withAt q 0 (withAt p 0 b))) ≡ times byteEdition s₂ x
+          ⊕ times byteEdition t₂ y
+      unfolding s₂ t₂
+      sum-two x y = row-mixed (m * w) v (withAt q 0 (withAt p 0 a)) (withAt q 0 (withAt p 0 b)) x y
+
+      -- every word can be completed
+      pub two-completable : Completable (m * w) marks bound a b v
+      unfolding s₂ t₂
+      two-completable =
+          let u : ℕ = times byteEdition s₂ f ⊕ times byteEdition t₂ h in
+          let x : ℕ = times byteEdition s₂ f′ ⊕ times byteEdition t₂ h′ in (
+            withAt p u (withAt q x v),
+            record {
+              small = at-small p u (withAt q x v) (⊕-lt 8 _ _ (product-lt 8 285 s₂ f) (product-lt 8 285 t₂ h)) (at-small q x v (⊕-lt 8 _ _
+                  (product-lt 8 285 s₂ f′) (product-lt 8 285 t₂ h′)) small);
+              same = λ r l e. let d = present-apart r e in sym (at-other p u (withAt q x v) r (d .0) ∙ at-other q x v r (d .1));
+              first = both a v u x ∙ ap (λ i. s₂ ⊕ i) (S .first s₂ t₂ (row-lt (m * w) v _) (row-lt (m * w) v _)) ∙ ⊕-self s₂;
+              second = both b v u x ∙ ap (λ i. t₂ ⊕ i) (S .second s₂ t₂ (row-lt (m * w) v _) (row-lt (m * w) v _)) ∙ ⊕-self t₂;
+            },
+          )
+
+      module _ (z : ℕ → ℕ) (C : Completes (m * w) marks bound a b v z) where
+        same-two : (r : ℕ) → r < m * w → lost bound r ≡ false → z r ≡ withAt p (z p) (withAt q (z q) v) r
+        same-two r l e = elim (ℕ-discrete r p) [
+          | yes d ↦ ap z d ∙ sym (ap (withAt p (z p) (withAt q (z q) v)) d ∙ at-here p (z p) (withAt q (z q) v))
+          | no d ↦ elim (ℕ-discrete r q) [
+            | yes k ↦ ap z k ∙ sym (at-other p (z p) (withAt q (z q) v) r d ∙ ap (withAt q (z q) v) k ∙ at-here q (z q) v)
+            | no k ↦ sym (at-other p (z p) (withAt q (z q) v) r d ∙ at-other q (z q) v r k ∙ C .same r l (go (lost marks r) refl d k))
+          ]
+        ]
+          where
+            go : (x : Bool) → lost marks r ≡ x → ¬ (r ≡ p) → ¬ (r ≡ q) → lost marks r ≡ false
+            go true g d k = absurd (k (only r l g e d))
+            go false g d k = g
+
+        s-two : s₂ ⊕ (times byteEdition (z p) (a p) ⊕ times byteEdition (z q) (a q)) ≡ 0
+        unfolding s₂
+        s-two = sym (both a v (z p) (z q)) ∙ sym (row-agree m w c good marks bound K a b A B 4 a A z (withAt p (z p) (withAt q (z q) v)) same-two) ∙ C .first
+
+        t-two : t₂ ⊕ (times byteEdition (z p) (b p) ⊕ times byteEdition (z q) (b q)) ≡ 0
+        unfolding t₂
+        t-two = sym (both b v (z p) (z q)) ∙ sym (row-agree m w c good marks bound K a b A B 5 b B z (withAt p (z p) (withAt q (z q) v)) same-two) ∙ C .second
+
+        from-two : (x y : ℕ) → times byteEdition s₂ x ⊕ times byteEdition t₂ y
+            ≡ times byteEdition (z p) (times byteEdition (a p) x ⊕ times byteEdition (b p) y) ⊕ times byteEdition (z q) (times byteEdition (a q) x
+            ⊕ times byteEdition (b q) y)
+        from-two x y = ap₂ (λ i j. times byteEdition i x ⊕ times byteEdition j y) (⊕-cancel s-two) (⊕-cancel t-two) ∙ spread (z p) (z q) (a p) (a q) (b p) (b q)
+          where
+            spread : (i j k l o r : ℕ) → times byteEdition (times byteEdition i k ⊕ times byteEdition j l) x
+                ⊕ times byteEdition (times byteEdition i o ⊕ times byteEdition j r) y
+                ≡ times byteEdition i (times byteEdition k x ⊕ times byteEdition o y) ⊕ times byteEdition j (times byteEdition l x ⊕ times byteEdition r y)
+            spread i j k l o r = simp ring
+
+        pub two-value : rowSum (m * w) v (mixed f h (withAt q 0 (withAt p 0 a)) (withAt q 0 (withAt p 0 b))) ≡ z p
+        two-value =
+            sum-two f h ∙ from-two f h ∙ ap₂ (λ i j. times byteEdition (z p) i ⊕ times byteEdition (z q) j) (S .unit) (S .cross)
+            ∙ ap₂ _⊕_ (one-times (z p) (C .small p)) (product-zero 8 285 (z q)) ∙ ⊕-zero-r (z p)
+
+        pub two-value′ : rowSum (m * w) v (mixed f′ h′ (withAt q 0 (withAt p 0 a)) (withAt q 0 (withAt p 0 b))) ≡ z q
+        two-value′ =
+            sum-two f′ h′ ∙ from-two f′ h′ ∙ ap₂ (λ i j. times byteEdition (z p) i ⊕ times byteEdition (z q) j) (S .cross′) (S .unit′)
+            ∙ ap₂ _⊕_ (product-zero 8 285 (z p)) (one-times (z q) (C .small q)) ∙ ⊕-zero-l (z q)

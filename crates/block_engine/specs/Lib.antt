@@ -10,4 +10,5 @@ pub mod FreeLaws
 pub mod Rest
 pub mod RestLaws
 pub mod Ready
+pub mod AcrossLaws
 pub mod ReadyLaws

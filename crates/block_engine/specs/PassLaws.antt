@@ -1,31 +1,32 @@
 -- Laws: the steps of the two passes, group by group.
-use mathlib.Core.Path.{_≡_, refl, sym, ap, ap₂, _∙_, subst}
+use mathlib.Core.Path.{_≡_, refl, sym, ap, _∙_, subst}
 use mathlib.Core.Bool.{Bool, true, false, true≢false}
 use mathlib.Core.Logic.{_⊎_, inl, inr}
 use mathlib.Core.List.{List}
 use Prim.Native.Nat.{ℕ, zero, suc, _+_, _-_, _*_, _<_, _≤_}
-use native.Mathlib.Nat.{suc-mul, mul-le-mul-right, zero-add}
+use native.Mathlib.Nat.{suc-mul, mul-le-mul-right, add-mul as nat-add-mul}
 use native.Mathlib.Omega.{arith}
 use native.Mathlib.Decide.{ℕ-discrete, decLt}
-use lib.ListN.{length, getD, set}
-use lib.Seq.{getD-set-same, getD-set-other}
+use lib.ListN.{length, getD, set, take, drop, length-take, length-drop}
+use lib.Seq.{getD-set-same, getD-set-other, getD-take, getD-drop}
 use Rattle.counting.specs.Count.{countBelow}
 use Rattle.counting.specs.CountLaws.{count-next}
 use Rattle.binary_field.specs.Product.{product}
 use Rattle.binary_field.specs.ProductLaws.{product-comm}
 use Rattle.binary_field.specs.SumLaws.{sum-ext}
+use Rattle.shape.specs.Shapes.{Good}
 use Rattle.code.specs.Marks.{lost, lostIn}
 use Rattle.code.specs.Stretch.{stretch, withStretch}
-use Rattle.code.specs.StretchLaws.{with-length, with-inside, stretch-count}
+use Rattle.code.specs.StretchLaws.{with-length, with-inside, stretch-with, stretch-ext, stretch-count}
 use Rattle.fill.proofs.Laws.{lost-below}
 use Rattle.byte_edition.specs.Edition.{byteEdition}
 use Rattle.block_constants.specs.Reduced.{dot, ReducedTo}
 use Rattle.block_constants.specs.ReducedLaws.{dot-ext}
-use Rattle.block_sums.specs.Sums.{blockSum, Named, ZeroUntil, Aimed, SumsWritten}
+use Rattle.block_sums.specs.Sums.{blockSum, ZeroUntil, Aimed, SumsWritten}
 use Rattle.block_engine.specs.Group.{checkOf, masked, AgreesIn, Mendable, StandsFor}
 use Rattle.block_engine.specs.GroupLaws.{stands, gives, mendable, mended, agrees-fills}
-use Rattle.block_engine.specs.Steps.{Given, Limit, placeSymbol, AcrossPut, AcrossUpTo, Targets, GroupFilled, GroupsFilled}
-use Rattle.block_engine.specs.StepsLaws.{limit-none, row-inside, other-stretch}
+use Rattle.block_engine.specs.Steps.{Given, Limit, placeSymbol, AcrossPut, AcrossUpTo, GroupKept, KeptUpTo, Targets, GroupFilled, GroupsFilled}
+use Rattle.block_engine.specs.StepsLaws.{limit-none, mul-within, row-inside, add-mul, other-stretch}
 
 -- the sum of the blocks of a group is that of its symbols
 pub sum-dot : (size : ℕ) (blocks : List ℕ) (first w : ℕ) (constants : List ℕ) (i x : ℕ) (a : ℕ → ℕ) → ((j : ℕ) → j < w → getD constants (i * w + j) 0 ≡ a j)
@@ -39,6 +40,26 @@ stands-ext w c g bound i a b e A = record {
   none = λ j l k. sym (e j l) ∙ A .none j l k;
   sum = λ v y F. A .sum v y F ∙ dot-ext byteEdition w v v a b (λ _ _. refl) e;
 }
+
+-- a place that no sum is written to stays
+pub sums-stay : (size : ℕ) (blocks : List ℕ) (first count rows : ℕ) (constants to after : List ℕ) → SumsWritten size blocks first count rows constants to after
+    → (p x : ℕ) → x < size → ((i : ℕ) → i < rows → getD to i 0 ≡ p → ⊥) → placeSymbol size after x p ≡ placeSymbol size blocks x p
+sums-stay size blocks first count rows constants to after W p x l n = W .other (p * size + x) (λ i h. side (getD to i 0) (n i h))
+  where
+    side : (q : ℕ) → (q ≡ p → ⊥) → (p * size + x < q * size) ⊎ ((q + 1) * size ≤ p * size + x)
+    side q d = elim (decLt p q) [
+      | yes b ↦ (let k = row-inside p q size b in inl (omega arith))
+      | no b ↦
+          (let k = row-inside q p size (above q p d b) in
+          let e : (q + 1) * size ≡ q * size + size = add-mul q size in
+          inr (omega arith))
+    ]
+      where
+        above : (q p : ℕ) → (q ≡ p → ⊥) → ¬ (p < q) → q < p
+        above q p d b = elim (decLt q p) [
+          | yes h ↦ h
+          | no h ↦ absurd (d (omega arith))
+        ]
 
 module _ (w c g : ℕ) (wide : 1 ≤ w) (narrow : w ≤ 16) (bound : List ℕ) (checks : c ≤ 4) (within : lostIn w bound 0 ≤ c) (size : ℕ) (blocks : List ℕ)
     (small : (i : ℕ) → getD blocks i 0 < 256) where
@@ -94,39 +115,20 @@ module _ (w c g : ℕ) (wide : 1 ≤ w) (narrow : w ≤ 16) (bound : List ℕ) (
     module _ (to after : List ℕ) (packed : (r : ℕ) → r < lostIn w bound 0 → (j : ℕ) → j < w → getD constants (r * w + j) 0 ≡ masked bound (M r) j)
         (T : Targets (g * w) bound to w (lostIn w bound 0)) where
       module _ (W : SumsWritten size blocks (g * w) w (lostIn w bound 0) constants to after) where
-        -- a place that is no target stays
-        stays : (p x : ℕ) → x < size → ((i : ℕ) → i < lostIn w bound 0 → getD to i 0 ≡ p → ⊥) → placeSymbol size after x p ≡ placeSymbol size blocks x p
-        stays p x l n = W .other (p * size + x) (λ i h. side (getD to i 0) (n i h))
-          where
-            side : (q : ℕ) → (q ≡ p → ⊥) → (p * size + x < q * size) ⊎ ((q + 1) * size ≤ p * size + x)
-            side q d = elim (decLt p q) [
-              | yes b ↦ (let k = row-inside p q size b in inl (omega arith))
-              | no b ↦
-                  (let k = row-inside q p size (λ-lt q p d b) in
-                  let e : (q + 1) * size ≡ q * size + size = next q in
-                  inr (omega arith))
-            ]
-              where
-                λ-lt : (q p : ℕ) → (q ≡ p → ⊥) → ¬ (p < q) → q < p
-                λ-lt q p d b = elim (decLt q p) [
-                  | yes h ↦ h
-                  | no h ↦ absurd (d (omega arith))
-                ]
-
-                next : (q : ℕ) → (q + 1) * size ≡ q * size + size
-                next q = let e : q + 1 ≡ suc q = omega arith in ap (λ k. k * size) e ∙ suc-mul q size
-
         pub group-filled : GroupFilled w c size g bound blocks after
         group-filled = record {
           long = W .long;
           here = λ x l y A j h. go x l y A j h (lost bound j) refl;
-          other = λ p x l n. stays p x l (λ i h e. let t = T .each i h in n (t .0) (t .1) (sym e ∙ t .3));
+          other = λ p x l n. stay p x l (λ i h e. let t = T .each i h in n (t .0) (t .1) (sym e ∙ t .3));
         }
           where
+            stay : (p x : ℕ) → x < size → ((i : ℕ) → i < lostIn w bound 0 → getD to i 0 ≡ p → ⊥) → placeSymbol size after x p ≡ placeSymbol size blocks x p
+            stay = sums-stay size blocks (g * w) w (lostIn w bound 0) constants to after W
+
             go : (x : ℕ) → x < size → (y : ℕ → ℕ) → AgreesIn w c g bound (v x) y → (j : ℕ) → j < w → (b : Bool) → lost bound j ≡ b
                 → placeSymbol size after x (g * w + j) ≡ y j
             go x l y A j h false e =
-                stays (g * w + j) x l (λ i b q.
+                stay (g * w + j) x l (λ i b q.
                 let t = T .each i b in
                 let s : t .0 ≡ j = (let z : g * w + t .0 ≡ g * w + j = sym (t .3) ∙ q in omega arith) in
                 true≢false (sym (t .2) ∙ ap (lost bound) s ∙ e))
@@ -160,11 +162,11 @@ aimed-at w g bound size blocks to t e T fits = record {
 pub group-filled-at : (w c g : ℕ) → 1 ≤ w → w ≤ 16 → (bound : List ℕ) → c ≤ 4 → lostIn w bound 0 ≤ c → (size : ℕ) (blocks : List ℕ)
     → ((i : ℕ) → getD blocks i 0 < 256)
     → (M : ℕ → ℕ → ℕ) → ReducedTo byteEdition w 6 bound w (lostIn w bound 0) (checkOf c g) M → (constants to after : List ℕ) (t : ℕ) → t ≡ lostIn w bound 0
-    → ((r : ℕ) → r < t → (j : ℕ) → j < w → getD constants (r * w + j) 0 ≡ masked bound (M (0 + r)) j) → Targets (g * w) bound to w (lostIn w bound 0)
+    → ((r : ℕ) → r < t → (j : ℕ) → j < w → getD constants (r * w + j) 0 ≡ masked bound (M r) j) → Targets (g * w) bound to w (lostIn w bound 0)
     → SumsWritten size blocks (g * w) w t constants to after → GroupFilled w c size g bound blocks after
 group-filled-at w c g wide narrow bound checks within size blocks small M R constants to after t e packed T W =
     group-filled w c g wide narrow bound checks within size blocks small M R constants to after
-    (λ r l j h. packed r (omega arith) j h ∙ ap (λ k. masked bound (M k) j) (zero-add r)) T
+    (λ r l j h. packed r (omega arith) j h) T
     (subst (λ n. SumsWritten size blocks (g * w) w n constants to after) e W)
 
 -- no place is bound: nothing is to be done
@@ -203,8 +205,10 @@ module _ (w c size g : ℕ) (bound before middle after : List ℕ) where
 
 -- ---- the rows across
 module _ (m w c g : ℕ) (bound before after : List ℕ) (less : g < m) where
-  pub across-more : AcrossUpTo m w c g bound before → AcrossPut m w c g (stretch w g bound) before after → AcrossUpTo m w c (g + 1) bound after
-  across-more S P = record {
+  pub across-more : AcrossUpTo m w c g bound before → AcrossPut m w c g (stretch w g bound) before after → ((i : ℕ) → getD after i 0 < 256)
+      → AcrossUpTo m w c (g + 1) bound after
+  across-more S P small = record {
+    small = small;
     long = P .long ∙ S .long;
     first = λ h l. elim (ℕ-discrete h g) [
       | yes q ↦ subst (λ i. StandsFor w c i (stretch w i bound) 4 (λ j. getD after (i * w + j) 0)) (sym q) (P .first)
@@ -243,6 +247,51 @@ module _ (m w c g : ℕ) (bound : List ℕ) (M : ℕ → ℕ → ℕ) (R : Reduc
         (stands w c g bound M R 5 (omega arith) (omega arith));
     other = λ k j n n′ l. other-stretch w (m + g) middle b fits″ long-b k j n′ l ∙ other-stretch w g before a fits long-a k j n l;
   }
+
+-- ---- the rows that are kept
+pub kept-more : (w c g : ℕ) (bound before part : List ℕ) → suc g * (4 * w) ≤ length before → KeptUpTo w c g bound before
+    → GroupKept w c g (stretch w g bound) part → KeptUpTo w c (g + 1) bound (withStretch (4 * w) g before part)
+kept-more w c g bound before part fits S P = record {
+  long = same ∙ S .long;
+  here = λ h l. elim (ℕ-discrete h g) [
+    | yes q ↦
+        subst (λ i. GroupKept w c i (stretch w i bound) (stretch (4 * w) i after)) (sym q)
+        (subst (GroupKept w c g (stretch w g bound)) (sym (stretch-with (4 * w) g before part fits (P .long))) P)
+    | no q ↦
+        subst (GroupKept w c h (stretch w h bound))
+        (sym (stretch-ext (4 * w) h after before same (λ j b. other-stretch (4 * w) g before part fits (P .long) h j q b))) (S .here h (omega arith))
+  ];
+}
+  where
+    after : List ℕ
+    after = withStretch (4 * w) g before part
+
+    same : length after ≡ length before
+    same = with-length (4 * w) g before fits part (P .long)
+
+-- n rows from row t on lie within the part
+pub kept-end : (w : ℕ) (part : List ℕ) → length part ≡ 4 * w → (t n : ℕ) → t + n ≤ 4 → t * w + n * w ≤ length part
+kept-end w part long t n few = let i : (t + n) * w ≤ 4 * w = mul-le-mul-right w few in let d = nat-add-mul t n w in omega arith
+
+pub kept-laid : (w : ℕ) (part : List ℕ) → length part ≡ 4 * w → (t n : ℕ) → t + n ≤ 4
+    → n * w ≤ length (take (t * w + n * w - t * w) (drop (t * w) part))
+kept-laid w part long t n few =
+    let i = kept-end w part long t n few in
+    omega (arith, length-take (t * w + n * w - t * w) (drop (t * w) part), length-drop (t * w) part)
+
+-- the part of group g lies within 960 bytes
+pub kept-inside : (m w c g : ℕ) → Good m w c → g < m → g * (4 * w) + 4 * w ≤ 960
+kept-inside m w c g G l = let a = row-inside g m (4 * w) l in let b = mul-within m (4 * w) 15 64 (omega arith) (omega arith) in omega arith
+
+-- the rows from row t on
+pub kept-from : (w c g : ℕ) (bound part : List ℕ) (P : GroupKept w c g bound part) (t n : ℕ) → t + n ≤ 4 → (r : ℕ) → r < n → (j : ℕ) → j < w
+    → getD (take (t * w + n * w - t * w) (drop (t * w) part)) (r * w + j) 0 ≡ masked bound (P .rows (t + r)) j
+kept-from w c g bound part P t n few r l j h =
+    let i = row-inside r n w l in
+    let e : t * w + (r * w + j) ≡ (t + r) * w + j = (let d = nat-add-mul t r w in omega arith) in
+    getD-take (t * w + n * w - t * w) (drop (t * w) part) (r * w + j) 0 (omega arith)
+    ∙ getD-drop (t * w) part (r * w + j) 0
+    ∙ ap (λ i. getD part i 0) e ∙ P .here (t + r) (omega arith) j h
 
 -- ---- the targets
 module _ (base : ℕ) (bound to : List ℕ) (j : ℕ) where

@@ -11,7 +11,8 @@ use Rattle.code.specs.Word.{coefficient}
 use Rattle.code.specs.Marks.{lost, lostIn}
 use Rattle.code.specs.Stretch.{stretch}
 use Rattle.byte_edition.specs.Edition.{byteEdition}
-use Rattle.block_engine.specs.Group.{AgreesIn, StandsFor}
+use Rattle.block_constants.specs.Reduced.{ReducedTo}
+use Rattle.block_engine.specs.Group.{checkOf, masked, AgreesIn, StandsFor}
 
 -- the coefficients of the two sums across, the second without the factor of the group
 pub record Coefficients (c : ℕ) (first second : List ℕ) : Type 0 where
@@ -37,6 +38,18 @@ pub record Limit (limit r : ℕ) (P : ℕ → Type 0) : Type 0 where
 abbrev pub placeSymbol : ℕ → List ℕ → ℕ → ℕ → ℕ
 placeSymbol size blocks x p = getD blocks (p * size + x) 0
 
+-- the first four of a group's reduced rows, one after another, with 0 at the bound places
+pub record GroupKept (w c g : ℕ) (bound part : List ℕ) : Type 0 where
+  pub long : length part ≡ 4 * w
+  pub rows : ℕ → ℕ → ℕ
+  pub reduced : ReducedTo byteEdition w 6 bound w (lostIn w bound 0) (checkOf c g) rows
+  pub here : (r : ℕ) → r < 4 → (j : ℕ) → j < w → getD part (r * w + j) 0 ≡ masked bound (rows r) j
+
+-- so of every group below n
+pub record KeptUpTo (w c n : ℕ) (bound kept : List ℕ) : Type 0 where
+  pub long : length kept ≡ 960
+  pub here : (g : ℕ) → g < n → GroupKept w c g (stretch w g bound) (stretch (4 * w) g kept)
+
 -- the bound places of a group, in order, counted from base on
 pub record Targets (base : ℕ) (bound to : List ℕ) (w t : ℕ) : Type 0 where
   pub own : (j : ℕ) → j < w → lost bound j ≡ true → getD to (countBelow j (lost bound)) 0 ≡ base + j
@@ -54,6 +67,7 @@ pub record AcrossUpTo (m w c n : ℕ) (bound out : List ℕ) : Type 0 where
   pub long : length out ≡ 480
   pub first : (g : ℕ) → g < n → StandsFor w c g (stretch w g bound) 4 (λ j. getD out (g * w + j) 0)
   pub second : (g : ℕ) → g < n → StandsFor w c g (stretch w g bound) 5 (λ j. getD out ((m + g) * w + j) 0)
+  pub small : (i : ℕ) → getD out i 0 < 256
 
 -- every group
 abbrev pub AcrossRows : ℕ → ℕ → ℕ → List ℕ → List ℕ → Type 0

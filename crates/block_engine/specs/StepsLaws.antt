@@ -126,10 +126,6 @@ add-mul r w = let e : r + 1 ≡ suc r = omega arith in ap (λ k. k * w) e ∙ su
 pub row-inside : (r n w : ℕ) → r < n → r * w + w ≤ n * w
 row-inside r n w l = let k : suc r * w ≤ n * w = mul-le-mul-right w l in let e = suc-mul r w in omega arith
 
--- and within 64 places, if there are four at most of sixteen at most
-pub row-within : (r n w : ℕ) → r < n → n ≤ 4 → w ≤ 16 → r * w + w ≤ 64
-row-within r n w l few narrow = let a = row-inside r n w l in let b : n * w ≤ 4 * 16 = mul-le-mul few narrow in omega arith
-
 module _ (w r : ℕ) (out part : List ℕ) (fits : suc r * w ≤ length out) (long : length part ≡ w) where
   -- the other rows stay
   pub other-stretch : (k j : ℕ) → ¬ (k ≡ r) → j < w → getD (withStretch w r out part) (k * w + j) 0 ≡ getD out (k * w + j) 0

@@ -13,8 +13,11 @@ ghost use Rattle.byte_edition.specs.Edition.{byteEdition};
 ghost use Rattle.solve.specs.Elimination.{entry};
 ghost use Rattle.block_constants.specs.Reduced.{ReducedTo};
 ghost use Rattle.block_engine.specs.Group.{checkOf, masked, Mendable, AgreesIn};
-ghost use Rattle.block_engine.specs.Ready.{Ready, Recoverable, Restored};
-ghost use Rattle.block_engine.specs.Steps.{Coefficients, Given, Limit, placeSymbol, AcrossPut, AcrossRows, Targets, GroupFilled, GroupsFilled};
+ghost use Rattle.erasures.specs.Whole.{BoundAll};
+ghost use Rattle.block_free.specs.Rows.{firstOf, secondOf};
+ghost use Rattle.block_engine.specs.Free.{Completable};
+ghost use Rattle.block_engine.specs.Ready.{Ready, Recoverable, FreeWritten, Restored, Mended};
+ghost use Rattle.block_engine.specs.Steps.{Coefficients, Given, Limit, placeSymbol, AcrossPut, AcrossRows, GroupKept, KeptUpTo, Targets, GroupFilled, GroupsFilled};
 
 // 1 at place j.
 fn unit(j: usize) -> [u8; 16]
@@ -84,16 +87,16 @@ fn pack_row(row: [u8; 16], bound: &[u8], out: &mut [u8])
     }
 }
 
-// Writes count rows, from row from on, one after another.
-fn pack(rows: [[u8; 16]; 6], bound: &[u8], from: usize, count: usize, out: &mut [u8])
-    requires { ⌜ (length (now bound) ≤ 16) × (from ≤ 4) × (from + count ≤ 4) × (length (now out) ≡ 64) ⌝ }
-    ensures { λ _. ⌜ length (now (out .exit)) ≡ 64 ⌝ }
-    ensures { λ _. ⌜ ((r : ℕ) → r < count → (j : ℕ) → j < length (now (bound .entry)) → getD (now (out .exit)) (r * length (now (bound .entry)) + j) 0 ≡ masked (now (bound .entry)) (entry rows (from + r)) j) ⌝ }
+// Writes the first four rows, one after another, with 0 at the bound places.
+fn pack(rows: [[u8; 16]; 6], bound: &[u8], out: &mut [u8])
+    requires { ⌜ (length (now bound) ≤ 16) × (length (now out) ≡ 4 * length (now bound)) ⌝ }
+    ensures { λ _. ⌜ length (now (out .exit)) ≡ 4 * length (now (bound .entry)) ⌝ }
+    ensures { λ _. ⌜ ((r : ℕ) → r < 4 → (j : ℕ) → j < length (now (bound .entry)) → getD (now (out .exit)) (r * length (now (bound .entry)) + j) 0 ≡ masked (now (bound .entry)) (entry rows r) j) ⌝ }
 {
     let w = bound.len();
     let mut r: usize = 0;
-    while r < count {
-        let row = rows[from + r];
+    while r < 4 {
+        let row = rows[r];
         let a = r * w;
         let e = a + w;
         pack_row(row, bound, &mut out[a..e]);
@@ -108,13 +111,12 @@ fn test_group(
     size: usize,
     blocks: &[u8],
     bound: &[u8],
-    first: [u8; 16],
-    second: [u8; 16],
+    kept: &[u8],
     limit: usize,
 ) -> usize
     requires { ⌜ (1 ≤ length (now bound)) × (length (now bound) ≤ 16) × (c ≤ 4) × (lostIn (length (now bound)) (now bound) 0 ≤ c) ⌝ }
     requires { ⌜ (g < 15) × ((g * length (now bound) + length (now bound)) * size ≤ length (now blocks)) × (length (now blocks) ≤ 65536) × (limit ≤ size) ⌝ }
-    requires { ⌜ Coefficients c first second ⌝ }
+    requires { ⌜ GroupKept (length (now bound)) c g (now bound) (now kept) ⌝ }
     ensures { λ r. ⌜ Limit limit r (λ x. Mendable (length (now (bound .entry))) c g (now (bound .entry)) (λ j. placeSymbol size (now (blocks .entry)) x (g * length (now (bound .entry)) + j))) ⌝ }
 {
     let w = bound.len();
@@ -122,12 +124,11 @@ fn test_group(
     if t == c {
         return limit;
     }
-    let rows = group_rows(c, g, bound, first, second);
-    let mut constants = [0u8; 64];
     let count = c - t;
-    pack(rows, bound, t, count, &mut constants);
+    let a = t * w;
+    let e = a + count * w;
     let from = g * w;
-    block_sums::zero_until(blocks, size, from, w, count, &constants, limit)
+    block_sums::zero_until(blocks, size, from, w, count, &kept[a..e], limit)
 }
 
 // The lowest word that has no mending in some group; the length of a block if there is none.
@@ -138,40 +139,46 @@ fn test_groups(
     size: usize,
     blocks: &[u8],
     bound: &[u8],
-    first: [u8; 16],
-    second: [u8; 16],
+    kept: &[u8],
 ) -> usize
     requires { ⌜ Given m w c size (now blocks) (now bound) ⌝ }
-    requires { ⌜ Coefficients c first second ⌝ }
+    requires { ⌜ KeptUpTo w c m (now bound) (now kept) ⌝ }
     ensures { λ r. ⌜ Limit size r (λ x. (g : ℕ) → g < m → Mendable w c g (stretch w g (now (bound .entry))) (λ j. placeSymbol size (now (blocks .entry)) x (g * w + j))) ⌝ }
 {
+    let v = 4 * w;
     let mut limit = size;
     let mut g: usize = 0;
     while g < m {
         let a = g * w;
         let e = a + w;
-        limit = test_group(c, g, size, blocks, &bound[a..e], first, second, limit);
+        let b = g * v;
+        let f = b + v;
+        limit = test_group(c, g, size, blocks, &bound[a..e], &kept[b..f], limit);
         g += 1;
     }
     limit
 }
 
-// Writes what group g has in the two rows across.
-fn put_across(
+// Writes the reduced rows of group g: the first four to kept, what it has in the two rows across to out.
+fn put_group(
     m: usize,
     c: usize,
     g: usize,
     bound: &[u8],
     first: [u8; 16],
     second: [u8; 16],
+    kept: &mut [u8],
     out: &mut [u8],
 )
     requires { ⌜ (1 ≤ length (now bound)) × (length (now bound) ≤ 16) × (lostIn (length (now bound)) (now bound) 0 ≤ 4) × (m ≤ 15) × (g < m) × (length (now out) ≡ 480) ⌝ }
+    requires { ⌜ length (now kept) ≡ 4 * length (now bound) ⌝ }
     requires { ⌜ Coefficients c first second ⌝ }
+    ensures { λ _. ⌜ GroupKept (length (now (bound .entry))) c g (now (bound .entry)) (now (kept .exit)) ⌝ }
     ensures { λ _. ⌜ AcrossPut m (length (now (bound .entry))) c g (now (bound .entry)) (now (out .entry)) (now (out .exit)) ⌝ }
 {
     let w = bound.len();
     let rows = group_rows(c, g, bound, first, second);
+    pack(rows, bound, kept);
     let a = g * w;
     let e = a + w;
     pack_row(rows[4], bound, &mut out[a..e]);
@@ -180,26 +187,31 @@ fn put_across(
     pack_row(rows[5], bound, &mut out[b..f]);
 }
 
-// Writes the two rows across, one after the other: 0 at the bound places.
-fn across_rows(
+// Writes the reduced rows of every group: the first four of each to kept, the two rows across to out, with 0 at the bound places.
+fn make_rows(
     m: usize,
     w: usize,
     c: usize,
     bound: &[u8],
     first: [u8; 16],
     second: [u8; 16],
+    kept: &mut [u8],
     out: &mut [u8],
 )
     requires { ⌜ Good m w c ⌝ }
-    requires { ⌜ (length (now bound) ≡ m * w) × ((g : ℕ) → g < m → lostIn w (now bound) g ≤ c) × (length (now out) ≡ 480) ⌝ }
+    requires { ⌜ (length (now bound) ≡ m * w) × ((g : ℕ) → g < m → lostIn w (now bound) g ≤ c) × (length (now out) ≡ 480) × (length (now kept) ≡ 960) ⌝ }
     requires { ⌜ Coefficients c first second ⌝ }
+    ensures { λ _. ⌜ KeptUpTo w c m (now (bound .entry)) (now (kept .exit)) ⌝ }
     ensures { λ _. ⌜ AcrossRows m w c (now (bound .entry)) (now (out .exit)) ⌝ }
 {
+    let v = 4 * w;
     let mut g: usize = 0;
     while g < m {
         let a = g * w;
         let e = a + w;
-        put_across(m, c, g, &bound[a..e], first, second, out);
+        let b = g * v;
+        let f = b + v;
+        put_group(m, c, g, &bound[a..e], first, second, &mut kept[b..f], out);
         g += 1;
     }
 }
@@ -225,18 +237,10 @@ fn targets(base: usize, bound: &[u8]) -> [usize; 4]
 }
 
 // Fills the bound blocks of group g.
-fn fill_group(
-    c: usize,
-    g: usize,
-    size: usize,
-    blocks: &mut [u8],
-    bound: &[u8],
-    first: [u8; 16],
-    second: [u8; 16],
-)
+fn fill_group(c: usize, g: usize, size: usize, blocks: &mut [u8], bound: &[u8], kept: &[u8])
     requires { ⌜ (1 ≤ length (now bound)) × (length (now bound) ≤ 16) × (c ≤ 4) × (lostIn (length (now bound)) (now bound) 0 ≤ c) ⌝ }
     requires { ⌜ (g < 15) × ((g * length (now bound) + length (now bound)) * size ≤ length (now blocks)) × (length (now blocks) ≤ 65536) ⌝ }
-    requires { ⌜ Coefficients c first second ⌝ }
+    requires { ⌜ GroupKept (length (now bound)) c g (now bound) (now kept) ⌝ }
     ensures { λ _. ⌜ GroupFilled (length (now (bound .entry))) c size g (now (bound .entry)) (now (blocks .entry)) (now (blocks .exit)) ⌝ }
 {
     let w = bound.len();
@@ -244,12 +248,9 @@ fn fill_group(
     if t == 0 {
         return;
     }
-    let rows = group_rows(c, g, bound, first, second);
-    let mut constants = [0u8; 64];
-    pack(rows, bound, 0, t, &mut constants);
     let from = g * w;
     let to = targets(from, bound);
-    block_sums::write_sums(blocks, size, from, w, t, &constants, to);
+    block_sums::write_sums(blocks, size, from, w, t, kept, to);
 }
 
 // Fills the bound blocks of every group.
@@ -260,23 +261,95 @@ fn fill_groups(
     size: usize,
     blocks: &mut [u8],
     bound: &[u8],
-    first: [u8; 16],
-    second: [u8; 16],
+    kept: &[u8],
 )
     requires { ⌜ Given m w c size (now blocks) (now bound) ⌝ }
-    requires { ⌜ Coefficients c first second ⌝ }
+    requires { ⌜ KeptUpTo w c m (now bound) (now kept) ⌝ }
     ensures { λ _. ⌜ GroupsFilled w c size m (now (bound .entry)) (now (blocks .entry)) (now (blocks .exit)) ⌝ }
 {
+    let v = 4 * w;
     let mut g: usize = 0;
     while g < m {
         let a = g * w;
         let e = a + w;
-        fill_group(c, g, size, blocks, &bound[a..e], first, second);
+        let b = g * v;
+        let f = b + v;
+        fill_group(c, g, size, blocks, &bound[a..e], &kept[b..f]);
         g += 1;
     }
 }
 
-// Whether the engine takes a call: a good shape, marks and blocks of its lengths, and no group has lost more than c places.
+// The lowest word below the limit whose sums across no symbols at the free places make zero.
+fn test_across(
+    m: usize,
+    w: usize,
+    c: usize,
+    size: usize,
+    blocks: &[u8],
+    marks: &[u8],
+    bound: &[u8],
+    across: [u8; 480],
+    limit: usize,
+) -> usize
+    requires { ⌜ Ready m w c size (length (now blocks)) (now marks) ⌝ }
+    requires { ⌜ BoundAll m w c (now marks) (now bound) ⌝ }
+    requires { ⌜ AcrossRows m w c (now bound) across ⌝ }
+    requires { ⌜ limit ≤ size ⌝ }
+    ensures { λ r. ⌜ Limit limit r (λ x. Completable (m * w) (now (marks .entry)) (now (bound .entry)) (firstOf across) (secondOf (m * w) across) (placeSymbol size (now (blocks .entry)) x)) ⌝ }
+{
+    let n = marks.len();
+    let f = erasures::free_places(marks, bound);
+    if f.count == 0 {
+        return block_sums::zero_until(blocks, size, 0, n, 2, &across, limit);
+    }
+    if f.count == 1 {
+        let row = block_free::test_row(n, f.first, across);
+        return block_sums::zero_until(blocks, size, 0, n, 1, &row, limit);
+    }
+    limit
+}
+
+// Writes the free blocks, by the two rows across.
+fn write_across(
+    m: usize,
+    w: usize,
+    c: usize,
+    size: usize,
+    blocks: &mut [u8],
+    marks: &[u8],
+    bound: &[u8],
+    across: [u8; 480],
+)
+    requires { ⌜ Ready m w c size (length (now blocks)) (now marks) ⌝ }
+    requires { ⌜ BoundAll m w c (now marks) (now bound) ⌝ }
+    requires { ⌜ AcrossRows m w c (now bound) across ⌝ }
+    ensures { λ _. ⌜ FreeWritten m w c size (now (marks .entry)) (now (bound .entry)) (now (blocks .entry)) (now (blocks .exit)) ⌝ }
+{
+    let n = marks.len();
+    let f = erasures::free_places(marks, bound);
+    if f.count == 0 {
+        return;
+    }
+    if f.count == 1 {
+        let row = block_free::value_row(n, f.first, across);
+        block_sums::write_sums(blocks, size, 0, n, 1, &row, [f.first, 0, 0, 0]);
+        return;
+    }
+    let rows = block_free::value_rows(n, f.first, f.second, across);
+    block_sums::write_sums(blocks, size, 0, n, 2, &rows, [f.first, f.second, 0, 0]);
+}
+
+// Copies the marks without those of the free places.
+fn bind(m: usize, w: usize, c: usize, marks: &[u8], bound: &mut [u8])
+    requires { ⌜ Good m w c ⌝ }
+    requires { ⌜ (length (now marks) ≡ m * w) × (length (now bound) ≡ m * w) ⌝ }
+    ensures { λ _. ⌜ BoundAll m w c (now (marks .entry)) (now (bound .exit)) ⌝ }
+{
+    buffers::copy(marks, bound);
+    erasures::clear_free(w, c, bound);
+}
+
+// Whether the engine takes a call: a good shape, marks and blocks of its lengths, and an excess of at most two.
 fn ready(m: usize, w: usize, c: usize, size: usize, lent: usize, marks: &[u8]) -> bool
     ensures { λ r. ⌜ (r ≡ true → Ready m w c size lent (now (marks .entry))) ⌝ }
     ensures { λ r. ⌜ (r ≡ false → Ready m w c size lent (now (marks .entry)) → ⊥) ⌝ }
@@ -297,54 +370,102 @@ fn ready(m: usize, w: usize, c: usize, size: usize, lent: usize, marks: &[u8]) -
     if lent != all {
         return false;
     }
-    if marks::excess_of(m, w, c, marks) != 0 {
+    if 2 < marks::excess_of(m, w, c, marks) {
         return false;
     }
     true
 }
 
 // The lowest word with which no codeword agrees; the length of a block if there is none.
-fn lowest_of(m: usize, w: usize, c: usize, size: usize, blocks: &[u8], marks: &[u8]) -> usize
+fn lowest_by(
+    m: usize,
+    w: usize,
+    c: usize,
+    size: usize,
+    blocks: &[u8],
+    marks: &[u8],
+    bound: &[u8],
+    kept: &[u8],
+    across: [u8; 480],
+) -> usize
     requires { ⌜ Ready m w c size (length (now blocks)) (now marks) ⌝ }
+    requires { ⌜ BoundAll m w c (now marks) (now bound) ⌝ }
+    requires { ⌜ KeptUpTo w c m (now bound) (now kept) ⌝ }
+    requires { ⌜ AcrossRows m w c (now bound) across ⌝ }
     ensures { λ r. ⌜ Limit size r (Recoverable m w c size (now (blocks .entry)) (now (marks .entry))) ⌝ }
 {
-    let first = first_row(c - 1);
-    let second = second_row(c - 1);
-    let limit = test_groups(m, w, c, size, blocks, marks, first, second);
-    let mut across = [0u8; 480];
-    across_rows(m, w, c, marks, first, second, &mut across);
-    let n = marks.len();
-    block_sums::zero_until(blocks, size, 0, n, 2, &across, limit)
-}
-
-// The same; 0 for a call that the engine does not take.
-pub fn lowest(m: usize, w: usize, c: usize, size: usize, blocks: &[u8], marks: &[u8]) -> usize
-    ensures { λ r. ⌜ (Ready m w c size (length (now (blocks .entry))) (now (marks .entry)) → Limit size r (Recoverable m w c size (now (blocks .entry)) (now (marks .entry)))) ⌝ }
-    ensures { λ r. ⌜ ((Ready m w c size (length (now (blocks .entry))) (now (marks .entry)) → ⊥) → r ≡ 0) ⌝ }
-{
-    if ready(m, w, c, size, blocks.len(), marks) {
-        return lowest_of(m, w, c, size, blocks, marks);
-    }
-    0
+    let limit = test_groups(m, w, c, size, blocks, bound, kept);
+    test_across(m, w, c, size, blocks, marks, bound, across, limit)
 }
 
 // Writes the lost blocks: every word with which a codeword agrees becomes that codeword.
-fn restore_of(m: usize, w: usize, c: usize, size: usize, blocks: &mut [u8], marks: &[u8])
+fn restore_by(
+    m: usize,
+    w: usize,
+    c: usize,
+    size: usize,
+    blocks: &mut [u8],
+    marks: &[u8],
+    bound: &[u8],
+    kept: &[u8],
+    across: [u8; 480],
+)
     requires { ⌜ Ready m w c size (length (now blocks)) (now marks) ⌝ }
+    requires { ⌜ BoundAll m w c (now marks) (now bound) ⌝ }
+    requires { ⌜ KeptUpTo w c m (now bound) (now kept) ⌝ }
+    requires { ⌜ AcrossRows m w c (now bound) across ⌝ }
     ensures { λ _. ⌜ Restored m w c size (now (marks .entry)) (now (blocks .entry)) (now (blocks .exit)) ⌝ }
 {
-    let first = first_row(c - 1);
-    let second = second_row(c - 1);
-    fill_groups(m, w, c, size, blocks, marks, first, second);
+    write_across(m, w, c, size, blocks, marks, bound, across);
+    fill_groups(m, w, c, size, blocks, bound, kept);
 }
 
-// The same; a call that the engine does not take changes nothing.
-pub fn restore(m: usize, w: usize, c: usize, size: usize, blocks: &mut [u8], marks: &[u8])
-    ensures { λ _. ⌜ (Ready m w c size (length (now (blocks .entry))) (now (marks .entry)) → Restored m w c size (now (marks .entry)) (now (blocks .entry)) (now (blocks .exit))) ⌝ }
-    ensures { λ _. ⌜ ((Ready m w c size (length (now (blocks .entry))) (now (marks .entry)) → ⊥) → now (blocks .exit) ≡ now (blocks .entry)) ⌝ }
+// The lowest word with which no codeword agrees, and nothing changes; the length of a block if there is none, and every word becomes its
+// codeword. bound is room for the marks of the bound places.
+fn mend_by(
+    m: usize,
+    w: usize,
+    c: usize,
+    size: usize,
+    blocks: &mut [u8],
+    marks: &[u8],
+    bound: &mut [u8],
+) -> usize
+    requires { ⌜ Ready m w c size (length (now blocks)) (now marks) ⌝ }
+    requires { ⌜ length (now bound) ≡ m * w ⌝ }
+    ensures { λ r. ⌜ Mended m w c size (now (marks .entry)) r (now (blocks .entry)) (now (blocks .exit)) ⌝ }
+{
+    bind(m, w, c, marks, bound);
+    let first = first_row(c - 1);
+    let second = second_row(c - 1);
+    let mut kept = [0u8; 960];
+    let mut across = [0u8; 480];
+    make_rows(m, w, c, bound, first, second, &mut kept, &mut across);
+    let x = lowest_by(m, w, c, size, blocks, marks, bound, &kept, across);
+    if x < size {
+        return x;
+    }
+    restore_by(m, w, c, size, blocks, marks, bound, &kept, across);
+    x
+}
+
+// The same by the marks alone.
+fn mend_of(m: usize, w: usize, c: usize, size: usize, blocks: &mut [u8], marks: &[u8]) -> usize
+    requires { ⌜ Ready m w c size (length (now blocks)) (now marks) ⌝ }
+    ensures { λ r. ⌜ Mended m w c size (now (marks .entry)) r (now (blocks .entry)) (now (blocks .exit)) ⌝ }
+{
+    let n = marks.len();
+    let mut bound = [0u8; 240];
+    mend_by(m, w, c, size, blocks, marks, &mut bound[..n])
+}
+
+// The same; 0 for a call that the engine does not take, which changes nothing.
+pub fn mend(m: usize, w: usize, c: usize, size: usize, blocks: &mut [u8], marks: &[u8]) -> usize
+    ensures { λ r. ⌜ (Ready m w c size (length (now (blocks .entry))) (now (marks .entry)) → Mended m w c size (now (marks .entry)) r (now (blocks .entry)) (now (blocks .exit))) ⌝ }
+    ensures { λ r. ⌜ ((Ready m w c size (length (now (blocks .entry))) (now (marks .entry)) → ⊥) → (r ≡ 0) × (now (blocks .exit) ≡ now (blocks .entry))) ⌝ }
 {
     if ready(m, w, c, size, blocks.len(), marks) {
-        restore_of(m, w, c, size, blocks, marks);
-        return;
+        return mend_of(m, w, c, size, blocks, marks);
     }
+    0
 }

@@ -6,12 +6,10 @@ use native.Mathlib.Omega.{arith}
 use native.Mathlib.Decide.{decLt}
 use lib.Dec.{lit<}
 use lib.ListN.{length, getD, List·getD-eq-default}
-use Rattle.shape.specs.Shapes.{Good, placeCount, wordRefusal}
+use Rattle.shape.specs.Shapes.{byteLimits}
 use Rattle.shape.specs.Refusals.{_orElse_}
 use Rattle.shape.specs.RefusalsLaws.{orElse-zero}
 use Rattle.shape.specs.Laws.{word-of-good}
-use Rattle.shape.specs.declared.Mending.{Mending}
-use Rattle.shape.specs.Answers.{mendingAt}
 use Rattle.marks.specs.Refusal.{marksRefusal}
 use Rattle.code.specs.Marks.{excess}
 use Rattle.code.specs.Outcome.{Outcome, contradictory, written}
@@ -19,32 +17,35 @@ use Rattle.code.specs.Contradiction.{contradictingGroup}
 use Rattle.code.specs.Recovery.{Agrees}
 use Rattle.byte_edition.specs.Edition.{byteEdition}
 use Rattle.byte_edition.specs.EditionLaws.{bytes-sound}
+use Rattle.judge.specs.Laws.{zero-excess}
 use Rattle.recover.specs.Recover.{recoverRefusalIn}
 use Rattle.recover.specs.Attempt.{Accepted}
 use Rattle.recover.specs.AttemptLaws.{service-nine, service-done}
 use Rattle.block_engine.specs.Steps.{Limit}
 use Rattle.block_engine.specs.Ready.{Ready, Recoverable, Restored}
-use Rattle.blocks.specs.declared.Rebuilt.{Rebuilt}
 use Rattle.blocks.specs.Columns.{blockWord}
 use Rattle.blocks.specs.ColumnsLaws.{blocks-are, word-length, word-at, word-is}
-use Rattle.blocks.specs.Rebuild.{rebuildRefusal, blocksRefusal, rebuiltNumber, wordOutcome, rebuiltBlocks, rebuildOf, contradictoryRebuild, doneRebuild}
-use Rattle.blocks.specs.Steps.{Lent, Room, contradictionAt}
-use Rattle.blocks.specs.RebuildLaws.{lent-of, NoneBelow, contradiction-first, contradiction-none, rebuild-contradictory, rebuild-done}
+use Rattle.blocks.specs.Rebuild.{rebuildRefusal, wordOutcome, rebuiltBlocks, rebuildOf, contradictoryRebuild, doneRebuild}
+use Rattle.blocks.specs.Steps.{Lent, Room}
+use Rattle.blocks.specs.RebuildLaws.{lent-of, NoneBelow, rebuild-contradictory, rebuild-done}
 
-module _ (m w c size : ℕ) (blocks marks : List ℕ) (none : rebuildRefusal m w c size (length blocks) marks ≡ 0) (full : excess m w c marks ≡ 0)
+module _ (m w c size : ℕ) (blocks marks : List ℕ) (none : rebuildRefusal m w c size (length blocks) marks ≡ 0)
     (small : (i : ℕ) → getD blocks i 0 < 256) where
   L : Lent m w c size blocks marks
   L = lent-of m w c size blocks marks none .0
 
-  pub kept-room : (x : ℕ) → x < size → Room m w c size x blocks marks
-  kept-room x l = record { lent = L; inside = l }
-
-  pub kept-ready : Ready m w c size (length blocks) marks
-  kept-ready = record { good = L .good; marks-size = L .marks-size; some = L .some; blocks-size = L .blocks-size; most = L .most; none-free = full }
+  pub engine-room : (x : ℕ) → x < size → Room m w c size x blocks marks
+  engine-room x l = record { lent = L; inside = l }
 
   marks-none : marksRefusal m w c marks ≡ 0
   unfolding rebuildRefusal
   marks-none = orElse-zero (marksRefusal m w c marks) _ none .0
+
+  low : excess m w c marks ≤ 2
+  low = zero-excess byteLimits m w c marks marks-none .0 (lent-of m w c size blocks marks none .1)
+
+  pub engine-ready : Ready m w c size (length blocks) marks
+  engine-ready = record { good = L .good; marks-size = L .marks-size; some = L .some; blocks-size = L .blocks-size; most = L .most; low = low }
 
   word : ℕ → List ℕ
   word x = blockWord (m * w) size blocks x
@@ -69,35 +70,29 @@ module _ (m w c size : ℕ) (blocks marks : List ℕ) (none : rebuildRefusal m w
 
   done-at : (x : ℕ) (R : Recoverable m w c size blocks marks x) → wordOutcome m w c size blocks marks x ≡ written (R .0) marks
   unfolding wordOutcome word blockWord
-  done-at x R = service-done bytes-sound m w c (word x) marks (taken x) (word-small x) (R .0) (omega arith) (R .1)
+  done-at x R = service-done bytes-sound m w c (word x) marks (taken x) (word-small x) (R .0) low (R .1)
 
   pub nine-at : (x : ℕ) → (Recoverable m w c size blocks marks x → ⊥) → (wordOutcome m w c size blocks marks x) .number ≡ 9
   unfolding wordOutcome word blockWord
-  nine-at x n = ap (λ o. o .number) (service-nine bytes-sound m w c (word x) marks (taken x) (word-small x) (omega arith) (λ y Y. n (y, Y)))
+  nine-at x n = ap (λ o. o .number) (service-nine bytes-sound m w c (word x) marks (taken x) (word-small x) low (λ y Y. n (y, Y)))
 
   below : (x : ℕ) → Limit size x (Recoverable m w c size blocks marks) → NoneBelow m w c size blocks marks x
   below x F y l e =
       let z : _≡_ {A = ℕ} 0 9 = sym (ap (λ o. o .number) (done-at y (F .holds y l))) ∙ e in
       omega arith
 
-  pub kept-contradictory : (x : ℕ) → Limit size x (Recoverable m w c size blocks marks) → x < size
+  pub engine-contradictory : (x : ℕ) → Limit size x (Recoverable m w c size blocks marks) → x < size
       → rebuildOf m w c size blocks marks ≡ contradictoryRebuild x ((wordOutcome m w c size blocks marks x) .group) blocks marks
-  kept-contradictory x F l =
-      rebuild-contradictory m w c size blocks marks none x _
-      (sym (contradiction-first m w c size blocks marks x l (below x F) _
-      (ap (λ k. mendingAt k ((wordOutcome m w c size blocks marks x) .group)) (nine-at x (F .stops l)))))
+  engine-contradictory x F l = rebuild-contradictory m w c size blocks marks none x l (below x F) (nine-at x (F .stops l))
 
-  pub kept-done : (x : ℕ) → Limit size x (Recoverable m w c size blocks marks) → size ≤ x
+  pub engine-done : (x : ℕ) → Limit size x (Recoverable m w c size blocks marks) → size ≤ x
       → rebuildOf m w c size blocks marks ≡ doneRebuild (rebuiltBlocks m w c size blocks marks) marks
-  kept-done x F l =
-      rebuild-done m w c size blocks marks none (λ v. v ≡ Rebuilt.Done)
-      (sym (contradiction-none m w c size blocks marks (λ y b. below x F y (omega arith))))
-      (λ y g e. let z : _≡_ {A = ℕ} 9 0 = ap rebuiltNumber e in omega arith)
+  engine-done x F l = rebuild-done m w c size blocks marks none (λ y b. below x F y (omega arith))
 
-  pub kept-written : (x : ℕ) → Limit size x (Recoverable m w c size blocks marks) → size ≤ x → (after : List ℕ) → Restored m w c size marks blocks after
+  pub engine-written : (x : ℕ) → Limit size x (Recoverable m w c size blocks marks) → size ≤ x → (after : List ℕ) → Restored m w c size marks blocks after
       → after ≡ rebuiltBlocks m w c size blocks marks
   unfolding rebuiltBlocks
-  kept-written x F l after R =
+  engine-written x F l after R =
       blocks-are (m * w) size after _ (L .some) (R .long ∙ L .blocks-size) (λ y b. each y b (F .holds y (omega arith)))
     where
       each : (y : ℕ) → y < size → Recoverable m w c size blocks marks y → blockWord (m * w) size after y ≡ (wordOutcome m w c size blocks marks y) .word

@@ -5,7 +5,6 @@ use mathlib.Core.List.{List}
 use Prim.Native.Nat.{ℕ, zero, suc, _+_, _*_, _≤_, _<_}
 use native.Mathlib.Nat.{mul-le-mul-right, one-mul}
 use native.Mathlib.Omega.{arith}
-use native.Mathlib.Decide.{ℕ-discrete}
 use borrow.Author.Tests.{eq-eqb, ne-eqb, lt-ltb, le-ltb, eqb-true, ltb-false, eqb-false, not-false}
 use lib.Dec.{eqb, ltb}
 use lib.ListN.{length}
@@ -15,21 +14,14 @@ use Rattle.shape.specs.Refusals.{refuse, _orElse_}
 use Rattle.shape.specs.RefusalsLaws.{refuse-zero, orElse-zero, orElse-first}
 use Rattle.shape.specs.Shapes.{placeCount}
 use Rattle.shape.specs.Laws.{places-most}
-use Rattle.shape.specs.declared.Mending.{Mending}
-use Rattle.shape.specs.Answers.{mendingAt, mendingNumber, mendingGroup}
-use Rattle.shape.specs.AnswersLaws.{mending-number}
 use Rattle.marks.specs.Refusal.{marksRefusal}
 use Rattle.marks.specs.RefusalLaws.{good-of-marks, marks-most}
 use Rattle.code.specs.Marks.{excess}
-use Rattle.code.specs.Outcome.{Outcome}
 use Rattle.judge.specs.Judgement.{judgedNumberOf, judgedNumberIn}
-use Rattle.recover.specs.Recover.{recoverOf}
 use Rattle.blocks.specs.declared.Rebuilt.{Rebuilt}
-use Rattle.blocks.specs.Columns.{blockWord}
-use Rattle.blocks.specs.ColumnsLaws.{blocks-are}
 use Rattle.blocks.specs.Rebuild.{blocksRefusal, rebuildRefusal, RebuildOutcome, refusedRebuild, contradictoryRebuild, doneRebuild}
 use Rattle.blocks.specs.Rebuild.{rebuildUnless, wordOutcome, contradictingWord, rebuiltBlocks, wordsOutcome, rebuildOf, rebuiltAt}
-use Rattle.blocks.specs.Steps.{Lent, Room, contradictionAt, WordRebuilt}
+use Rattle.blocks.specs.Steps.{Lent}
 
 -- ---- 27
 none-of : (a b d : Bool) → a || b || d ≡ false → (a ≡ false) × (b ≡ false) × (d ≡ false)
@@ -118,92 +110,6 @@ lent-of m w c size blocks marks z =
     let f = fit-of-blocks (placeCount m w) size (length blocks) (b .0) in
     (record { good = M .good; marks-size = M .size; some = f .1; blocks-size = f .0; most = let e = f .0 in let l = f .2 in omega arith }, b .1)
 
--- ---- the first pass
-module _ (m w c size : ℕ) (blocks marks : List ℕ) where
-  abbrev nine : ℕ → Bool
-  nine x = eqb ((wordOutcome m w c size blocks marks x) .number) 9
-
-  -- no word below x gets 9
-  abbrev pub NoneBelow : ℕ → Type 0
-  NoneBelow x = (y : ℕ) → y < x → (wordOutcome m w c size blocks marks y) .number ≡ 9 → ⊥
-
-  pub contradiction-first : (x : ℕ) → x < size → NoneBelow x → (g : ℕ)
-      → mendingAt ((wordOutcome m w c size blocks marks x) .number) ((wordOutcome m w c size blocks marks x) .group) ≡ Mending.Contradictory g
-      → Rebuilt.Contradictory x g ≡ contradictionAt m w c size blocks marks
-  unfolding contradictionAt contradictingWord
-  contradiction-first x l none g e =
-      let o : Outcome = wordOutcome m w c size blocks marks x in
-      let n : o .number ≡ 9 = sym (mending-number (o .number) (o .group)) ∙ ap mendingNumber e in
-      let h : mendingAt 9 (o .group) ≡ Mending.Contradictory g = subst (λ k. mendingAt k (o .group) ≡ Mending.Contradictory g) n e in
-      let f : firstBelow size nine ≡ x = first-is size nine x (omega arith) (λ y b. ne-eqb _ 9 (none y b)) (λ _. eq-eqb _ 9 n) in
-      rw (f, lt-ltb x size l) (ap (Rebuilt.Contradictory x) (sym (ap mendingGroup h)))
-
-  pub contradiction-none : NoneBelow size → Rebuilt.Done ≡ contradictionAt m w c size blocks marks
-  unfolding contradictionAt contradictingWord
-  contradiction-none none =
-      let f : firstBelow size nine ≡ size = first-none size nine (λ y b. ne-eqb _ 9 (none y b)) in
-      rw (f, le-ltb size size (omega arith))
-
-  pub none-more : (x : ℕ) → NoneBelow x → ((wordOutcome m w c size blocks marks x) .number ≡ 9 → ⊥) → NoneBelow (x + 1)
-  none-more x none here y l e = elim (ℕ-discrete y x) [
-    | yes q ↦ here (subst (λ k. (wordOutcome m w c size blocks marks k) .number ≡ 9) q e)
-    | no q ↦ none y (omega arith) e
-  ]
-
--- ---- the second pass
-module _ (m w c size : ℕ) (marks first : List ℕ) where
-  -- the words below x are recovered, and the others are as they were
-  pub record RebuiltBelow (x : ℕ) (blocks : List ℕ) : Type 0 where
-    pub long : length blocks ≡ length first
-    pub done : (y : ℕ) → y < x → blockWord (placeCount m w) size blocks y ≡ (wordOutcome m w c size first marks y) .word
-    pub kept : (y : ℕ) → x ≤ y → y < size → blockWord (placeCount m w) size blocks y ≡ blockWord (placeCount m w) size first y
-
-  pub below-none : RebuiltBelow 0 first
-  below-none = record { long = refl; done = λ y l. absurd (omega arith); kept = λ y _ _. refl }
-
-  pub below-more : (x : ℕ) (before after : List ℕ) → x < size → RebuiltBelow x before → WordRebuilt m w c size x marks before after
-      → RebuiltBelow (x + 1) after
-  unfolding wordOutcome
-  below-more x before after l R W = record {
-    long = W .long ∙ R .long;
-    done = λ y b. elim (ℕ-discrete y x) [
-      | yes q ↦
-          (ap (blockWord (placeCount m w) size after) q ∙ W .here ∙ ap (λ v. (recoverOf m w c v marks) .word) (R .kept x (omega arith) l)
-          ∙ ap (λ k. (recoverOf m w c (blockWord (placeCount m w) size first k) marks) .word) (sym q))
-      | no q ↦ W .others y (omega arith) q ∙ R .done y (omega arith)
-    ];
-    kept = λ y b k. W .others y k (λ q. omega arith) ∙ R .kept y (omega arith) k;
-  }
-
-  pub below-all : (x : ℕ) (blocks : List ℕ) → Lent m w c size first marks → size ≤ x → RebuiltBelow x blocks → blocks ≡ rebuiltBlocks m w c size first marks
-  unfolding rebuiltBlocks
-  below-all x blocks L l R =
-      blocks-are (placeCount m w) size blocks _ (L .some) (R .long ∙ L .blocks-size) (λ y b. R .done y (omega arith))
-
-  -- what a step takes
-  pub room-below : (x : ℕ) (blocks : List ℕ) → Lent m w c size first marks → x < size → RebuiltBelow x blocks → Room m w c size x blocks marks
-  room-below x blocks L l R = record {
-    lent = record {
-      good = L .good;
-      marks-size = L .marks-size;
-      some = L .some;
-      blocks-size = R .long ∙ L .blocks-size;
-      most = let e = R .long in let k = L .most in omega arith;
-    };
-    inside = l;
-  }
-
--- one step, by the word that is written
-pub word-rebuilt : (m w c size x : ℕ) (marks before after word : List ℕ) → length word ≡ placeCount m w → word ≡ (wordOutcome m w c size before marks x) .word
-    → length after ≡ length before → blockWord (length word) size after x ≡ word
-    → ((y : ℕ) → y < size → (y ≡ x → ⊥) → blockWord (length word) size after y ≡ blockWord (length word) size before y)
-    → WordRebuilt m w c size x marks before after
-word-rebuilt m w c size x marks before after word n e long here others = record {
-  long = long;
-  here = ap (λ i. blockWord i size after x) (sym n) ∙ here ∙ e;
-  others = λ y l d. ap (λ i. blockWord i size after y) (sym n) ∙ others y l d ∙ ap (λ i. blockWord i size before y) n;
-}
-
 -- ---- the whole call
 pub rebuilt-refused : (r : ℕ) → (r ≡ 0 → ⊥) → (r ≡ 9 → ⊥) → rebuiltAt r 0 0 ≡ Rebuilt.Refused r
 rebuilt-refused zero n k = absurd (n refl)
@@ -240,26 +146,23 @@ module _ (m w c size : ℕ) (blocks marks : List ℕ) where
       go zero d o = absurd (n d)
       go (suc q) d o = ap (λ k. refusedRebuild k blocks marks) (sym d)
 
-  module _ (none : rebuildRefusal m w c size (length blocks) marks ≡ 0) where
-    pub rebuild-contradictory : (x g : ℕ) → contradictionAt m w c size blocks marks ≡ Rebuilt.Contradictory x g
-        → rebuildOf m w c size blocks marks ≡ contradictoryRebuild x g blocks marks
-    unfolding rebuildOf contradictionAt
-    rebuild-contradictory x g e = rw none (go (ltb (contradictingWord m w c size blocks marks) size) _ _ e)
-      where
-        go : (b : Bool) (y h : ℕ) → cond b (Rebuilt.Contradictory y h) Rebuilt.Done ≡ Rebuilt.Contradictory x g
-            → cond b (contradictoryRebuild y h blocks marks) (doneRebuild (rebuiltBlocks m w c size blocks marks) marks)
-            ≡ contradictoryRebuild x g blocks marks
-        go true y h d = cc
-        go false y h d = let z : _≡_ {A = ℕ} 0 1 = cc in absurd (omega arith)
+  abbrev nine : ℕ → Bool
+  nine x = eqb ((wordOutcome m w c size blocks marks x) .number) 9
 
-    -- P holds of the answer of the first pass, and of no contradiction
-    pub rebuild-done : (P : Rebuilt → Type 0) → P (contradictionAt m w c size blocks marks) → ((x g : ℕ) → P (Rebuilt.Contradictory x g) → ⊥)
-        → rebuildOf m w c size blocks marks ≡ doneRebuild (rebuiltBlocks m w c size blocks marks) marks
-    unfolding rebuildOf contradictionAt
-    rebuild-done P p n = rw none (go (ltb (contradictingWord m w c size blocks marks) size) _ _ _ p)
-      where
-        go : (b : Bool) (y h : ℕ) (o : RebuildOutcome) → P (cond b (Rebuilt.Contradictory y h) Rebuilt.Done)
-            → cond b o (doneRebuild (rebuiltBlocks m w c size blocks marks) marks)
-            ≡ doneRebuild (rebuiltBlocks m w c size blocks marks) marks
-        go true y h o d = absurd (n y h d)
-        go false y h o d = refl
+  -- no word below x gets 9
+  abbrev pub NoneBelow : ℕ → Type 0
+  NoneBelow x = (y : ℕ) → y < x → (wordOutcome m w c size blocks marks y) .number ≡ 9 → ⊥
+
+  module _ (none : rebuildRefusal m w c size (length blocks) marks ≡ 0) where
+    pub rebuild-contradictory : (x : ℕ) → x < size → NoneBelow x → (wordOutcome m w c size blocks marks x) .number ≡ 9
+        → rebuildOf m w c size blocks marks ≡ contradictoryRebuild x ((wordOutcome m w c size blocks marks x) .group) blocks marks
+    unfolding rebuildOf contradictingWord
+    rebuild-contradictory x l below e =
+        let f : firstBelow size nine ≡ x = first-is size nine x (omega arith) (λ y b. ne-eqb _ 9 (below y b)) (λ _. eq-eqb _ 9 e) in
+        rw (none, f, lt-ltb x size l)
+
+    pub rebuild-done : NoneBelow size → rebuildOf m w c size blocks marks ≡ doneRebuild (rebuiltBlocks m w c size blocks marks) marks
+    unfolding rebuildOf contradictingWord
+    rebuild-done below =
+        let f : firstBelow size nine ≡ size = first-none size nine (λ y b. ne-eqb _ 9 (below y b)) in
+        rw (none, f, le-ltb size size (omega arith))

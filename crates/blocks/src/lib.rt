@@ -2,16 +2,15 @@
 use judge::Judged;
 use shape::Mending;
 ghost use mathlib.Core.Path.{_≡_};
-ghost use Prim.Native.Nat.{ℕ, _*_, _≤_, _<_};
+ghost use Prim.Native.Nat.{_*_, _≤_, _<_};
 ghost use lib.ListN.{length};
-ghost use Rattle.shape.specs.Shapes.{Good, placeCount};
-ghost use Rattle.code.specs.Marks.{excess};
+ghost use Rattle.shape.specs.Shapes.{placeCount};
 ghost use Rattle.shape.specs.Answers.{mendingAt};
 ghost use Rattle.recover.specs.Recover.{recoverOf};
 ghost use Rattle.blocks.specs.Columns.{blockWord};
-ghost use Rattle.blocks.specs.Rebuild.{blocksRefusal, rebuildRefusal, wordOutcome, rebuiltBlocks, rebuildOf, outcomeRebuilt};
+ghost use Rattle.blocks.specs.Rebuild.{blocksRefusal, rebuildRefusal, wordOutcome, rebuildOf, outcomeRebuilt};
 ghost use Rattle.blocks.specs.Rebuild.{rebuiltNumber, rebuiltWord, rebuiltGroup};
-ghost use Rattle.blocks.specs.Steps.{Lent, Room, contradictionAt, WordRebuilt};
+ghost use Rattle.blocks.specs.Steps.{Room};
 
 // The answer of a rebuild: done, contradictory with the lowest word that contradicts and its group, or the number of another refusal.
 pub enum Rebuilt {
@@ -69,21 +68,6 @@ fn gather(blocks: &[u8], size: usize, x: usize, word: &mut [u8])
     }
 }
 
-// Writes a word over word x of the blocks; the other words stay.
-fn scatter(word: &[u8], size: usize, x: usize, blocks: &mut [u8])
-    requires { ⌜ (x < size) × (length (now word) * size ≡ length (now blocks)) × (length (now blocks) ≤ 65536) ⌝ }
-    ensures { λ _. ⌜ length (now (blocks .exit)) ≡ length (now (blocks .entry)) ⌝ }
-    ensures { λ _. ⌜ blockWord (length (now (word .entry))) size (now (blocks .exit)) x ≡ now (word .entry) ⌝ }
-    ensures { λ _. ⌜ ((y : ℕ) → y < size → (y ≡ x → ⊥) → blockWord (length (now (word .entry))) size (now (blocks .exit)) y ≡ blockWord (length (now (word .entry))) size (now (blocks .entry)) y) ⌝ }
-{
-    let mut p: usize = 0;
-    while p < word.len() {
-        let to = p * size + x;
-        blocks[to] = word[p];
-        p += 1;
-    }
-}
-
 // Recovers a word by a copy of the marks, which stay; lost is room for the copy.
 fn recover_by(
     m: usize,
@@ -123,64 +107,6 @@ fn recover_word(
     recover_by(m, w, c, word, marks, &mut lost[..n])
 }
 
-// The lowest word that contradicts, with its group, or Done if there is none.
-fn first_contradiction(
-    m: usize,
-    w: usize,
-    c: usize,
-    size: usize,
-    blocks: &[u8],
-    marks: &[u8],
-) -> Rebuilt
-    requires { ⌜ Lent m w c size (now blocks) (now marks) ⌝ }
-    ensures { λ r. ⌜ r ≡ contradictionAt m w c size (now (blocks .entry)) (now (marks .entry)) ⌝ }
-{
-    let n = marks.len();
-    let mut word = [0u8; 240];
-    let mut x: usize = 0;
-    while x < size {
-        let answer = recover_word(m, w, c, size, x, blocks, marks, &mut word[..n]);
-        if let Mending::Contradictory(g) = answer {
-            return Rebuilt::Contradictory { word: x, group: g };
-        }
-        x += 1;
-    }
-    Rebuilt::Done
-}
-
-// Recovers word x in the blocks; the other words stay. word is room for it.
-fn rebuild_word(
-    m: usize,
-    w: usize,
-    c: usize,
-    size: usize,
-    x: usize,
-    blocks: &mut [u8],
-    marks: &[u8],
-    word: &mut [u8],
-)
-    requires { ⌜ Room m w c size x (now blocks) (now marks) ⌝ }
-    requires { ⌜ length (now word) ≡ placeCount m w ⌝ }
-    ensures { λ _. ⌜ WordRebuilt m w c size x (now (marks .entry)) (now (blocks .entry)) (now (blocks .exit)) ⌝ }
-{
-    recover_word(m, w, c, size, x, blocks, marks, word);
-    scatter(word, size, x, blocks);
-}
-
-// Recovers every word in the blocks.
-fn rebuild_words(m: usize, w: usize, c: usize, size: usize, blocks: &mut [u8], marks: &[u8])
-    requires { ⌜ Lent m w c size (now blocks) (now marks) ⌝ }
-    ensures { λ _. ⌜ now (blocks .exit) ≡ rebuiltBlocks m w c size (now (blocks .entry)) (now (marks .entry)) ⌝ }
-{
-    let n = marks.len();
-    let mut word = [0u8; 240];
-    let mut x: usize = 0;
-    while x < size {
-        rebuild_word(m, w, c, size, x, blocks, marks, &mut word[..n]);
-        x += 1;
-    }
-}
-
 // The group that word x contradicts with.
 fn group_at(m: usize, w: usize, c: usize, size: usize, x: usize, blocks: &[u8], marks: &[u8]) -> u8
     requires { ⌜ Room m w c size x (now blocks) (now marks) ⌝ }
@@ -194,34 +120,6 @@ fn group_at(m: usize, w: usize, c: usize, size: usize, x: usize, blocks: &[u8], 
         return g;
     }
     0
-}
-
-// The same as below where no group has lost more than c places, by sums of whole blocks.
-fn rebuild_kept(
-    m: usize,
-    w: usize,
-    c: usize,
-    size: usize,
-    blocks: &mut [u8],
-    marks: &mut [u8],
-) -> Rebuilt
-    requires { ⌜ rebuildRefusal m w c size (length (now blocks)) (now marks) ≡ 0 ⌝ }
-    requires { ⌜ excess m w c (now marks) ≡ 0 ⌝ }
-    ensures answer { λ r. ⌜ r ≡ outcomeRebuilt (rebuildOf m w c size (now (blocks .entry)) (now (marks .entry))) ⌝ }
-    ensures blocks { λ _. ⌜ now (blocks .exit) ≡ (rebuildOf m w c size (now (blocks .entry)) (now (marks .entry))) .blocks ⌝ }
-    ensures marks { λ _. ⌜ now (marks .exit) ≡ (rebuildOf m w c size (now (blocks .entry)) (now (marks .entry))) .marks ⌝ }
-    ensures number { λ r. ⌜ rebuiltNumber r ≡ (rebuildOf m w c size (now (blocks .entry)) (now (marks .entry))) .number ⌝ }
-    ensures word { λ r. ⌜ rebuiltWord r ≡ (rebuildOf m w c size (now (blocks .entry)) (now (marks .entry))) .word ⌝ }
-    ensures group { λ r. ⌜ rebuiltGroup r ≡ (rebuildOf m w c size (now (blocks .entry)) (now (marks .entry))) .group ⌝ }
-{
-    let x = block_engine::lowest(m, w, c, size, blocks, marks);
-    if x < size {
-        let group = group_at(m, w, c, size, x, blocks, marks);
-        return Rebuilt::Contradictory { word: x, group };
-    }
-    block_engine::restore(m, w, c, size, blocks, marks);
-    buffers::clear_if(true, marks);
-    Rebuilt::Done
 }
 
 // Recovers all words of the blocks and clears the marks, or refuses and changes nothing.
@@ -244,14 +142,11 @@ pub fn rebuild(
     if r != 0 {
         return Rebuilt::Refused(r);
     }
-    if marks::excess_of(m, w, c, marks) == 0 {
-        return rebuild_kept(m, w, c, size, blocks, marks);
+    let x = block_engine::mend(m, w, c, size, blocks, marks);
+    if x < size {
+        let group = group_at(m, w, c, size, x, blocks, marks);
+        return Rebuilt::Contradictory { word: x, group };
     }
-    let found = first_contradiction(m, w, c, size, blocks, marks);
-    if let Rebuilt::Contradictory { word, group } = found {
-        return Rebuilt::Contradictory { word, group };
-    }
-    rebuild_words(m, w, c, size, blocks, marks);
     buffers::clear_if(true, marks);
     Rebuilt::Done
 }

@@ -1,10 +1,9 @@
 use mathlib.Core.Path.{_≡_, sym, _∙_}
 use mathlib.Core.List.{List}
-use Prim.Native.Nat.{ℕ, _+_, _*_, _-_, _≤_, _<_}
+use Prim.Native.Nat.{ℕ, _+_, _*_, _-_, _<_}
 use native.Mathlib.Omega.{arith}
 use lib.ListN.{length, getD}
 use Rattle.code.specs.Marks.{lostIn}
-use Rattle.solve.specs.Elimination.{entry}
 use Rattle.block_engine.specs.PassLaws.{group-filled-at, aimed-at, group-whole, none-lost}
 use Rattle.block_engine.specs.StepsLaws.{mul-within, size-small}
 use borrow.Author.Needs.{needs}
@@ -12,87 +11,61 @@ use Rattle.block_engine.proofs.fill_group.Statement.{statement}
 use Rattle.block_engine.proofs.fill_group.Tie as tie
 use Rattle.block_engine.proofs.fill_group.Reads as reads
 use Rattle.block_engine.proofs.fill_group.Lts as lts
-use Rattle.block_engine.proofs.group_rows.Reads as group-rows-reads
-use Rattle.block_engine.proofs.pack.Reads as pack-reads
 use Rattle.block_engine.proofs.targets.Reads as targets-reads
 use Rattle.block_sums.proofs.write_sums.Reads as write-sums-reads
 use Rattle.marks.proofs.lost_in.Reads as lost-in-reads
 
--- src/lib.rt:257:9
 lost-in-requires : tie.Need-lost-in-requires
 lost-in-requires c κs = search needs
 
--- src/lib.rt:259:9
 returns : tie.Need-returns
 returns c =
     let l = c .before in
-    let b = l .before .before .before in
+    let b = l .before .before .before .before in
     let a = b .args in
     let k : List ℕ = a .bound .now in
     let e : lostIn (length k) k 0 ≡ 0 = sym (l .lost-in .ensures) ∙ c .if1 .taken in
     group-whole (length k) (a .c) (a .size) (a .g) k (a .blocks .now) e (none-lost (length k) k e)
 
--- src/lib.rt:261:9
-group-rows-requires : tie.Need-group-rows-requires
-group-rows-requires c κs = search needs
-
--- src/lib.rt:263:28
-slice-aggregate-pack : tie.Need-slice-aggregate-pack
-slice-aggregate-pack c = search needs
-
--- src/lib.rt:263:5
-pack-requires : tie.Need-pack-requires
-pack-requires c κs = search needs
-
--- src/lib.rt:264:16
 mul-from : tie.Need-mul-from
 mul-from c =
-    let b = c .before .before .before .before .before .before .before .before in
+    let b = c .before .before .before .before .before in
     let a = b .args in
     let i = mul-within (a .g) (length (a .bound .now)) 15 16 (omega arith) (omega arith) in
     omega arith
 
--- src/lib.rt:265:9
 targets-requires : tie.Need-targets-requires
 targets-requires c κs =
-    let b = c .before .before .before .before .before .before .before .before in
+    let b = c .before .before .before .before .before in
     let a = b .args in
     let i = mul-within (a .g) (length (a .bound .now)) 15 16 (omega arith) (omega arith) in
     (omega arith, omega arith)
 
--- src/lib.rt:266:42
-slice-aggregate-write-sums : tie.Need-slice-aggregate-write-sums
-slice-aggregate-write-sums c = search needs
-
--- src/lib.rt:266:5
 write-sums-requires : tie.Need-write-sums-requires
 write-sums-requires c κs = search needs
 
--- src/lib.rt:242:1
 same-length : tie.Need-same-length
 same-length c = search needs
 
--- src/lib.rt:242:1
 returns-2 : tie.Need-returns-2
 returns-2 c =
     let r = c .before .before in
-    let o = r .before .before .before in
-    let f = o .before .before in
-    let q = f .before .before in
-    let l = q .before .before in
-    let b = l .before .before .before in
+    let o = r .before .before in
+    let l = o .before .before in
+    let b = l .before .before .before .before in
     let a = b .args in
     let k : List ℕ = a .bound .now in
     let w : ℕ = length k in
     let p = b .pre .0 in
+    let P = b .pre .1 .1 in
     let t : ℕ = l .lost-in .result in
     let e : t ≡ lostIn w k 0 = l .lost-in .ensures in
-    let h = mul-within t w 4 16 (omega arith) (omega arith) in
-    let z = f .pack .ensures .0 in
+    let h = mul-within t w 4 w (omega arith) (omega arith) in
+    let z = P .long in
     let T = o .targets .ensures (omega arith) in
-    let small : (i : ℕ) → getD (a .blocks .now) i 0 < 256 = λ i. l .before .before .slice-known .given i .fits in
+    let small : (i : ℕ) → getD (a .blocks .now) i 0 < 256 = λ i. l .before .before .before .slice-known .given i .fits in
     group-filled-at w (a .c) (a .g) (p .0) (p .1) k (p .2) (p .3) (a .size) (a .blocks .now) small
-    (entry (q .group-rows .result)) (q .group-rows .ensures) _ (o .targets .result) _ t e (f .pack .ensures .1) T
+    (P .rows) (P .reduced) _ (o .targets .result) _ t e (λ i d. P .here i (omega arith)) T
     (r .write-sums .ensures .0 (record {
       inside = b .pre .1 .0 .1;
       most = b .pre .1 .0 .2;
@@ -111,12 +84,8 @@ fill-group-spec =
     (tie.spec
     lost-in-requires
     returns
-    group-rows-requires
-    slice-aggregate-pack
-    pack-requires
     mul-from
     targets-requires
-    slice-aggregate-write-sums
     write-sums-requires
     same-length
     returns-2)

@@ -1,15 +1,14 @@
-use mathlib.Core.Path.{_≡_, sym, ap, _∙_}
+use mathlib.Core.Path.{_≡_, ap, _∙_}
 use mathlib.Core.List.{List}
 use Prim.Native.Nat.{ℕ, suc, _≤_, _<_, _-_, _+_, _*_}
 use native.Mathlib.Nat.{suc-mul}
 use native.Mathlib.Omega.{arith}
 use lib.ListN.{length, getD}
-use borrow.Author.Needs.{needs}
 use Rattle.code.specs.StretchLaws.{with-length, stretch-length}
 use Rattle.code.specs.LentLaws.{stretch-lent, with-lent}
 use Rattle.solve.specs.Elimination.{entry}
 use Rattle.block_engine.specs.Group.{masked}
-use Rattle.block_engine.specs.StepsLaws.{row-within, each-stretch}
+use Rattle.block_engine.specs.StepsLaws.{row-inside, each-stretch}
 use Rattle.block_engine.proofs.pack.Statement.{statement}
 use Rattle.block_engine.proofs.pack.Tie as tie
 use Rattle.block_engine.proofs.pack.Reads as reads
@@ -17,80 +16,64 @@ use Rattle.block_engine.proofs.pack.Lts as lts
 use Rattle.block_engine.proofs.pack_row.Reads as pack-row-reads
 
 abbrev Inv-loop : tie.InvT-loop
-Inv-loop bound from count out₀ rows w r₀ out r =
-    (r ≤ count) × (length out ≡ 64) × ((k : ℕ) → k < r → (j : ℕ) → j < length bound
-    → getD out (k * length bound + j) 0 ≡ masked bound (entry rows (from + k)) j)
+Inv-loop bound out₀ rows w r₀ out r =
+    (r ≤ 4) × (length out ≡ 4 * length bound) × ((k : ℕ) → k < r → (j : ℕ) → j < length bound
+    → getD out (k * length bound + j) 0 ≡ masked bound (entry rows k) j)
 
 abbrev μ-loop : tie.MeasureT-loop
-μ-loop bound from count out₀ rows w r₀ out r = count - r
+μ-loop bound out₀ rows w r₀ out r = 4 - r
 
--- src/lib.rt:108:5
 loop-holds : tie.Need-loop-holds Inv-loop μ-loop
 loop-holds c = (omega arith, omega arith, λ k l. absurd (omega arith))
 
--- src/lib.rt:109:24
-add-row : tie.Need-add-row Inv-loop μ-loop
-add-row c = omega arith
-
--- src/lib.rt:109:19
 mul-row : tie.Need-mul-row Inv-loop μ-loop
 mul-row c = omega arith
 
--- src/lib.rt:109:19
 array-copy-out-row : tie.Need-array-copy-out-row Inv-loop μ-loop
 array-copy-out-row c = omega arith
 
--- src/lib.rt:110:17
 mul-a : tie.Need-mul-a Inv-loop μ-loop
 mul-a c =
     let s = c .before .before in
     let a = s .before .before .before in
-    let i = row-within (s .loop .r) (a .args .count) (length (a .args .bound .now)) (omega arith) (omega arith) (omega arith) in
+    let i = row-inside (s .loop .r) 4 (length (a .args .bound .now)) (omega arith) in
     omega arith
 
--- src/lib.rt:111:17
 add-e : tie.Need-add-e Inv-loop μ-loop
 add-e c =
     let s = c .before .before in
     let a = s .before .before .before in
-    let i = row-within (s .loop .r) (a .args .count) (length (a .args .bound .now)) (omega arith) (omega arith) (omega arith) in
+    let i = row-inside (s .loop .r) 4 (length (a .args .bound .now)) (omega arith) in
     omega arith
 
--- src/lib.rt:112:29
 sub-pack-row : tie.Need-sub-pack-row Inv-loop μ-loop
 sub-pack-row c = omega arith
 
--- src/lib.rt:112:29
 part-pack-row-start : tie.Need-part-pack-row-start Inv-loop μ-loop
 part-pack-row-start c = omega arith
 
--- src/lib.rt:112:29
 part-pack-row-end : tie.Need-part-pack-row-end Inv-loop μ-loop
 part-pack-row-end c =
     let s = c .before .before in
     let a = s .before .before .before in
-    let i = row-within (s .loop .r) (a .args .count) (length (a .args .bound .now)) (omega arith) (omega arith) (omega arith) in
+    let i = row-inside (s .loop .r) 4 (length (a .args .bound .now)) (omega arith) in
     omega arith
 
--- src/lib.rt:112:9
 pack-row-requires : tie.Need-pack-row-requires Inv-loop μ-loop
 pack-row-requires c κs =
     let s = c .before .before .before in
     let a = s .before .before .before in
     let w : ℕ = length (a .args .bound .now) in
-    let i = row-within (s .loop .r) (a .args .count) w (omega arith) (omega arith) (omega arith) in
+    let i = row-inside (s .loop .r) 4 w (omega arith) in
     let e = suc-mul (s .loop .r) w in
     (omega arith, ap length (stretch-lent w (s .loop .r) (s .loop .out)) ∙ stretch-length w (s .loop .r) (s .loop .out) (omega arith))
 
--- src/lib.rt:113:9
 add-r : tie.Need-add-r Inv-loop μ-loop
 add-r c = omega arith
 
--- src/lib.rt:108:5
 loop-less : tie.Need-loop-less Inv-loop μ-loop
 loop-less c = omega arith
 
--- src/lib.rt:108:5
 loop-again : tie.Need-loop-again Inv-loop μ-loop
 loop-again c =
     let f = c .before .before in
@@ -101,21 +84,19 @@ loop-again c =
     let r : ℕ = s .loop .r in
     let x : List ℕ = s .loop .out in
     let y : List ℕ = f .pack-row .last .1 .1 .0 in
-    let i = row-within r (a .args .count) w (omega arith) (omega arith) (omega arith) in
+    let i = row-inside r 4 w (omega arith) in
     let e = suc-mul r w in
     let fits : suc r * w ≤ length x = omega arith in
     let long : length y ≡ w = f .pack-row .ensures .0 ∙ ap length (stretch-lent w r x) ∙ stretch-length w r x fits in (
       omega arith,
       rw (with-lent w r x y) (with-length w r x fits y long ∙ s .loop .inv .1),
       rw (with-lent w r x y)
-          (each-stretch w r x y fits long (λ n j b. b ≡ masked k (entry (a .args .t1) (a .args .from + n)) j) (s .loop .inv .2) (f .pack-row .ensures .1)),
+          (each-stretch w r x y fits long (λ n j b. b ≡ masked k (entry (a .args .t1) n) j) (s .loop .inv .2) (f .pack-row .ensures .1)),
     )
 
--- src/lib.rt:101:1
 same-length : tie.Need-same-length Inv-loop μ-loop
 same-length c = omega arith
 
--- src/lib.rt:101:1
 returns : tie.Need-returns Inv-loop μ-loop
 returns c = let l = c .before .loop in (l .inv .1, λ k h. l .inv .2 k (omega arith))
 
@@ -126,7 +107,6 @@ pack-spec =
     Inv-loop
     μ-loop
     loop-holds
-    add-row
     mul-row
     array-copy-out-row
     mul-a

@@ -75,7 +75,7 @@ returns-6 c =
     let a = c .before .before .before .before .before .before .before .before .before .args in (
       λ e. absurd (true≢false (sym e)),
       λ _ (R : Ready (a .m) (a .w) (a .c) (a .size) (a .lent) (a .marks .now)).
-          c .if6 .taken (c .before .excess-of .ensures .0 (R .good) (R .marks-size) ∙ R .none-free),
+          let e = c .before .excess-of .ensures .0 (R .good) (R .marks-size) in let l = R .low in let z = c .if6 .taken in omega arith,
     )
 
 returns-7 : tie.Need-returns-7
@@ -91,7 +91,7 @@ returns-7 c =
     let z = sym (r .word-refusal .ensures) ∙ o .if1 .left in
     let L = lent (a .m) (a .w) (a .c) (a .marks .now) z in (
       λ _. ready-is (a .m) (a .w) (a .c) (a .size) (a .lent) (a .marks .now) z (b .if2 .left) (let l = d .if4 .left in omega arith) (f .if5 .left)
-          (sym (x .excess-of .ensures .0 (L .good) (L .size)) ∙ c .if6 .left),
+          (let e = x .excess-of .ensures .0 (L .good) (L .size) in let l = c .if6 .left in omega arith),
       λ e. absurd (true≢false e),
     )
 

@@ -1,0 +1,44 @@
+use lib.ListN.{length-take}
+use Rattle.shape.specs.Laws.{places-most}
+use native.Mathlib.Omega.{arith}
+use borrow.Author.Needs.{needs}
+use Rattle.block_engine.proofs.mend_of.Statement.{statement}
+use Rattle.block_engine.proofs.mend_of.Tie as tie
+use Rattle.block_engine.proofs.mend_of.Reads as reads
+use Rattle.block_engine.proofs.mend_of.Lts as lts
+use Rattle.block_engine.proofs.mend_by.Reads as mend-by-reads
+
+array-borrow-prefix-bound : tie.Need-array-borrow-prefix-bound
+array-borrow-prefix-bound c = search needs
+
+slice-aggregate-mend-by : tie.Need-slice-aggregate-mend-by
+slice-aggregate-mend-by c =
+    let s = c .before .before .before .before in
+    let R = s .pre in
+    let l = places-most (R .good) in
+    let e = R .marks-size in
+    simp length-take (omega arith)
+
+mend-by-requires : tie.Need-mend-by-requires
+mend-by-requires c κs =
+    let s = c .before .before .before .before in
+    let R = s .pre in
+    let l = places-most (R .good) in
+    let e = R .marks-size in
+    (R, simp length-take (omega arith))
+
+same-length : tie.Need-same-length
+same-length c = search needs
+
+returns : tie.Need-returns
+returns c = search needs
+
+pub mend-of-spec : {M : Type 1} → statement M
+mend-of-spec =
+    tie.close
+    (tie.spec
+    array-borrow-prefix-bound
+    slice-aggregate-mend-by
+    mend-by-requires
+    same-length
+    returns)
