@@ -1,55 +1,23 @@
 -- Laws: When the ring is a field, by two tests that compute on k numbers each:
 --   x ^ (2 ^ k) = x, by k squarings; then every element is its own 2 ^ k-th power;
 --   a linear map, given by its k values at 1, 2, 4, .., takes e ^ 2 + e back to e less its digit 0; then e ^ 2 = e only for 0 and 1.
-use mathlib.Core.Path.{_≡_, refl, sym, ap, ap₂, _∙_}
-use mathlib.Core.List.{List, [], _∷_}
-use Prim.Native.Nat.{ℕ, zero, suc, _-_, _*_, _/_, _%_, _^_, _<_}
-use native.Mathlib.Nat.{zero-lt-suc, pow-suc, div-add-mod', mod-lt, mod-eq-of-lt}
+use mathlib.Core.Path.{_≡_, refl, sym, ap, _∙_}
+use mathlib.Core.List.{List}
+use Prim.Native.Nat.{ℕ, zero, suc, _-_, _*_, _/_, _^_, _<_}
+use native.Mathlib.Nat.{mod-eq-of-lt}
 use native.Mathlib.Omega.{arith}
 use lib.Dec.{T, eqb, eqb→eq}
-use lib.Arith.{lt-one}
 use lib.Pow.{pow-lt}
-use Rattle.binary_field.specs.Xor.{_⊕_, masked}
-use Rattle.binary_field.specs.XorLaws.{⊕-zero-l, ⊕-self, ⊕-half, ⊕-twice, ⊕-shifted, ⊕-swap, digit-cases, masked-low}
+use Rattle.binary_field.specs.Xor.{_⊕_}
+use Rattle.binary_field.specs.XorLaws.{⊕-self, ⊕-half, ⊕-twice}
 use Rattle.counting.specs.TestLaws.{and-l, and-r, all-at}
 use Rattle.binary_field.specs.Product.{double, product}
-use Rattle.binary_field.specs.ProductLaws.{double-lt, product-comm, product-assoc, product-left-comm, product-zero, zero-product, one-product}
+use Rattle.binary_field.specs.ProductLaws.{double-lt, product-comm, product-assoc, product-left-comm, product-zero, one-product}
 use Rattle.binary_field.specs.ProductLaws.{linear-product, ring}
 use Rattle.binary_field.specs.Power.{power, squares}
 use Rattle.binary_field.specs.PowerLaws.{power-lt, power-suc, power-squares, one-power, product-power, frobenius, double-is}
 use Rattle.binary_field.specs.Inverse.{linearMap, isField, inverse}
-
-map-add : (ts : List ℕ) (a b : ℕ) → linearMap ts (a ⊕ b) ≡ linearMap ts a ⊕ linearMap ts b
-unfolding linearMap
-map-add [] a b = sym (⊕-zero-l 0)
-map-add (t ∷ ts) a b =
-    ap₂ _⊕_ (masked-low a b t) (ap (linearMap ts) (⊕-half a b) ∙ map-add ts (a / 2) (b / 2))
-    ∙ ⊕-swap (masked (a % 2) t) (masked (b % 2) t) (linearMap ts (a / 2)) (linearMap ts (b / 2))
-
-map-zero : (ts : List ℕ) → linearMap ts 0 ≡ 0
-unfolding linearMap masked
-map-zero [] = refl
-map-zero (t ∷ ts) = ⊕-zero-l (linearMap ts 0) ∙ map-zero ts
-
--- two linear maps that agree at 1, 2, 4, .. agree
-abbrev Additive : (ℕ → ℕ) → Type 0
-Additive f = (a b : ℕ) → f (a ⊕ b) ≡ f a ⊕ f b
-
-halved : (f : ℕ → ℕ) → Additive f → Additive (λ a. f (a * 2))
-halved f h a b = ap f (⊕-twice a b) ∙ h (a * 2) (b * 2)
-
-by-digit : (a : ℕ) (f : ℕ → ℕ) → Additive f → f a ≡ f (a / 2 * 2) ⊕ f (a % 2)
-by-digit a f h = ap f (sym (div-add-mod' a 2) ∙ sym (⊕-shifted (a / 2) 1 (a % 2) (mod-lt a (zero-lt-suc 1)))) ∙ h (a / 2 * 2) (a % 2)
-
-agree : (n : ℕ) (f g : ℕ → ℕ) → Additive f → Additive g → f 0 ≡ g 0 → ((i : ℕ) → i < n → f (2 ^ i) ≡ g (2 ^ i)) → (a : ℕ) → a < 2 ^ n → f a ≡ g a
-agree zero f g hf hg e0 e a h = ap f (lt-one h) ∙ e0 ∙ sym (ap g (lt-one h))
-agree (suc n) f g hf hg e0 e a h =
-    by-digit a f hf
-    ∙ ap₂ _⊕_
-    (agree n (λ x. f (x * 2)) (λ x. g (x * 2)) (halved f hf) (halved g hg) e0
-    (λ i l. ap f (sym (pow-suc 2 i)) ∙ e (suc i) (omega arith) ∙ ap g (pow-suc 2 i)) (a / 2) (let q = pow-suc 2 n in omega arith))
-    (digit-cases (λ d. f d ≡ g d) e0 (e 0 (omega arith)) a)
-    ∙ sym (by-digit a g hg)
+use Rattle.binary_field.specs.AdditiveLaws.{map-add, additive-zero, agree}
 
 module _ (k m : ℕ) (pos : 0 < k) where
   one-lt : 1 < 2 ^ k
@@ -94,9 +62,9 @@ module _ (k m : ℕ) (pos : 0 < k) where
         agree k (λ x. linearMap ts (product k m x x ⊕ x)) (λ x. x / 2 * 2)
         (λ a b. ap (linearMap ts) (squares-add a b) ∙ map-add ts (product k m a a ⊕ a) (product k m b b ⊕ b))
         (λ a b. ap (λ x. x * 2) (⊕-half a b) ∙ ⊕-twice (a / 2) (b / 2))
-        (ap (λ x. linearMap ts (x ⊕ 0)) (zero-product k m 0) ∙ ap (linearMap ts) (⊕-zero-l 0) ∙ map-zero ts) split e h
+        split e h
         in
-        let gone : e / 2 * 2 ≡ 0 = sym at-e ∙ ap (λ x. linearMap ts (x ⊕ e)) same ∙ ap (linearMap ts) (⊕-self e) ∙ map-zero ts in
+        let gone : e / 2 * 2 ≡ 0 = sym at-e ∙ ap (λ x. linearMap ts (x ⊕ e)) same ∙ ap (linearMap ts) (⊕-self e) ∙ additive-zero (linearMap ts) (map-add ts) in
         omega arith
       where
         squares-add : (a b : ℕ) → product k m (a ⊕ b) (a ⊕ b) ⊕ (a ⊕ b) ≡ (product k m a a ⊕ a) ⊕ (product k m b b ⊕ b)

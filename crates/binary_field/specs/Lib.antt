@@ -7,6 +7,7 @@ pub mod SumLaws
 pub mod Power
 pub mod PowerLaws
 pub mod Inverse
+pub mod AdditiveLaws
 pub mod InverseLaws
 pub mod ElementOrder
 pub mod ElementOrderLaws

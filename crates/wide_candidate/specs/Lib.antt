@@ -1,3 +1,5 @@
+pub mod Two
 pub mod TwoLaws
+pub mod Free
 pub mod Moved
 pub mod MovedLaws

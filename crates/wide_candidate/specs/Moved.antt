@@ -3,7 +3,7 @@ use Prim.Native.Nat.{ℕ}
 use Rattle.binary_field.specs.Xor.{_⊕_}
 use Rattle.code.specs.Edition.{times}
 use Rattle.wide_edition.specs.Edition.{wideEdition}
-use Rattle.wide_sums.specs.declared.Sums.{Sums}
+use Rattle.wide_across.specs.declared.Sums.{Sums}
 
 abbrev pub movedBy : ℕ → Sums → Sums → Sums
 movedBy u a s = record { first = s .first ⊕ times wideEdition u (a .first); second = s .second ⊕ times wideEdition u (a .second) }

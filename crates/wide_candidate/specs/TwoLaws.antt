@@ -1,13 +1,13 @@
 -- Two equations in two unknowns by their determinant: where the coefficients have a trivial kernel it is not 0, and what is divided by it are the
 -- only solution.
-use mathlib.Core.Path.{_≡_, refl, sym, ap, ap₂, _∙_}
+use mathlib.Core.Path.{_≡_, sym, ap, ap₂, _∙_}
 use mathlib.Core.List.{List}
 use Prim.Native.Nat.{ℕ, zero, suc, _^_, _<_}
 use native.Mathlib.Omega.{arith}
 use Rattle.binary_field.specs.Xor.{_⊕_}
 use Rattle.binary_field.specs.XorLaws.{⊕-zero-l, ⊕-lt}
 use Rattle.binary_field.specs.Product.{product}
-use Rattle.binary_field.specs.ProductLaws.{product-comm, product-lt, product-one, zero-product, ring}
+use Rattle.binary_field.specs.ProductLaws.{product-lt, product-one, ring}
 use Rattle.binary_field.specs.Inverse.{inverse}
 use Rattle.binary_field.specs.InverseLaws.{product-inverse}
 use Rattle.binary_field.specs.ElementLaws.{one-lt}
@@ -18,6 +18,7 @@ use Rattle.solve.specs.Elimination.{entry}
 use Rattle.solve.specs.Kernel.{TrivialKernel, Kernel}
 use Rattle.solve.specs.Solution.{OnlySolution, Solves}
 use Rattle.candidate.specs.Solved.{twoRows, pairAt, SolvedIn}
+use Rattle.wide_candidate.specs.Two.{MetIn}
 
 sum-two : (f : ℕ → ℕ) → sumBelow 2 f ≡ f 0 ⊕ f 1
 sum-two f = sum-suc 1 f ∙ ap (λ s. s ⊕ f 1) (sum-suc 0 f ∙ ap (λ s. s ⊕ f 0) (sum-none f) ∙ ⊕-zero-l (f 0))
@@ -149,16 +150,29 @@ module _ (k m a₁ a₂ b₁ b₂ s t : ℕ) where
         others y l S (suc zero) h = only-second (y 0) (y 1) (l 1 (omega arith)) (sym (first-row y) ∙ S 0 (omega arith)) (sym (second-row y) ∙ S 1 (omega arith))
         others y l S (suc (suc j)) h = absurd (omega arith)
 
--- the two unknowns of an edition
-pub two-by-determinant : {E : Edition} (S : Sound E) {a₁ a₂ b₁ b₂ s t u v : ℕ} → a₁ < 2 ^ E .bits → a₂ < 2 ^ E .bits → b₁ < 2 ^ E .bits → b₂ < 2 ^ E .bits
-    → s < 2 ^ E .bits → t < 2 ^ E .bits
-    → (i : ℕ) → i ≡ inverse (E .bits) (E .poly) (times E a₁ b₂ ⊕ times E a₂ b₁)
-    → u ≡ times E i (times E s b₂ ⊕ times E t a₂) → v ≡ times E i (times E a₁ t ⊕ times E b₁ s) → SolvedIn E a₁ a₂ b₁ b₂ s t u v
-unfolding M determinant u v
-two-by-determinant {E} S {a₁} {a₂} {b₁} {b₂} {s} {t} ha₁ ha₂ hb₁ hb₂ hs ht i hi hu hv trivial =
-    rw (hu, hv)
-    (only-pair (E .bits) (E .poly) a₁ a₂ b₁ b₂ s t (S .facts .pos) i
-    (ap (times E (times E a₁ b₂ ⊕ times E a₂ b₁)) hi
-    ∙ product-inverse (E .bits) (E .poly) (S .facts .pos) (S .facts .values) (S .facts .tested) _
-    (⊕-lt (E .bits) _ _ (product-lt (E .bits) (E .poly) a₁ b₂) (product-lt (E .bits) (E .poly) a₂ b₁))
-    (not-zero (E .bits) (E .poly) a₁ a₂ b₁ b₂ s t (one-lt (S .facts)) ha₁ ha₂ hb₁ hb₂ trivial)) hs ht)
+-- what is not 0 times its inverse
+pub inverted : {E : Edition} (S : Sound E) {d i : ℕ} → d < 2 ^ E .bits → i ≡ inverse (E .bits) (E .poly) d → (d ≡ 0 → ⊥) → times E d i ≡ 1
+inverted {E} S {d} l e n = ap (times E d) e ∙ product-inverse (E .bits) (E .poly) (S .facts .pos) (S .facts .values) (S .facts .tested) d l n
+
+-- the two unknowns of an edition, divided by the determinant
+module _ {E : Edition} (S : Sound E) {a₁ a₂ b₁ b₂ s t u v : ℕ} (hs : s < 2 ^ E .bits) (ht : t < 2 ^ E .bits)
+    (i : ℕ) (hi : i ≡ inverse (E .bits) (E .poly) (times E a₁ b₂ ⊕ times E a₂ b₁))
+    (hu : u ≡ times E i (times E s b₂ ⊕ times E t a₂)) (hv : v ≡ times E i (times E a₁ t ⊕ times E b₁ s)) where
+  -- they meet the equations where it is not 0
+  pub two-met : (times E a₁ b₂ ⊕ times E a₂ b₁ ≡ 0 → ⊥) → MetIn E a₁ a₂ b₁ b₂ s t u v
+  unfolding determinant u v
+  two-met n = rw (hu, hv) record {
+    first = first-holds (E .bits) (E .poly) a₁ a₂ b₁ b₂ s t (S .facts .pos) i one hs;
+    second = second-holds (E .bits) (E .poly) a₁ a₂ b₁ b₂ s t (S .facts .pos) i one ht;
+  }
+    where
+      one : times E (times E a₁ b₂ ⊕ times E a₂ b₁) i ≡ 1
+      one = inverted S (⊕-lt (E .bits) _ _ (product-lt (E .bits) (E .poly) a₁ b₂) (product-lt (E .bits) (E .poly) a₂ b₁)) hi n
+
+  pub two-by-determinant : a₁ < 2 ^ E .bits → a₂ < 2 ^ E .bits → b₁ < 2 ^ E .bits → b₂ < 2 ^ E .bits → SolvedIn E a₁ a₂ b₁ b₂ s t u v
+  unfolding M determinant u v
+  two-by-determinant ha₁ ha₂ hb₁ hb₂ trivial =
+      rw (hu, hv)
+      (only-pair (E .bits) (E .poly) a₁ a₂ b₁ b₂ s t (S .facts .pos) i
+      (inverted S (⊕-lt (E .bits) _ _ (product-lt (E .bits) (E .poly) a₁ b₂) (product-lt (E .bits) (E .poly) a₂ b₁)) hi
+      (not-zero (E .bits) (E .poly) a₁ a₂ b₁ b₂ s t (one-lt (S .facts)) ha₁ ha₂ hb₁ hb₂ trivial)) hs ht)

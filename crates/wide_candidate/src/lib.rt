@@ -1,19 +1,22 @@
 // The candidate for a word of the sixteen-bit edition with lost places: where the excess is at most two, what any codeword that agrees with the present symbols must be.
-use wide_sums::Sums;
+use erasures::Free;
+use wide_across::Sums;
 ghost use mathlib.Core.Path.{_≡_};
-ghost use mathlib.Core.Bool.{false};
+ghost use mathlib.Core.Bool.{true, false};
 ghost use Prim.Native.Nat.{ℕ, _*_, _/_, _%_, _≤_, _<_};
-ghost use lib.ListN.{length, take};
+ghost use lib.ListN.{length, replicate};
 ghost use Rattle.shape.specs.Shapes.{GoodIn};
 ghost use Rattle.code.specs.Marks.{lost, lostIn};
 ghost use Rattle.wide_edition.specs.Edition.{wideLimits, wideEdition};
 ghost use Rattle.code.specs.Combined.{combined};
 ghost use Rattle.code.specs.Lone.{lone};
 ghost use Rattle.code.specs.Stretch.{stretch};
-ghost use Rattle.wide_sums.specs.Across.{acrossOf, noSums};
+ghost use Rattle.wide_across.specs.Across.{acrossOf, noSums};
 ghost use Rattle.erasures.specs.Whole.{BoundAll};
 ghost use Rattle.candidate.specs.Steps.{Blanked, GroupsFilledIn, DirectionIn, AddedIn};
 ghost use Rattle.candidate.specs.Solved.{SolvedIn, SolvedOneIn};
+ghost use Rattle.wide_candidate.specs.Two.{MetIn};
+ghost use Rattle.wide_candidate.specs.Free.{OneOrTwo};
 ghost use Rattle.wide_candidate.specs.Moved.{movedBy};
 ghost use Rattle.candidate.specs.Mended.{BoundFew, MendedOneIn, MendedTwoIn, MendedIn, IsCandidateIn};
 
@@ -51,29 +54,29 @@ fn fill_groups(m: usize, w: usize, c: usize, bound: &[u8], base: &mut [u16])
     }
 }
 
-// The direction of place j of a group with these bound marks; its stretch stands at the front.
-fn direction(j: usize, bound: &[u8]) -> [u16; 256]
+// Writes the direction of place j of a group with these bound marks into h, which comes as zeros.
+fn direction(j: usize, bound: &[u8], h: &mut [u16])
     requires { ⌜ length (now bound) ≤ 256 ⌝ }
     requires { ⌜ j < length (now bound) ⌝ }
     requires { ⌜ lost (now bound) j ≡ false ⌝ }
     requires { ⌜ lostIn (length (now bound)) (now bound) 0 ≤ 4 ⌝ }
-    ensures { λ r. ⌜ DirectionIn wideEdition (length (now (bound .entry))) j (now (bound .entry)) (take (length (now (bound .entry))) r) ⌝ }
+    requires { ⌜ now h ≡ replicate (length (now bound)) 0 ⌝ }
+    ensures { λ _. ⌜ DirectionIn wideEdition (length (now (bound .entry))) j (now (bound .entry)) (now (h .exit)) ⌝ }
 {
-    let w = bound.len();
-    let mut h = [0u16; 256];
     h[j] = 1;
-    wide_fill::fill(&mut h[..w], bound);
-    h
+    wide_fill::fill(h, bound);
 }
 
-// Adds u times h to a stretch.
+// Adds u times h to a stretch. Most of a direction is 0, and is left out.
 fn add_multiple(u: u16, h: &[u16], part: &mut [u16])
     requires { ⌜ length (now h) ≡ length (now part) ⌝ }
     ensures { λ _. ⌜ AddedIn wideEdition u (now (h .entry)) (now (part .entry)) (now (part .exit)) ⌝ }
 {
     let mut i: usize = 0;
     while i < part.len() {
-        part[i] = part[i] ^ wide_field::product(u, h[i]);
+        if h[i] != 0 {
+            part[i] = part[i] ^ wide_across::multiple(h[i], u);
+        }
         i += 1;
     }
 }
@@ -89,56 +92,69 @@ fn one_unknown(a: u16, b: u16, s: u16, t: u16) -> u16
     }
 }
 
-// The unknowns of two free places.
+// The unknowns of two free places, and whether they meet their equations.
 struct Unknowns {
     first: u16,
     second: u16,
+    solved: bool,
 }
 
 // The two unknowns, from their coefficients in the two sums across and what they have to come to.
 fn two_unknowns(a1: u16, a2: u16, b1: u16, b2: u16, s: u16, t: u16) -> Unknowns
     ensures { λ r. ⌜ SolvedIn wideEdition a1 a2 b1 b2 s t (r .first) (r .second) ⌝ }
+    ensures { λ r. ⌜ (r .solved ≡ true → MetIn wideEdition a1 a2 b1 b2 s t (r .first) (r .second)) ⌝ }
 {
-    let d = wide_field::product(a1, b2) ^ wide_field::product(a2, b1);
+    let mut x = [a1, a2, s, t, a1, b1, 0, 0];
+    let y = [b2, b1, b2, a2, t, s, 0, 0];
+    wide_sums::multiply(&mut x, &y);
+    let d = x[0] ^ x[1];
     let i = wide_solve::inverse(d);
-    let first = wide_field::product(i, wide_field::product(s, b2) ^ wide_field::product(t, a2));
-    let second = wide_field::product(i, wide_field::product(a1, t) ^ wide_field::product(b1, s));
-    Unknowns { first, second }
+    let first = wide_field::product(i, x[2] ^ x[3]);
+    let second = wide_field::product(i, x[4] ^ x[5]);
+    Unknowns {
+        first,
+        second,
+        solved: d != 0,
+    }
 }
 
 // Adds u times the direction h to group g of the word.
-fn add_direction(m: usize, w: usize, g: usize, u: u16, h: [u16; 256], word: &mut [u16])
-    requires { ⌜ w ≤ 256 ⌝ }
+fn add_direction(m: usize, w: usize, g: usize, u: u16, h: &[u16], word: &mut [u16])
+    requires { ⌜ length (now h) ≡ w ⌝ }
     requires { ⌜ g < m ⌝ }
     requires { ⌜ length (now word) ≡ m * w ⌝ }
-    ensures { λ _. ⌜ now (word .exit) ≡ combined wideEdition (m * w) (now (word .entry)) 1 (λ _. u) (λ _. lone m w g (take w h)) ⌝ }
+    ensures { λ _. ⌜ now (word .exit) ≡ combined wideEdition (m * w) (now (word .entry)) 1 (λ _. u) (λ _. lone m w g (now (h .entry))) ⌝ }
 {
     let a = g * w;
     let e = a + w;
-    add_multiple(u, &h[..w], &mut word[a..e]);
+    add_multiple(u, h, &mut word[a..e]);
 }
 
-// The direction of place p of the word, which is not bound.
-fn way(m: usize, w: usize, c: usize, p: usize, bound: &[u8]) -> [u16; 256]
+// The coefficients of the direction h of group g in the two sums across.
+fn weights(m: usize, w: usize, c: usize, g: usize, h: &[u16]) -> Sums
+    requires { ⌜ GoodIn wideLimits m w c ⌝ }
+    requires { ⌜ g < m ⌝ }
+    requires { ⌜ length (now h) ≡ w ⌝ }
+    ensures { λ r. ⌜ r ≡ acrossOf m w c (lone m w g (now (h .entry))) ⌝ }
+{
+    wide_across::group_sums(h, c, g)
+}
+
+// Writes the direction of place p of the word, which is not bound, into h, which comes as zeros, and gives back its coefficients.
+fn way(m: usize, w: usize, c: usize, p: usize, bound: &[u8], h: &mut [u16]) -> Sums
     requires { ⌜ GoodIn wideLimits m w c ⌝ }
     requires { ⌜ p < m * w ⌝ }
     requires { ⌜ BoundFew m w c p (now bound) ⌝ }
-    ensures { λ r. ⌜ DirectionIn wideEdition w (p % w) (stretch w (p / w) (now (bound .entry))) (take w r) ⌝ }
+    requires { ⌜ now h ≡ replicate w 0 ⌝ }
+    ensures { λ _. ⌜ DirectionIn wideEdition w (p % w) (stretch w (p / w) (now (bound .entry))) (now (h .exit)) ⌝ }
+    ensures { λ r. ⌜ r ≡ acrossOf m w c (lone m w (p / w) (now (h .exit))) ⌝ }
 {
     let g = p / w;
     let j = p % w;
     let a = g * w;
     let e = a + w;
-    direction(j, &bound[a..e])
-}
-
-// The coefficients of the direction h of group g in the two sums across.
-fn weights(m: usize, w: usize, c: usize, g: usize, h: [u16; 256]) -> Sums
-    requires { ⌜ GoodIn wideLimits m w c ⌝ }
-    requires { ⌜ g < m ⌝ }
-    ensures { λ r. ⌜ r ≡ acrossOf m w c (lone m w g (take w h)) ⌝ }
-{
-    wide_sums::group_sums(&h[..w], c, g)
+    direction(j, &bound[a..e], h);
+    weights(m, w, c, g, h)
 }
 
 // The two sums across of a word, after u times a direction with the coefficients a was added to it.
@@ -150,26 +166,62 @@ fn moved(s: Sums, u: u16, a: Sums) -> Sums
     Sums { first, second }
 }
 
+// The same where u is the unknown of the one free place: a first sum that it was solved from becomes 0.
+fn moved_one(s: Sums, u: u16, a: Sums) -> Sums
+    requires { ⌜ SolvedOneIn wideEdition (a .first) (a .second) (s .first) (s .second) u ⌝ }
+    ensures { λ r. ⌜ r ≡ movedBy u a s ⌝ }
+{
+    if a.first == 0 {
+        return moved(s, u, a);
+    }
+    let second = s.second ^ wide_field::product(u, a.second);
+    Sums { first: 0, second }
+}
+
+// The same for the two unknowns of two directions: both sums become 0 where these meet their equations.
+fn moved_two(s: Sums, u: Unknowns, a: Sums, b: Sums) -> Sums
+    requires { ⌜ (u .solved ≡ true → MetIn wideEdition (a .first) (b .first) (a .second) (b .second) (s .first) (s .second) (u .first) (u .second)) ⌝ }
+    ensures { λ r. ⌜ r ≡ movedBy (u .second) b (movedBy (u .first) a s) ⌝ }
+{
+    if u.solved {
+        return Sums {
+            first: 0,
+            second: 0,
+        };
+    }
+    let t = moved(s, u.first, a);
+    moved(t, u.second, b)
+}
+
 // Sets the one free place p, and with it the bound places of its group, so that the sums across, which are s, become zero if they can be.
-// It gives back what they have become.
-fn mend_one(m: usize, w: usize, c: usize, p: usize, bound: &[u8], word: &mut [u16], s: Sums) -> Sums
+// It gives back what they have become. The direction is worked out in h, which comes as zeros.
+fn mend_one(
+    m: usize,
+    w: usize,
+    c: usize,
+    p: usize,
+    bound: &[u8],
+    word: &mut [u16],
+    s: Sums,
+    h: &mut [u16],
+) -> Sums
     requires { ⌜ GoodIn wideLimits m w c ⌝ }
     requires { ⌜ length (now word) ≡ m * w ⌝ }
     requires { ⌜ p < m * w ⌝ }
     requires { ⌜ BoundFew m w c p (now bound) ⌝ }
     requires { ⌜ s ≡ acrossOf m w c (now word) ⌝ }
+    requires { ⌜ now h ≡ replicate w 0 ⌝ }
     ensures { λ _. ⌜ MendedOneIn wideEdition m w c p (now (bound .entry)) (now (word .entry)) (now (word .exit)) ⌝ }
     ensures { λ r. ⌜ r ≡ acrossOf m w c (now (word .exit)) ⌝ }
 {
     let g = p / w;
-    let h = way(m, w, c, p, bound);
-    let a = weights(m, w, c, g, h);
+    let a = way(m, w, c, p, bound, h);
     let u = one_unknown(a.first, a.second, s.first, s.second);
     add_direction(m, w, g, u, h, word);
-    moved(s, u, a)
+    moved_one(s, u, a)
 }
 
-// The same for two free places p and q.
+// The same for two free places p and q, with room for two directions.
 fn mend_two(
     m: usize,
     w: usize,
@@ -179,6 +231,8 @@ fn mend_two(
     bound: &[u8],
     word: &mut [u16],
     s: Sums,
+    h: &mut [u16],
+    k: &mut [u16],
 ) -> Sums
     requires { ⌜ GoodIn wideLimits m w c ⌝ }
     requires { ⌜ length (now word) ≡ m * w ⌝ }
@@ -186,20 +240,45 @@ fn mend_two(
     requires { ⌜ BoundFew m w c p (now bound) ⌝ }
     requires { ⌜ BoundFew m w c q (now bound) ⌝ }
     requires { ⌜ s ≡ acrossOf m w c (now word) ⌝ }
+    requires { ⌜ (now h ≡ replicate w 0) × (now k ≡ replicate w 0) ⌝ }
     ensures { λ _. ⌜ MendedTwoIn wideEdition m w c p q (now (bound .entry)) (now (word .entry)) (now (word .exit)) ⌝ }
     ensures { λ r. ⌜ r ≡ acrossOf m w c (now (word .exit)) ⌝ }
 {
     let g = p / w;
-    let h = way(m, w, c, p, bound);
-    let a = weights(m, w, c, g, h);
+    let a = way(m, w, c, p, bound, h);
     let i = q / w;
-    let k = way(m, w, c, q, bound);
-    let b = weights(m, w, c, i, k);
+    let b = way(m, w, c, q, bound, k);
     let u = two_unknowns(a.first, b.first, a.second, b.second, s.first, s.second);
     add_direction(m, w, g, u.first, h, word);
     add_direction(m, w, i, u.second, k, word);
-    let t = moved(s, u.first, a);
-    moved(t, u.second, b)
+    moved_two(s, u, a, b)
+}
+
+// The same for the one or two free places f.
+fn mend_free(
+    m: usize,
+    w: usize,
+    c: usize,
+    f: Free,
+    bound: &[u8],
+    word: &mut [u16],
+    s: Sums,
+    h: &mut [u16],
+    k: &mut [u16],
+) -> Sums
+    requires { ⌜ GoodIn wideLimits m w c ⌝ }
+    requires { ⌜ length (now word) ≡ m * w ⌝ }
+    requires { ⌜ OneOrTwo m w c f (now bound) ⌝ }
+    requires { ⌜ s ≡ acrossOf m w c (now word) ⌝ }
+    requires { ⌜ (now h ≡ replicate w 0) × (now k ≡ replicate w 0) ⌝ }
+    ensures { λ _. ⌜ (f .count ≡ 1 → MendedOneIn wideEdition m w c (f .first) (now (bound .entry)) (now (word .entry)) (now (word .exit))) ⌝ }
+    ensures { λ _. ⌜ (f .count ≡ 2 → MendedTwoIn wideEdition m w c (f .first) (f .second) (now (bound .entry)) (now (word .entry)) (now (word .exit))) ⌝ }
+    ensures { λ r. ⌜ r ≡ acrossOf m w c (now (word .exit)) ⌝ }
+{
+    if f.count == 1 {
+        return mend_one(m, w, c, f.first, bound, word, s, h);
+    }
+    mend_two(m, w, c, f.first, f.second, bound, word, s, h, k)
 }
 
 // Sets the first two free places, or as many as there are, so that the sums across are zero if they can be, and gives these sums back.
@@ -212,14 +291,18 @@ fn mend(m: usize, w: usize, c: usize, marks: &[u8], bound: &[u8], word: &mut [u1
     ensures { λ r. ⌜ r ≡ acrossOf m w c (now (word .exit)) ⌝ }
 {
     let f = erasures::free_places(marks, bound);
-    let s = wide_sums::across(m, w, c, word);
-    if f.count == 1 {
-        return mend_one(m, w, c, f.first, bound, word, s);
+    let s = wide_across::across(m, w, c, word);
+    if f.count == 0 {
+        return s;
     }
-    if f.count == 2 {
-        return mend_two(m, w, c, f.first, f.second, bound, word, s);
+    if w <= 16 {
+        let mut near = [0u16; 16];
+        let mut far = [0u16; 16];
+        return mend_free(m, w, c, f, bound, word, s, &mut near[..w], &mut far[..w]);
     }
-    s
+    let mut h = [0u16; 256];
+    let mut k = [0u16; 256];
+    mend_free(m, w, c, f, bound, word, s, &mut h[..w], &mut k[..w])
 }
 
 // The candidate of a good shape, and its sums across; bound comes to hold the marks of the places that the groups keep.

@@ -16,7 +16,7 @@ pub fn check(m: usize, w: usize, c: usize, word: &[u16]) -> Checked
     if r != 0 {
         return Checked::Refused(r);
     }
-    let tested = wide_sums::test(m, w, c, word);
+    let tested = wide_across::test(m, w, c, word);
     if tested.codeword {
         Checked::Codeword
     } else {

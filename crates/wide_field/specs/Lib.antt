@@ -1,5 +1,9 @@
 pub mod Sixteenfold
 pub mod SixteenfoldLaws
+pub mod CarryLess
+pub mod CarryLessLaws
+pub mod Spaced
+pub mod SpacedLaws
 pub mod Symbols
 pub mod SymbolsLaws
 pub mod Locators

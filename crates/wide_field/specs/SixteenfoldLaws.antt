@@ -1,21 +1,18 @@
 -- Laws: Sixteen times a symbol, and a product by the digits of one factor.
-use mathlib.Core.Path.{_≡_, refl, sym, ap, ap₂, _∙_, subst}
+use mathlib.Core.Path.{_≡_, sym, ap, ap₂, _∙_}
 use mathlib.Core.Bool.{Bool}
-use Prim.Native.Nat.{ℕ, suc, _+_, _*_, _/_, _%_, _^_, _<_, _≤_}
+use Prim.Native.Nat.{ℕ, _+_, _*_, _/_, _%_, _<_}
 use native.Mathlib.Nat.{mod-lt, div-add-mod', div-lt-iff-lt-mul, mod-eq-of-lt, add-mul-mod-self-right}
 use native.Mathlib.Omega.{arith}
 use lib.Dec.{T, lit<, eqb, eqb→eq}
 use Rattle.counting.specs.Test.{allBelow}
 use Rattle.counting.specs.TestLaws.{all-at}
 use Rattle.binary_field.specs.Xor.{_⊕_, masked}
-use Rattle.binary_field.specs.XorLaws.{⊕-shifted, ⊕-comm, ⊕-assoc, ⊕-zero-l}
+use Rattle.binary_field.specs.XorLaws.{⊕-comm, ⊕-assoc, ⊕-zero-l}
 use Rattle.binary_field.specs.Product.{double, product}
 use Rattle.binary_field.specs.ProductLaws.{double-low, double-lt, double-add, double-product, product-comm, product-add, product-one, product-zero}
+use Rattle.binary_field.specs.AdditiveLaws.{parts}
 use Rattle.wide_field.specs.Sixteenfold.{sixteenfold}
-
--- a number by its quotient and remainder
-parts : (n i : ℕ) → 0 < 2 ^ i → n ≡ n / 2 ^ i * 2 ^ i ⊕ n % 2 ^ i
-parts n i pos = sym (⊕-shifted (n / 2 ^ i) i (n % 2 ^ i) (mod-lt n pos) ∙ div-add-mod' n (2 ^ i))
 
 -- twice the one factor
 double-right : (a x : ℕ) → x < 65536 → product 16 69643 a (double 16 69643 x) ≡ double 16 69643 (product 16 69643 a x)

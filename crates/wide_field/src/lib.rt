@@ -1,4 +1,4 @@
-// The field of 65,536 elements: doubling, the product by shifts, and the 256 locators.
+// The field of 65,536 elements: doubling, the product by integer products and by shifts, and the 256 locators.
 ghost use mathlib.Core.Path.{_≡_};
 ghost use Prim.Native.Nat.{_%_, _<_, _≤_};
 ghost use lib.ListN.{length, getD};
@@ -7,6 +7,7 @@ ghost use Rattle.binary_field.specs.Product.{double, product};
 ghost use Rattle.binary_field.specs.Sum.{sumBelow};
 ghost use Rattle.binary_field.specs.Power.{power};
 ghost use Rattle.wide_field.specs.Sixteenfold.{sixteenfold};
+ghost use Rattle.wide_field.specs.CarryLess.{carryLess, quotient, reduced};
 ghost use Rattle.wide_field.specs.LocatorRow.{locatorRow};
 
 // What is left of 69643, if the bit that a doubling shifts out is set.
@@ -51,8 +52,9 @@ fn four_bits(r: u16, a: u16, b: u16) -> u16
     sum
 }
 
-// The product by shifts, four bits of b at a time from the highest on. The four multiples of a are the same each time, and worked out once.
-pub fn product(a: u16, b: u16) -> u16
+// The product by shifts, four bits of b at a time from the highest on: the form for loops over rows, from which the compiler makes vector code.
+// The four multiples of a are the same each time, and worked out once.
+pub fn shifted_product(a: u16, b: u16) -> u16
     ensures { λ r. ⌜ r ≡ product 16 69643 a b ⌝ }
 {
     let p = four_bits(0, a, b / 4096);
@@ -61,11 +63,55 @@ pub fn product(a: u16, b: u16) -> u16
     four_bits(sixteenfold(s), a, b)
 }
 
-// 2 to the power n, by doubling.
-pub fn power_of_two(n: usize) -> u16
-    ensures { λ r. ⌜ r ≡ power 16 69643 2 n ⌝ }
+// The carry-less product, by nine products of numbers whose binary digits stand three places apart: six digits at most meet in one place, and
+// no sum of them carries into the next place that is read.
+fn carry_less(a: u16, b: u16) -> u32
+    ensures { λ r. ⌜ r ≡ carryLess a b ⌝ }
 {
-    let mut r: u16 = 1;
+    let x = a as u32;
+    let y = b as u32;
+    let x0 = x & 37449;
+    let x1 = x & 9362;
+    let x2 = x & 18724;
+    let y0 = y & 37449;
+    let y1 = y & 9362;
+    let y2 = y & 18724;
+    let r0 = ((x0 * y0) ^ ((x1 * y2) ^ (x2 * y1))) & 1227133513;
+    let r1 = ((x0 * y1) ^ ((x1 * y0) ^ (x2 * y2))) & 2454267026;
+    let r2 = ((x0 * y2) ^ ((x1 * y1) ^ (x2 * y0))) & 613566756;
+    r0 ^ (r1 ^ r2)
+}
+
+// The quotient by 69643 of a number of at most 31 binary digits, of which h has those from 16 on.
+fn quotient(h: u32) -> u32
+    requires { ⌜ h < 65536 ⌝ }
+    ensures { λ r. ⌜ r ≡ quotient h ⌝ }
+    ensures { λ r. ⌜ r < 65536 ⌝ }
+{
+    h ^ ((h / 16) ^ ((h / 256) ^ ((h / 4096) ^ (h / 8192))))
+}
+
+// A number of at most 31 binary digits modulo the polynomial 69643.
+fn reduced(p: u32) -> u16
+    ensures { λ r. ⌜ r ≡ reduced p ⌝ }
+{
+    let q = quotient(p / 65536);
+    let r = p ^ (q ^ ((q * 2) ^ ((q * 8) ^ (q * 4096))));
+    (r % 65536) as u16
+}
+
+// The product of two symbols, by integer products.
+pub fn product(a: u16, b: u16) -> u16
+    ensures { λ r. ⌜ r ≡ product 16 69643 a b ⌝ }
+{
+    reduced(carry_less(a, b))
+}
+
+// 2 to the power n times a, by doubling.
+pub fn doubled(a: u16, n: usize) -> u16
+    ensures { λ r. ⌜ r ≡ product 16 69643 (power 16 69643 2 n) a ⌝ }
+{
+    let mut r = a;
     let mut i: usize = 0;
     while i < n {
         r = double(r);

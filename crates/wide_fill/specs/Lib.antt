@@ -1,3 +1,5 @@
 pub mod Column
 pub mod ColumnLaws
+pub mod One
+pub mod OneLaws
 pub mod SolvedLaws

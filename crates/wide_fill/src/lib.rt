@@ -8,6 +8,7 @@ ghost use Rattle.fill.specs.Placed.{placed};
 ghost use Rattle.wide_field.specs.LocatorRow.{locatorRow};
 ghost use Rattle.wide_edition.specs.Edition.{wideEdition};
 ghost use Rattle.wide_fill.specs.Column.{columnOf};
+ghost use Rattle.wide_fill.specs.One.{FilledAt};
 
 // Writes the symbol i of u at position at[i], for each i below t.
 fn place(part: &mut [u16], at: [usize; 4], u: [u16; 4], t: usize)
@@ -42,6 +43,16 @@ fn locators_of(at: [usize; 4]) -> [u16; 4]
     [a, b, c, d]
 }
 
+// Writes the sum of the other symbols at position p; what stood there does not count.
+fn fill_one(part: &mut [u16], p: usize)
+    requires { ⌜ p < length (now part) ⌝ }
+    ensures { λ _. ⌜ FilledAt p (now (part .entry)) (now (part .exit)) ⌝ }
+{
+    part[p] = 0;
+    let s = wide_field::sum(part);
+    part[p] = s;
+}
+
 // Fills the lost places, if at most four of at most 256 are lost; what stood there does not count. Else nothing changes.
 pub fn fill(part: &mut [u16], marks: &[u8])
     ensures { λ _. ⌜ FilledIn wideEdition (now (marks .entry)) (now (part .entry)) (now (part .exit)) ⌝ }
@@ -61,6 +72,11 @@ pub fn fill(part: &mut [u16], marks: &[u8])
         return;
     }
     let at = erasures.at;
+    if t == 1 {
+        let p = at[0];
+        fill_one(part, p);
+        return;
+    }
     let none = [0u16; 4];
     place(part, at, none, t);
     let sums = wide_sums::power_sums(part, t);

@@ -1,7 +1,7 @@
 // The service Recover of the sixteen-bit edition.
 use shape::Mending;
 use syndrome::Tested;
-use wide_sums::Sums;
+use wide_across::Sums;
 ghost use mathlib.Core.Path.{_≡_};
 ghost use mathlib.Core.Bool.{true, false};
 ghost use Prim.Native.Nat.{_*_, _≤_, _<_};
@@ -12,7 +12,7 @@ ghost use Rattle.shape.specs.Answers.{mendingAt, mendingNumber};
 ghost use Rattle.code.specs.Word.{isLocal};
 ghost use Rattle.code.specs.Marks.{lostIn, excess};
 ghost use Rattle.syndrome.specs.Tests.{brokenGroupIn, testedIn};
-ghost use Rattle.wide_sums.specs.Across.{acrossOf};
+ghost use Rattle.wide_across.specs.Across.{acrossOf};
 ghost use Rattle.recover.specs.Recover.{recoverRefusalIn, recoverIn};
 ghost use Rattle.recover.specs.Attempt.{FullSatisfiedIn, AttemptIn};
 

@@ -1,13 +1,11 @@
 -- Laws: The inverse of a symbol by its norm: the inverse of a is a^256 times the inverse of a^257, which is an element of the small field.
-use mathlib.Core.Path.{_≡_, refl, sym, ap, ap₂, _∙_}
+use mathlib.Core.Path.{_≡_, refl, sym, ap, _∙_}
 use mathlib.Core.Bool.{Bool, _&&_}
 use mathlib.Core.List.{List, [], _∷_}
-use Prim.Native.Nat.{ℕ, zero, suc, _+_, _*_, _/_, _%_, _^_, _≤_, _<_}
-use native.Mathlib.Nat.{zero-lt-suc, pow-suc, div-add-mod', mod-lt, mod-eq-of-lt}
+use Prim.Native.Nat.{ℕ, _+_, _/_, _%_, _^_, _≤_, _<_}
+use native.Mathlib.Nat.{mod-eq-of-lt}
 use native.Mathlib.Numerals.{add-one}
 use native.Mathlib.Decide.{ℕ-discrete}
-use native.Mathlib.Omega.{arith}
-use lib.Arith.{lt-one}
 use lib.Dec.{T, lit<, eqb, eqb→eq}
 use lib.Pow.{pow-lt}
 use lib.ListN.{length, getD, drop, drop-of-length-le}
@@ -15,38 +13,19 @@ use lib.Seq.{drop-cons}
 use Rattle.counting.specs.Test.{allBelow}
 use Rattle.counting.specs.TestLaws.{and-l, and-r, all-at}
 use Rattle.binary_field.specs.Xor.{_⊕_, masked}
-use Rattle.binary_field.specs.XorLaws.{⊕-assoc, ⊕-zero-l, ⊕-zero-r, ⊕-self, ⊕-twice, ⊕-shifted, ⊕-swap, ⊕-cancel, digit-cases}
+use Rattle.binary_field.specs.XorLaws.{⊕-assoc, ⊕-zero-l, ⊕-zero-r, ⊕-self, ⊕-swap, ⊕-cancel}
 use Rattle.binary_field.specs.Product.{double, bitSum, product}
 use Rattle.binary_field.specs.ProductLaws.{product-lt, product-comm, product-assoc, product-one, one-product, zero-product}
 use Rattle.binary_field.specs.Power.{power, squares}
 use Rattle.binary_field.specs.PowerLaws.{power-lt, power-suc, power-mul, power-squares, product-power, frobenius}
 use Rattle.binary_field.specs.Inverse.{linearMap, inverse}
+use Rattle.binary_field.specs.AdditiveLaws.{map-add, agree}
 use Rattle.binary_field.specs.InverseLaws.{inverse-lt, power-size, product-inverse, no-zero-divisors}
 use Rattle.wide_field.specs.Symbols.{halving}
 use Rattle.wide_field.specs.SymbolsLaws.{is-field}
 use Rattle.wide_solve.specs.Small.{digits, basis, IsSmall, inverseRow}
-use Rattle.wide_solve.specs.SmallLaws.{digits-add, map-add, small-inverse}
+use Rattle.wide_solve.specs.SmallLaws.{digits-add, small-inverse}
 use Rattle.wide_solve.specs.Norm.{conjugateRow}
-
--- ---- additive functions that agree at 1, 2, 4, .. agree
-abbrev Additive : (ℕ → ℕ) → Type 0
-Additive f = (a b : ℕ) → f (a ⊕ b) ≡ f a ⊕ f b
-
-halved : (f : ℕ → ℕ) → Additive f → Additive (λ a. f (a * 2))
-halved f h a b = ap f (⊕-twice a b) ∙ h (a * 2) (b * 2)
-
-by-digit : (a : ℕ) (f : ℕ → ℕ) → Additive f → f a ≡ f (a / 2 * 2) ⊕ f (a % 2)
-by-digit a f h = ap f (sym (div-add-mod' a 2) ∙ sym (⊕-shifted (a / 2) 1 (a % 2) (mod-lt a (zero-lt-suc 1)))) ∙ h (a / 2 * 2) (a % 2)
-
-agree : (n : ℕ) (f g : ℕ → ℕ) → Additive f → Additive g → f 0 ≡ g 0 → ((i : ℕ) → i < n → f (2 ^ i) ≡ g (2 ^ i)) → (a : ℕ) → a < 2 ^ n → f a ≡ g a
-agree zero f g hf hg e0 e a h = ap f (lt-one h) ∙ e0 ∙ sym (ap g (lt-one h))
-agree (suc n) f g hf hg e0 e a h =
-    by-digit a f hf
-    ∙ ap₂ _⊕_
-    (agree n (λ x. f (x * 2)) (λ x. g (x * 2)) (halved f hf) (halved g hg) e0
-    (λ i l. ap f (sym (pow-suc 2 i)) ∙ e (suc i) (omega arith) ∙ ap g (pow-suc 2 i)) (a / 2) (let q = pow-suc 2 n in omega arith))
-    (digit-cases (λ d. f d ≡ g d) e0 (e 0 (omega arith)) a)
-    ∙ sym (by-digit a g hg)
 
 -- ---- the two tests, at 1, 2, 4, ..
 -- the values of a linear map that takes a^256 + a to a less the small element of its digits
@@ -67,23 +46,14 @@ norm-rule = tt
 zero-power : power 16 69643 0 256 ≡ 0
 zero-power = power-suc 16 69643 0 255 ∙ zero-product 16 69643 (power 16 69643 0 255)
 
-map-zero : linearMap conjugateRow 0 ≡ 0
-unfolding linearMap conjugateRow masked _⊕_
-map-zero = refl
-
 section-zero : linearMap section (digits 0) ≡ 0
 unfolding linearMap section digits masked _⊕_
 section-zero = refl
-
-both-zero : linearMap section (digits (linearMap conjugateRow 0 ⊕ 0)) ≡ 0 ⊕ linearMap basis (digits 0)
-unfolding linearMap section conjugateRow basis digits masked _⊕_
-both-zero = refl
 
 pub conjugate-is : (a : ℕ) → a < 65536 → linearMap conjugateRow a ≡ power 16 69643 a 256
 unfolding conjugateRight
 conjugate-is =
     agree 16 (linearMap conjugateRow) (λ a. power 16 69643 a 256) (map-add conjugateRow) (λ a b. frobenius 16 69643 (lit< tt) a b 8)
-    (map-zero ∙ sym zero-power)
     (λ i h. eqb→eq (linearMap conjugateRow (2 ^ i)) (squares 16 69643 8 (2 ^ i)) (all-at 16 conjugateRight (and-l (allBelow 16 conjugateRight) _ norm-rule) i h)
     ∙ sym (power-squares 16 69643 (lit< tt) (2 ^ i) 8 (pow-lt h)))
 
@@ -100,7 +70,6 @@ fixed-small a h e =
     (λ x y.
     ap (λ z. (x ⊕ y) ⊕ z) (ap (linearMap basis) (digits-add x y) ∙ map-add basis (digits x) (digits y))
     ∙ ⊕-swap x y (linearMap basis (digits x)) (linearMap basis (digits y)))
-    both-zero
     (λ i l. eqb→eq (linearMap section (digits (linearMap conjugateRow (2 ^ i) ⊕ 2 ^ i))) (2 ^ i ⊕ linearMap basis (digits (2 ^ i)))
     (all-at 16 sectionRight (and-r (allBelow 16 conjugateRight) (allBelow 16 sectionRight) norm-rule) i l))
     a h in

@@ -1,7 +1,6 @@
 -- Laws: The field of 256 elements inside that of 65,536: sums of locators are in it, and the row has the inverse of each.
 use mathlib.Core.Path.{_≡_, refl, sym, ap, ap₂, _∙_}
 use mathlib.Core.Bool.{Bool}
-use mathlib.Core.List.{List, [], _∷_}
 use Prim.Native.Nat.{ℕ, zero, suc, _/_, _%_, _^_, _<_}
 use native.Mathlib.Nat.{mod-lt}
 use native.Mathlib.Omega.{arith}
@@ -10,13 +9,12 @@ use lib.ListN.{length, getD}
 use Rattle.counting.specs.Test.{allBelow}
 use Rattle.counting.specs.TestLaws.{all-at}
 use Rattle.binary_field.specs.Xor.{_⊕_, masked}
-use Rattle.binary_field.specs.XorLaws.{⊕-zero-l, ⊕-shr, ⊕-mod, ⊕-half, ⊕-swap, masked-low}
+use Rattle.binary_field.specs.XorLaws.{⊕-shr, ⊕-mod, ⊕-swap}
 use Rattle.binary_field.specs.Product.{double, bitSum, product}
 use Rattle.binary_field.specs.ProductLaws.{product-left-comm, product-one}
 use Rattle.binary_field.specs.Inverse.{linearMap}
-use Rattle.wide_field.specs.Locators.{locator}
+use Rattle.binary_field.specs.AdditiveLaws.{map-add}
 use Rattle.wide_field.specs.LocatorRow.{locatorRow}
-use Rattle.wide_field.specs.LocatorRowLaws.{row-at}
 use Rattle.wide_solve.specs.Small.{digits, basis, IsSmall, inverseRow}
 
 pub digits-add : (a b : ℕ) → digits (a ⊕ b) ≡ digits a ⊕ digits b
@@ -27,13 +25,6 @@ digits-add a b =
 pub digits-lt : (a : ℕ) → digits a < 256
 unfolding digits
 digits-lt a = mod-lt (a ⊕ a / 2 ^ 7) (lit< tt)
-
-pub map-add : (ts : List ℕ) (a b : ℕ) → linearMap ts (a ⊕ b) ≡ linearMap ts a ⊕ linearMap ts b
-unfolding linearMap
-map-add [] a b = sym (⊕-zero-l 0)
-map-add (t ∷ ts) a b =
-    ap₂ _⊕_ (masked-low a b t) (ap (linearMap ts) (⊕-half a b) ∙ map-add ts (a / 2) (b / 2))
-    ∙ ⊕-swap (masked (a % 2) t) (masked (b % 2) t) (linearMap ts (a / 2)) (linearMap ts (b / 2))
 
 -- sums stay in the small field
 pub small-add : (a b : ℕ) → IsSmall a → IsSmall b → IsSmall (a ⊕ b)

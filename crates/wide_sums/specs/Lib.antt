@@ -1,4 +1,2 @@
 pub mod PowerSums
 pub mod PowerSumsLaws
-pub mod Across
-pub mod Fold

@@ -66,7 +66,7 @@ module _ {E : Edition} (S : Sound E) (w : ℕ) (narrow : w ≤ E .small) (c : �
   power-fixed j e l =
       power-swap (E .bits) (E .poly) (S .facts .pos) (E .locator j) e (E .small) ∙ ap (λ a. raised E a e) (S .locator-fixed j (omega arith))
 
-  second-coefficient-at : (j : ℕ) → j < w → raised E (coefficient E c j) (E .small)
+  pub second-coefficient-at : (j : ℕ) → j < w → raised E (coefficient E c j) (E .small)
       ≡ raised E (E .locator j) c ⊕ times E (raised E 2 (E .small)) (raised E (E .locator j) (suc c))
   unfolding coefficient
   second-coefficient-at j l =
@@ -93,7 +93,7 @@ all-same zero f g h = refl
 all-same (suc n) f g h = ap₂ _&&_ (h n (omega arith)) (all-same n f g (λ i l. h i (omega arith)))
 
 -- ---- from the power sums of a stretch of the sixteen-bit edition
-two-small : power 16 69643 2 256 ≡ 2863
+pub two-small : power 16 69643 2 256 ≡ 2863
 unfolding power product bitSum double masked _⊕_
 two-small = refl
 

@@ -2,30 +2,24 @@ use mathlib.Core.Path.{_∙_}
 use mathlib.Core.List.{List}
 use Prim.Native.Nat.{ℕ}
 use native.Mathlib.Omega.{arith}
-use lib.ListN.{take, length-take, length-drop}
-use borrow.Author.Needs.{needs}
+use lib.ListN.{length-take, length-drop}
 use Rattle.code.specs.LentLaws.{stretch-lent, with-lent}
 use Rattle.candidate.proofs.Laws.{stretch-end, added-combined}
+use borrow.Author.Needs.{needs}
 use Rattle.wide_candidate.proofs.add_direction.Statement.{statement}
 use Rattle.wide_candidate.proofs.add_direction.Tie as tie
 
 mul-a : tie.Need-mul-a
 mul-a c =
-    let a = c .before .args in
+    let a = c .before .before .args in
     let e = stretch-end (a .m) (a .w) (a .g) (omega arith) in
     omega arith
 
 add-e : tie.Need-add-e
 add-e c =
-    let a = c .before .args in
+    let a = c .before .before .args in
     let e = stretch-end (a .m) (a .w) (a .g) (omega arith) in
     omega arith
-
-array-share-prefix-h : tie.Need-array-share-prefix-h
-array-share-prefix-h c = search needs
-
-slice-aggregate-add-multiple : tie.Need-slice-aggregate-add-multiple
-slice-aggregate-add-multiple c = simp length-take (omega arith)
 
 mul-add-multiple : tie.Need-mul-add-multiple
 mul-add-multiple c =
@@ -57,13 +51,12 @@ same-length c = search needs
 returns : tie.Need-returns
 returns c =
     let f = c .before .before in
-    let s = f .before .before .before .before in
+    let s = c .before .before .before .before .before .before in
     let a = s .args in
     let x : List ℕ = a .word .now in
     let part : List ℕ = f .add-multiple .last .1 .1 .0 in
-    let n = length-take (a .w) (a .t5) in
     with-lent (a .w) (a .g) x part
-    ∙ added-combined (a .m) (a .w) (a .g) (a .u) (take (a .w) (a .t5)) x part (omega arith) (omega arith) (omega arith)
+    ∙ added-combined (a .m) (a .w) (a .g) (a .u) (a .h .now) x part (omega arith) (omega arith) (omega arith)
     (rw (stretch-lent (a .w) (a .g) x) at (f .add-multiple .ensures))
 
 pub add-direction-spec : {M : Type 1} → statement M
@@ -72,8 +65,6 @@ add-direction-spec =
     (tie.spec
     mul-a
     add-e
-    array-share-prefix-h
-    slice-aggregate-add-multiple
     mul-add-multiple
     sub-add-multiple
     part-add-multiple-start

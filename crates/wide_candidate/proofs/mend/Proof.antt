@@ -1,10 +1,46 @@
-use mathlib.Core.Path.{_≡_, refl}
+use mathlib.Core.Path.{_≡_, refl, subst}
+use mathlib.Core.List.{List}
+use Prim.Native.Nat.{ℕ, zero, suc, _*_, _≤_, _<_}
 use native.Mathlib.Omega.{arith}
-use borrow.Author.Needs.{needs}
-use Rattle.candidate.specs.Mended.{MendedIn}
+use lib.ListN.{length, take, replicate, length-take, length-replicate}
+use Rattle.shape.specs.Shapes.{GoodIn}
+use Rattle.erasures.specs.declared.Free.{Free}
+use Rattle.erasures.specs.Whole.{BoundAll}
+use Rattle.erasures.specs.Places.{FreePlaces, freeAt}
+use Rattle.candidate.specs.Mended.{MendedOneIn, MendedTwoIn, MendedIn}
 use Rattle.candidate.proofs.Laws.{few-at}
+use Rattle.wide_edition.specs.Edition.{wideLimits, wideEdition}
+use Rattle.wide_across.specs.declared.Sums.{Sums}
+use Rattle.wide_across.specs.Across.{acrossOf}
+use Rattle.wide_candidate.specs.Free.{OneOrTwo}
+use Rattle.wide_across.proofs.Laws.{zeros}
+use borrow.Author.Needs.{needs}
 use Rattle.wide_candidate.proofs.mend.Statement.{statement}
 use Rattle.wide_candidate.proofs.mend.Tie as tie
+
+-- what is asked with the free places f and two rows of n zeros
+asked : (m w c n : ℕ) (f : Free) {s : Sums} (word : List ℕ) {marks bound : List ℕ} → GoodIn wideLimits m w c → length word ≡ m * w
+    → length marks ≡ m * w → BoundAll m w c marks bound → FreePlaces marks bound (f .count) (f .first) (f .second) → 0 < f .count
+    → s ≡ acrossOf m w c word → w ≤ n
+    → GoodIn wideLimits m w c × ((length word ≡ m * w) × (OneOrTwo m w c f bound × ((s ≡ acrossOf m w c word)
+    × ((take {A = ℕ} w (replicate n 0) ≡ replicate w 0) × (take {A = ℕ} w (replicate n 0) ≡ replicate w 0)))))
+asked m w c n f word {bound = bound} good size long K P some e l = (good, (size, (free, (e, (zeros w n l, zeros w n l)))))
+  where
+    free : OneOrTwo m w c f bound
+    free = record {
+      some = some;
+      most = P .most;
+      less = λ i h. subst (λ k. freeAt (f .first) (f .second) i < k) long (P .less i h);
+      few = few-at K P long;
+    }
+
+mended : {m w c : ℕ} {marks bound before after : List ℕ} {x p q : ℕ} → FreePlaces marks bound x p q → 0 < x
+    → (x ≡ 1 → MendedOneIn wideEdition m w c p bound before after) → (x ≡ 2 → MendedTwoIn wideEdition m w c p q bound before after)
+    → MendedIn wideEdition m w c marks bound before after
+mended {x = zero} P some one two = absurd (omega arith)
+mended {x = suc zero} P some one two = MendedIn.one P (one refl)
+mended {x = suc (suc zero)} P some one two = MendedIn.two P (two refl)
+mended {x = suc (suc (suc x))} P some one two = let k = P .most in absurd (omega arith)
 
 free-places-requires : tie.Need-free-places-requires
 free-places-requires c κs = search needs
@@ -12,69 +48,79 @@ free-places-requires c κs = search needs
 across-requires : tie.Need-across-requires
 across-requires c κs = search needs
 
-mend-one-requires : tie.Need-mend-one-requires
-mend-one-requires c κs =
-    let x = c .before .before .before in
-    let f = x .before .before in
-    let s = f .before .before .before .before in
-    let P = f .free-places .ensures .0 in
-    let l = P .less 0 (omega arith) in (
-      s .pre .0,
-      (s .pre .1 .0, (omega arith, (few-at (s .pre .1 .1 .1) P (s .pre .1 .1 .0) 0 (omega arith), x .across .ensures .0 (s .pre .0) (s .pre .1 .0)))),
-    )
-
 same-length : tie.Need-same-length
 same-length c = search needs
 
 returns : tie.Need-returns
 returns c =
-    let g = c .before .before in
-    let t = g .before .before in
-    (MendedIn.one (rw (t .if1 .taken) at (t .before .before .before .before .free-places .ensures .0)) (g .mend-one .ensures .0), g .mend-one .ensures .1)
-
-mend-two-requires : tie.Need-mend-two-requires
-mend-two-requires c κs =
-    let x = c .before .before .before .before .before in
+    let x = c .before .before in
     let f = x .before .before in
     let s = f .before .before .before .before in
-    let P = f .free-places .ensures .0 in
-    let l = P .less 0 (omega arith) in
-    let k = P .less 1 (omega arith) in (
-      s .pre .0,
-      (
-        s .pre .1 .0,
-        (
-          (omega arith, omega arith),
-          (
-            few-at (s .pre .1 .1 .1) P (s .pre .1 .1 .0) 0 (omega arith),
-            (few-at (s .pre .1 .1 .1) P (s .pre .1 .1 .0) 1 (omega arith), x .across .ensures .0 (s .pre .0) (s .pre .1 .0)),
-          ),
-        ),
-      ),
-    )
+    (MendedIn.none (rw (c .if1 .taken) at (f .free-places .ensures .0)) refl, x .across .ensures .0 (s .pre .0) (s .pre .1 .0))
+
+array-borrow-prefix-near : tie.Need-array-borrow-prefix-near
+array-borrow-prefix-near c = search needs
+
+slice-aggregate-mend-free : tie.Need-slice-aggregate-mend-free
+slice-aggregate-mend-free c = simp (length-take, length-replicate) (omega arith)
+
+array-borrow-prefix-far : tie.Need-array-borrow-prefix-far
+array-borrow-prefix-far c = search needs
+
+slice-aggregate-mend-free-2 : tie.Need-slice-aggregate-mend-free-2
+slice-aggregate-mend-free-2 c = simp (length-take, length-replicate) (omega arith)
+
+mend-free-requires : tie.Need-mend-free-requires
+mend-free-requires c κs =
+    let x = c .before .before .before .before .before .before in
+    let f = x .before .before in
+    let s = f .before .before .before .before in
+    let a = s .args in
+    asked (a .m) (a .w) (a .c) 16 (f .free-places .result) (a .word .now) (s .pre .0) (s .pre .1 .0) (s .pre .1 .1 .0) (s .pre .1 .1 .1)
+    (f .free-places .ensures .0) (omega arith) (x .across .ensures .0 (s .pre .0) (s .pre .1 .0)) (omega arith)
 
 same-length-2 : tie.Need-same-length-2
 same-length-2 c = search needs
 
 returns-2 : tie.Need-returns-2
 returns-2 c =
-    let g = c .before .before in
-    let t = g .before .before in (
-      MendedIn.two (rw (t .if2 .taken) at (t .before .before .before .before .before .before .free-places .ensures .0)) (g .mend-two .ensures .0),
-      g .mend-two .ensures .1,
-    )
+    let g = c .before .before .before .before in
+    let f = g .before .before .before .before .before .before .before .before .before in
+    (mended (f .free-places .ensures .0) (omega arith) (g .mend-free .ensures .0) (g .mend-free .ensures .1 .0), g .mend-free .ensures .1 .1)
+
+array-borrow-prefix-h : tie.Need-array-borrow-prefix-h
+array-borrow-prefix-h c = search needs
+
+slice-aggregate-mend-free-3 : tie.Need-slice-aggregate-mend-free-3
+slice-aggregate-mend-free-3 c =
+    let s = c .before .before .before .before .before .before .before .before .before .before .before in
+    simp (length-take, length-replicate) (omega (arith, s .pre .0 .narrow))
+
+array-borrow-prefix-k : tie.Need-array-borrow-prefix-k
+array-borrow-prefix-k c = search needs
+
+slice-aggregate-mend-free-4 : tie.Need-slice-aggregate-mend-free-4
+slice-aggregate-mend-free-4 c =
+    let s = c .before .before .before .before .before .before .before .before .before .before .before .before in
+    simp (length-take, length-replicate) (omega (arith, s .pre .0 .narrow))
+
+mend-free-requires-2 : tie.Need-mend-free-requires-2
+mend-free-requires-2 c κs =
+    let x = c .before .before .before .before .before .before in
+    let f = x .before .before in
+    let s = f .before .before .before .before in
+    let a = s .args in
+    asked (a .m) (a .w) (a .c) 256 (f .free-places .result) (a .word .now) (s .pre .0) (s .pre .1 .0) (s .pre .1 .1 .0) (s .pre .1 .1 .1)
+    (f .free-places .ensures .0) (omega arith) (x .across .ensures .0 (s .pre .0) (s .pre .1 .0)) (s .pre .0 .narrow)
 
 same-length-3 : tie.Need-same-length-3
 same-length-3 c = search needs
 
 returns-3 : tie.Need-returns-3
 returns-3 c =
-    let x = c .before .before .before .before in
-    let f = x .before .before in
-    let s = f .before .before .before .before in
-    let k = f .free-places .ensures .0 .most in
-    let e : f .free-places .result .count ≡ 0 = omega arith in
-    (MendedIn.none (rw e at (f .free-places .ensures .0)) refl, x .across .ensures .0 (s .pre .0) (s .pre .1 .0))
+    let g = c .before .before .before .before in
+    let f = g .before .before .before .before .before .before .before .before .before in
+    (mended (f .free-places .ensures .0) (omega arith) (g .mend-free2 .ensures .0) (g .mend-free2 .ensures .1 .0), g .mend-free2 .ensures .1 .1)
 
 pub mend-spec : {M : Type 1} → statement M
 mend-spec =
@@ -82,11 +128,19 @@ mend-spec =
     (tie.spec
     free-places-requires
     across-requires
-    mend-one-requires
     same-length
     returns
-    mend-two-requires
+    array-borrow-prefix-near
+    slice-aggregate-mend-free
+    array-borrow-prefix-far
+    slice-aggregate-mend-free-2
+    mend-free-requires
     same-length-2
     returns-2
+    array-borrow-prefix-h
+    slice-aggregate-mend-free-3
+    array-borrow-prefix-k
+    slice-aggregate-mend-free-4
+    mend-free-requires-2
     same-length-3
     returns-3)

@@ -1,67 +1,95 @@
-use mathlib.Core.Path.{_≡_}
+use mathlib.Core.Path.{_≡_, refl, sym, ap, ap₂, _∙_}
+use mathlib.Core.Bool.{not, true≢false}
+use mathlib.Core.List.{List}
+use Prim.Native.Nat.{ℕ, _<_}
+use lib.Dec.{lit<}
+use lib.Bits.{bitXor}
+use lib.ListN.{length, getD}
+use borrow.Author.Tests.{eq-eqb}
 use Rattle.binary_field.specs.Xor.{_⊕_}
+use Rattle.binary_field.specs.XorLaws.{⊕-bits}
+use Rattle.binary_field.specs.Product.{product}
+use Rattle.binary_field.specs.Inverse.{inverse}
+use Rattle.code.specs.Edition.{times}
+use Rattle.wide_edition.specs.Edition.{wideEdition}
+use Rattle.wide_sums.specs.PowerSums.{EachTimes}
 use Rattle.wide_edition.specs.EditionLaws.{wide-sound}
-use Rattle.wide_candidate.specs.TwoLaws.{two-by-determinant}
+use Rattle.wide_candidate.specs.TwoLaws.{two-met, two-by-determinant}
 use borrow.Author.Needs.{needs}
 use Rattle.wide_candidate.proofs.two_unknowns.Statement.{statement}
 use Rattle.wide_candidate.proofs.two_unknowns.Tie as tie
-use Rattle.wide_candidate.proofs.two_unknowns.Reads as reads
-use Rattle.wide_candidate.proofs.two_unknowns.Lts as lts
-use Rattle.wide_field.proofs.product.Reads as product-reads
-use Rattle.wide_solve.proofs.inverse.Reads as inverse-reads
 
-product-requires : tie.Need-product-requires
-product-requires c κs = search needs
+slice-aggregate-multiply : tie.Need-slice-aggregate-multiply
+slice-aggregate-multiply c = search needs
 
-product-requires-2 : tie.Need-product-requires-2
-product-requires-2 c κs = search needs
+slice-aggregate-multiply-2 : tie.Need-slice-aggregate-multiply-2
+slice-aggregate-multiply-2 c = search needs
+
+multiply-requires : tie.Need-multiply-requires
+multiply-requires c κs = search needs
+
+array-read-d : tie.Need-array-read-d
+array-read-d c = search needs
+
+array-read-d-2 : tie.Need-array-read-d-2
+array-read-d-2 c = search needs
 
 inverse-requires : tie.Need-inverse-requires
 inverse-requires c κs = search needs
 
-product-requires-3 : tie.Need-product-requires-3
-product-requires-3 c κs = search needs
+array-read-product : tie.Need-array-read-product
+array-read-product c = search needs
 
-product-requires-4 : tie.Need-product-requires-4
-product-requires-4 c κs = search needs
+array-read-product-2 : tie.Need-array-read-product-2
+array-read-product-2 c = search needs
 
-product-requires-5 : tie.Need-product-requires-5
-product-requires-5 c κs = search needs
+product-requires : tie.Need-product-requires
+product-requires c κs = search needs
 
-product-requires-6 : tie.Need-product-requires-6
-product-requires-6 c κs = search needs
+array-read-product-3 : tie.Need-array-read-product-3
+array-read-product-3 c = search needs
 
-product-requires-7 : tie.Need-product-requires-7
-product-requires-7 c κs = search needs
+array-read-product-4 : tie.Need-array-read-product-4
+array-read-product-4 c = search needs
 
-product-requires-8 : tie.Need-product-requires-8
-product-requires-8 c κs = search needs
+product-requires-2 : tie.Need-product-requires-2
+product-requires-2 c κs = search needs
+
+-- the sum of two of the products
+sum-of : {x y z : List ℕ} → EachTimes x y z → (i j : ℕ) → i < length x → j < length x
+    → bitXor (getD z i 0) (getD z j 0) ≡ times wideEdition (getD x i 0) (getD y i 0) ⊕ times wideEdition (getD x j 0) (getD y j 0)
+sum-of T i j k l = ⊕-bits _ _ ∙ ap₂ _⊕_ (T .each i k) (T .each j l)
 
 returns : tie.Need-returns
-unfolding _⊕_
 returns c =
-    let p7 = c .before in
-    let p6 = p7 .before in
-    let p5 = p6 .before in
-    let p4 = p5 .before in
-    let p3 = p4 .before in
-    let i = p3 .before in
-    let p2 = i .before in
-    let p1 = p2 .before in
-    let f = p1 .before .fits in
-    two-by-determinant wide-sound (f .a1 .fits) (f .a2 .fits) (f .b1 .fits) (f .b2 .fits) (f .s .fits) (f .t .fits) (i .inverse .result) (cc) (cc) (cc)
+    let p = c .before in
+    let i = p .before in
+    let m = i .before .before in
+    let s = m .before .before .before in
+    let f = s .fits in
+    let T = m .multiply .ensures .0 refl in
+    let d = sum-of T 0 1 (lit< tt) (lit< tt) in
+    let hi = i .inverse .ensures ∙ ap (inverse 16 69643) d in
+    let hu = p .product .ensures ∙ ap (product 16 69643 (i .inverse .result)) (sum-of T 2 3 (lit< tt) (lit< tt)) in
+    let hv = c .product2 .ensures ∙ ap (product 16 69643 (i .inverse .result)) (sum-of T 4 5 (lit< tt) (lit< tt)) in (
+      two-by-determinant wide-sound (f .s .fits) (f .t .fits) (i .inverse .result) hi hu hv (f .a1 .fits) (f .a2 .fits) (f .b1 .fits) (f .b2 .fits),
+      λ e. two-met wide-sound (f .s .fits) (f .t .fits) (i .inverse .result) hi hu hv (λ z. true≢false (sym e ∙ ap not (eq-eqb _ 0 (d ∙ z)))),
+    )
 
 pub two-unknowns-spec : {M : Type 1} → statement M
 two-unknowns-spec =
     tie.close
     (tie.spec
-    product-requires
-    product-requires-2
+    slice-aggregate-multiply
+    slice-aggregate-multiply-2
+    multiply-requires
+    array-read-d
+    array-read-d-2
     inverse-requires
-    product-requires-3
-    product-requires-4
-    product-requires-5
-    product-requires-6
-    product-requires-7
-    product-requires-8
+    array-read-product
+    array-read-product-2
+    product-requires
+    array-read-product-3
+    array-read-product-4
+    product-requires-2
     returns)

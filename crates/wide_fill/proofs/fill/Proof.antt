@@ -1,5 +1,4 @@
 use mathlib.Core.Path.{_≡_, refl, _∙_}
-use mathlib.Core.List.{[], _∷_}
 use Prim.Native.Nat.{ℕ, zero, suc, _≤_, _<_}
 use native.Mathlib.Omega.{arith}
 use lib.ListN.{length, getD, replicate}
@@ -7,6 +6,7 @@ use Rattle.wide_edition.specs.Edition.{wideEdition}
 use Rattle.fill.proofs.Laws.{unchanged, filled-by}
 use Rattle.wide_fill.specs.Column.{columnOf}
 use Rattle.wide_fill.specs.ColumnLaws.{column-at, filled-none}
+use Rattle.wide_fill.specs.OneLaws.{filled-one}
 use Rattle.wide_fill.specs.SolvedLaws.{locators-differ, solved-by}
 use borrow.Author.Needs.{needs}
 use Rattle.wide_fill.proofs.fill.Statement.{statement}
@@ -41,9 +41,29 @@ returns-3 c = let f = c .before .find in unchanged wideEdition _ _ (f .result .c
 returns-4 : tie.Need-returns-4
 returns-4 c = let f = c .before .before .find in filled-none wideEdition _ _ (f .result .count) (f .ensures .all) (c .if4 .taken)
 
+array-read-p : tie.Need-array-read-p
+array-read-p c = search needs
+
+fill-one-requires : tie.Need-fill-one-requires
+fill-one-requires c κs =
+    let f = c .before .before .before .before .before in
+    let b = f .find .ensures .few (omega arith) .inside 0 (omega arith) in
+    omega arith
+
+same-length : tie.Need-same-length
+same-length c = search needs
+
+returns-5 : tie.Need-returns-5
+returns-5 c =
+    let d = c .before .before in
+    let t = d .before .before in
+    let f = t .before .before .before .before in
+    filled-one (f .find .result .count) (t .if5 .taken) (f .find .ensures .all) (f .find .ensures .few (omega arith)) (omega arith) (omega arith)
+    (λ j. c .slice-known2 .given j .fits) (d .fill-one .ensures)
+
 place-requires : tie.Need-place-requires
 place-requires c κs =
-    (omega arith, λ i l. let b = c .before .before .before .before .find .ensures .few (omega arith) .inside i (omega arith) in omega arith)
+    (omega arith, λ i l. let b = c .before .before .before .before .before .find .ensures .few (omega arith) .inside i (omega arith) in omega arith)
 
 power-sums-requires : tie.Need-power-sums-requires
 power-sums-requires c κs = search needs
@@ -56,23 +76,23 @@ symbols-requires c κs = search needs
 
 place-requires-2 : tie.Need-place-requires-2
 place-requires-2 c κs =
-    let f = c .before .before .before .before .before .before .before .before .before .before .before .before in
+    let f = c .before .before .before .before .before .before .before .before .before .before .before .before .before in
     (omega arith, λ i l. let b = f .find .ensures .few (omega arith) .inside i (omega arith) in omega arith)
 
-same-length : tie.Need-same-length
-same-length c = search needs
+same-length-2 : tie.Need-same-length-2
+same-length-2 c = search needs
 
-returns-5 : tie.Need-returns-5
-returns-5 c =
+returns-6 : tie.Need-returns-6
+returns-6 c =
     let p = c .before .before in
     let y = p .before .before in
     let x = y .before in
     let q = x .before in
     let z = q .before .before .before .before in
-    let f = z .before .before .before .before .before in
+    let f = z .before .before .before .before .before .before in
     let a = f .before .before .before .before .before .args in
     let t : ℕ = f .find .result .count in
-    let few : t ≤ 4 = z .before .before .before .before .if3 .left in
+    let few : t ≤ 4 = z .before .before .before .before .before .if3 .left in
     let w : length (a .marks .now) ≡ length (a .part .now) = omega arith in
     let P = rw w at (f .find .ensures .few few) in
     let inside : (i : ℕ) → i < t → getD (f .find .result .at) i 0 < 256 = λ i l. let b = P .inside i l in omega arith in
@@ -93,10 +113,14 @@ fill-spec =
     find-requires
     returns-3
     returns-4
+    array-read-p
+    fill-one-requires
+    same-length
+    returns-5
     place-requires
     power-sums-requires
     locators-of-requires
     symbols-requires
     place-requires-2
-    same-length
-    returns-5)
+    same-length-2
+    returns-6)

@@ -38,9 +38,7 @@ loop-holds c =
     )
 
 multiply-requires : tie.Need-multiply-requires Inv-loop μ-loop
-multiply-requires c κs =
-    let s = c .before .before in
-    s .before .before .before .before .before .pre .0 ∙ sym (s .loop .inv .2 .size)
+multiply-requires c κs = search needs
 
 sum-requires-2 : tie.Need-sum-requires-2 Inv-loop μ-loop
 sum-requires-2 c κs = search needs
@@ -65,7 +63,8 @@ loop-again c =
     let e : ℕ = s .loop .e in
     let y : List ℕ = c .before .before .before .before .multiply .last .0 in
     let q : suc (e - 1) ≡ e = omega arith in
-    let R : Raised e x y = subst (λ n. Raised n x y) q (raised-next (s .loop .inv .2) (a .pre .1 .0) (c .before .before .before .before .multiply .ensures)) in
+    let R : Raised e x y = subst (λ n. Raised n x y) q (raised-next (s .loop .inv .2) (a .pre .1 .0)
+    (c .before .before .before .before .multiply .ensures .0 (a .pre .0 ∙ sym (s .loop .inv .2 .size)))) in
     let z : e + 1 - 1 ≡ e = omega arith in (
       omega arith,
       simp length-set (s .loop .inv .1),

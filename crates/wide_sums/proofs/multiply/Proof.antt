@@ -13,29 +13,32 @@ use Rattle.wide_sums.proofs.multiply.Tie as tie
 
 abbrev Inv-loop : tie.InvT-loop
 Inv-loop x₀ row i₀ x i =
-    (i ≤ length x₀) × (length x ≡ length x₀) × ((k : ℕ) → k < i → getD x k 0 ≡ times wideEdition (getD x₀ k 0) (getD row k 0))
+    (length row ≡ length x₀) × (i ≤ length x₀) × (length x ≡ length x₀) × ((k : ℕ) → k < i → getD x k 0 ≡ times wideEdition (getD x₀ k 0) (getD row k 0))
     × ((k : ℕ) → i ≤ k → getD x k 0 ≡ getD x₀ k 0)
 
 abbrev μ-loop : tie.MeasureT-loop
 μ-loop x₀ row i₀ x i = length x₀ - i
 
+returns : tie.Need-returns Inv-loop μ-loop
+returns c = (λ e. absurd (c .if1 .taken e), (refl, λ _. refl))
+
 loop-holds : tie.Need-loop-holds Inv-loop μ-loop
-loop-holds c = (omega arith, refl, λ k l. absurd (omega arith), λ k l. refl)
+loop-holds c = (omega arith, omega arith, refl, λ k l. absurd (omega arith), λ k l. refl)
 
-mul-product : tie.Need-mul-product Inv-loop μ-loop
-mul-product c = omega arith
+mul-shifted-product : tie.Need-mul-shifted-product Inv-loop μ-loop
+mul-shifted-product c = omega arith
 
-slice-read-product : tie.Need-slice-read-product Inv-loop μ-loop
-slice-read-product c = omega arith
+slice-read-shifted-product : tie.Need-slice-read-shifted-product Inv-loop μ-loop
+slice-read-shifted-product c = omega arith
 
-mul-product-2 : tie.Need-mul-product-2 Inv-loop μ-loop
-mul-product-2 c = omega arith
+mul-shifted-product-2 : tie.Need-mul-shifted-product-2 Inv-loop μ-loop
+mul-shifted-product-2 c = omega arith
 
-shared-slice-read-product : tie.Need-shared-slice-read-product Inv-loop μ-loop
-shared-slice-read-product c = omega arith
+shared-slice-read-shifted-product : tie.Need-shared-slice-read-shifted-product Inv-loop μ-loop
+shared-slice-read-shifted-product c = omega arith
 
-product-requires : tie.Need-product-requires Inv-loop μ-loop
-product-requires c κs = search needs
+shifted-product-requires : tie.Need-shifted-product-requires Inv-loop μ-loop
+shifted-product-requires c κs = search needs
 
 mul-x : tie.Need-mul-x Inv-loop μ-loop
 mul-x c = omega arith
@@ -52,22 +55,25 @@ loop-less c = omega arith
 loop-again : tie.Need-loop-again Inv-loop μ-loop
 loop-again c =
     let s = c .before .before .before .before in
-    let a = s .before .before .before .args in
+    let a = s .before .before .before .before .args in
     let i : ℕ = s .loop .i in
     let x : List ℕ = s .loop .x in
     let x₀ : List ℕ = a .x .now in (
+      s .loop .inv .0,
       omega arith,
       simp length-set (omega arith),
       passed-set (λ k. times wideEdition (getD x₀ k 0) (getD (a .row .now) k 0)) x i _ (omega arith)
-          (c .product .ensures ∙ ap (λ v. times wideEdition v (getD (a .row .now) i 0)) (s .loop .inv .3 i (omega arith))) (s .loop .inv .2),
-      rest-set (λ k. getD x₀ k 0) x i _ 0 (s .loop .inv .3),
+          (c .shifted-product .ensures ∙ ap (λ v. times wideEdition v (getD (a .row .now) i 0)) (s .loop .inv .4 i (omega arith))) (s .loop .inv .3),
+      rest-set (λ k. getD x₀ k 0) x i _ 0 (s .loop .inv .4),
     )
 
 same-length : tie.Need-same-length Inv-loop μ-loop
 same-length c = omega arith
 
-returns : tie.Need-returns Inv-loop μ-loop
-returns c = let s = c .before in record { size = s .loop .inv .1; each = λ k l. s .loop .inv .2 k (omega arith) }
+returns-2 : tie.Need-returns-2 Inv-loop μ-loop
+returns-2 c =
+    let s = c .before in
+    (λ _. record { size = s .loop .inv .2; each = λ k l. s .loop .inv .3 k (omega arith) }, (s .loop .inv .2, λ n. absurd (n (s .loop .inv .0))))
 
 pub multiply-spec : {M : Type 1} → statement M
 multiply-spec =
@@ -75,16 +81,17 @@ multiply-spec =
     (tie.spec
     Inv-loop
     μ-loop
+    returns
     loop-holds
-    mul-product
-    slice-read-product
-    mul-product-2
-    shared-slice-read-product
-    product-requires
+    mul-shifted-product
+    slice-read-shifted-product
+    mul-shifted-product-2
+    shared-slice-read-shifted-product
+    shifted-product-requires
     mul-x
     slice-write-x
     add-i
     loop-less
     loop-again
     same-length
-    returns)
+    returns-2)

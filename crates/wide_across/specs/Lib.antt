@@ -1,0 +1,4 @@
+pub mod Across
+pub mod Fold
+pub mod Pairs
+pub mod PairsLaws
