@@ -2,7 +2,7 @@
 use shape::Answer;
 ghost use mathlib.Core.Path.{_≡_};
 ghost use mathlib.Core.List.{_++_};
-ghost use Prim.Native.Nat.{_-_, _≤_, _<_};
+ghost use Prim.Native.Nat.{_-_, _≤_};
 ghost use lib.ListN.{length, replicate};
 ghost use Rattle.shape.specs.Shapes.{Good, placeCount, dataCount, bufferRefusal};
 ghost use Rattle.shape.specs.Answers.{answerNumber};
@@ -100,24 +100,13 @@ pub fn place(m: usize, w: usize, c: usize, bytes: &[u8], word: &mut [u8])
     spread_data(m, w, c, bytes, word);
 }
 
-// The mark of place i of a part whose places are marked from d on.
-fn mark_from(d: usize, i: usize) -> u8
-    ensures { λ r. ⌜ (i < d → r ≡ 0) ⌝ }
-    ensures { λ r. ⌜ (d ≤ i → r ≡ 1) ⌝ }
-{
-    if i < d { 0 } else { 1 }
-}
-
-// Marks the places of a part from d on, and clears the other marks.
+// Marks the places of a part from d on.
 fn mark_part(d: usize, part: &mut [u8])
     requires { ⌜ d ≤ length (now part) ⌝ }
     ensures { λ _. ⌜ now (part .exit) ≡ replicate d 0 ++ replicate (length (now (part .entry)) - d) 1 ⌝ }
 {
-    let mut i: usize = 0;
-    while i < part.len() {
-        part[i] = mark_from(d, i);
-        i += 1;
-    }
+    buffers::set_all(&mut part[..d], 0);
+    buffers::set_all(&mut part[d..], 1);
 }
 
 // Marks the check places of every group of w places, and clears its other marks. Groups that are whole count: places after them stay as they are,
