@@ -73,7 +73,8 @@ fixed-small a h e =
     (λ i l. eqb→eq (linearMap section (digits (linearMap conjugateRow (2 ^ i) ⊕ 2 ^ i))) (2 ^ i ⊕ linearMap basis (digits (2 ^ i)))
     (all-at 16 sectionRight (and-r (allBelow 16 conjugateRight) (allBelow 16 sectionRight) norm-rule) i l))
     a h in
-    sym (⊕-cancel (sym own ∙ ap (λ z. linearMap section (digits (z ⊕ a))) (conjugate-is a h ∙ e) ∙ ap (λ z. linearMap section (digits z)) (⊕-self a) ∙ section-zero))
+    sym (⊕-cancel (sym own ∙ ap (λ z. linearMap section (digits (z ⊕ a))) (conjugate-is a h ∙ e)
+    ∙ ap (λ z. linearMap section (digits z)) (⊕-self a) ∙ section-zero))
 
 -- ---- the inverse
 inverse-zero : inverse 16 69643 0 ≡ 0

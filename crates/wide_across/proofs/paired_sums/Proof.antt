@@ -27,13 +27,14 @@ same-size c w all z ha hz h l k =
 -- what has been multiplied
 multiplied : (t : tie.After-multiply) → let s = t .before .before .before .before .before .before .before .before in
     EachTimes (take ((length (s .args .x .now) + 3) / 4 * 8) (t .before .before .before .before .pairs .result))
-    (take ((s .args .c - 1) * 32 + (length (s .args .x .now) + 3) / 4 * 8 - (s .args .c - 1) * 32) (drop ((s .args .c - 1) * 32) (t .before .before .before .before .before .coefficients .result)))
+    (take ((s .args .c - 1) * 32 + (length (s .args .x .now) + 3) / 4 * 8 - (s .args .c - 1) * 32)
+    (drop ((s .args .c - 1) * 32) (t .before .before .before .before .before .coefficients .result)))
     (t .multiply .last .0)
 multiplied t =
     let p = t .before .before .before .before in
     let s = p .before .before .before .before in
-    t .multiply .ensures .0 (same-size (s .args .c) (length (s .args .x .now)) (p .before .coefficients .result) (p .pairs .result) (p .before .coefficients .ensures .size)
-    (p .pairs .ensures .size) (s .pre .0 .0) (s .pre .0 .1) (s .pre .1 .0))
+    t .multiply .ensures .0 (same-size (s .args .c) (length (s .args .x .now)) (p .before .coefficients .result) (p .pairs .result)
+    (p .before .coefficients .ensures .size) (p .pairs .ensures .size) (s .pre .0 .0) (s .pre .0 .1) (s .pre .1 .0))
 
 -- the pairs stay 32 numbers
 whole : (t : tie.After-multiply) → let s = t .before .before .before .before .before .before .before .before in
@@ -69,7 +70,8 @@ slice-aggregate-multiply : tie.Need-slice-aggregate-multiply
 slice-aggregate-multiply c =
     let a = c .before .before .before .before .before in
     let n : ℕ = (length (a .args .x .now) + 3) / 4 * 8 in
-    sym (length-take-le n (c .before .pairs .result) (subst (λ k. n ≤ k) (sym (c .before .pairs .ensures .size)) (room (length (a .args .x .now)) (a .pre .1 .0) .1)))
+    sym (length-take-le n (c .before .pairs .result) (subst (λ k. n ≤ k) (sym (c .before .pairs .ensures .size))
+    (room (length (a .args .x .now)) (a .pre .1 .0) .1)))
 
 mul-multiply : tie.Need-mul-multiply
 mul-multiply c = search needs

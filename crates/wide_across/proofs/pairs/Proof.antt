@@ -9,7 +9,8 @@ use Rattle.wide_across.proofs.pairs.Statement.{statement}
 use Rattle.wide_across.proofs.pairs.Tie as tie
 
 abbrev Inv-loop : tie.InvT-loop
-Inv-loop x y z₀ i₀ z i = (length z ≡ 32) × (i ≤ length x) × ((k : ℕ) → k < i → getD z (2 * k) 0 ≡ getD x k 0) × ((k : ℕ) → k < i → getD z (2 * k + 1) 0 ≡ getD y k 0)
+Inv-loop x y z₀ i₀ z i =
+    (length z ≡ 32) × (i ≤ length x) × ((k : ℕ) → k < i → getD z (2 * k) 0 ≡ getD x k 0) × ((k : ℕ) → k < i → getD z (2 * k + 1) 0 ≡ getD y k 0)
 
 abbrev μ-loop : tie.MeasureT-loop
 μ-loop x y z₀ i₀ z i = length x - i

@@ -81,12 +81,15 @@ loop-again c =
     let j : ℕ = s .loop .j in (
       omega arith,
       ⊎-elim
-          (λ w. w .5 ∙ ⊕-bits (s .loop .first) (w .2 .result) ∙ more j (λ k. product 16 69643 (getD part k 0) (getD row (2 * k) 0)) (s .loop .inv .1) (w .2 .ensures))
+          (λ w. w .5 ∙ ⊕-bits (s .loop .first) (w .2 .result) ∙ more j (λ k. product 16 69643 (getD part k 0) (getD row (2 * k) 0)) (s .loop .inv .1)
+          (w .2 .ensures))
           (λ w. w .1 ∙ same j (λ k. product 16 69643 (getD part k 0) (getD row (2 * k) 0)) (s .loop .inv .1) (none part j (getD row (2 * j) 0) (w .0 .left)))
           (c .if1 .came),
       ⊎-elim
-          (λ w. w .6 ∙ ⊕-bits (s .loop .second) (w .4 .result) ∙ more j (λ k. product 16 69643 (getD part k 0) (getD row (2 * k + 1) 0)) (s .loop .inv .2) (w .4 .ensures))
-          (λ w. w .2 ∙ same j (λ k. product 16 69643 (getD part k 0) (getD row (2 * k + 1) 0)) (s .loop .inv .2) (none part j (getD row (2 * j + 1) 0) (w .0 .left)))
+          (λ w. w .6 ∙ ⊕-bits (s .loop .second) (w .4 .result) ∙ more j (λ k. product 16 69643 (getD part k 0) (getD row (2 * k + 1) 0)) (s .loop .inv .2)
+          (w .4 .ensures))
+          (λ w. w .2 ∙ same j (λ k. product 16 69643 (getD part k 0) (getD row (2 * k + 1) 0)) (s .loop .inv .2)
+          (none part j (getD row (2 * j + 1) 0) (w .0 .left)))
           (c .if1 .came),
     )
 

@@ -24,8 +24,11 @@ twice a h = double-is 16 69643 (lit< tt) a h ∙ ap (λ b. product 16 69643 b a)
 
 loop-holds : tie.Need-loop-holds Inv-loop μ-loop
 loop-holds c =
-    let a = c .args in
-    (omega arith, c .fits .a .fits, sym (ap (λ p. product 16 69643 p (a .a)) (power-zero 16 69643 2) ∙ one-product 16 69643 (lit< tt) (a .a) ∙ mod-eq-of-lt (c .fits .a .fits)))
+    let a = c .args in (
+      omega arith,
+      c .fits .a .fits,
+      sym (ap (λ p. product 16 69643 p (a .a)) (power-zero 16 69643 2) ∙ one-product 16 69643 (lit< tt) (a .a) ∙ mod-eq-of-lt (c .fits .a .fits)),
+    )
 
 double-requires : tie.Need-double-requires Inv-loop μ-loop
 double-requires c κs = search needs
@@ -44,7 +47,8 @@ loop-again c =
       omega arith,
       subst (λ x. x < 65536) (sym (c .double .ensures)) (double-lt 16 69643 (s .loop .r)),
       c .double .ensures ∙ ap (double 16 69643) (s .loop .inv .2) ∙ sym (double-product 16 69643 (power 16 69643 2 i) a (power-lt 16 69643 (lit< tt) 2 i))
-          ∙ ap (λ p. product 16 69643 p a) (twice (power 16 69643 2 i) (power-lt 16 69643 (lit< tt) 2 i) ∙ sym (power-suc 16 69643 2 i) ∙ ap (power 16 69643 2) (sym (add-one i))),
+          ∙ ap (λ p. product 16 69643 p a) (twice (power 16 69643 2 i) (power-lt 16 69643 (lit< tt) 2 i) ∙ sym (power-suc 16 69643 2 i)
+          ∙ ap (power 16 69643 2) (sym (add-one i))),
     )
 
 returns : tie.Need-returns Inv-loop μ-loop
