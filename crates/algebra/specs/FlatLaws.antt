@@ -2,7 +2,7 @@
 use mathlib.Core.Path.{_≡_, sym, _∙_, ap}
 use mathlib.Core.Bool.{Bool, false}
 use mathlib.Core.List.{Memᴰ·map, Memᴰ·of-map}
-use Prim.Native.Nat.{ℕ, _+_, _*_, _/_, _%_, _<_, _≤_}
+use Prim.Native.Nat.{ℕ, suc, _+_, _*_, _/_, _%_, _<_, _≤_}
 use native.Mathlib.Omega.{arith}
 use native.Mathlib.Decide.{ℕ-discrete}
 use native.Mathlib.Nat.{mul-add-div-right, mul-add-mod-self-right, div-eq-of-lt, mod-eq-of-lt, mod-lt, div-add-mod', div-lt-iff-lt-mul, add-zero}
@@ -14,8 +14,10 @@ use Rattle.algebra.specs.ListsLaws.{distinct-map, below-less, in-below, 
 use Rattle.algebra.specs.SumLaws.{dot-add, dot-filter}
 use Rattle.algebra.specs.Vandermonde.{psum}
 use Rattle.algebra.specs.VandermondeLaws.{vandermonde}
+use Rattle.algebra.specs.Sum.{dot}
 use Rattle.algebra.specs.Tower.{Tower}
-use Rattle.algebra.specs.Unique.{Layout, Meets, Codeword, total-excess}
+use Rattle.algebra.specs.TowerLaws.{excess-1}
+use Rattle.algebra.specs.Unique.{Layout, Meets, Codeword, coeff₁, total-excess}
 use Rattle.algebra.specs.UniqueLaws.{same-word}
 use Rattle.algebra.specs.Beyond.{Hidden}
 use Rattle.algebra.specs.BeyondLaws.{beyond}
@@ -85,6 +87,18 @@ module _ {F : Field} {T : Tower F} (G : Geometry F T) where
       all : All (filter lost (group G i)) (λ p. x p ⊕ y p ≡ 𝟘)
       all = vandermonde F (locator G) (filter lost (group G i)) _ (filter-distinct lost (locator G) (group G i) (group-distinct i))
           (λ e k. dot-filter F lost (group G i) _ _ off ∙ dot-add F (group G i) x y _ ∙ add-zero-of-eq F (s e (omega arith)))
+
+  -- A word of a group that is zero but at c + 1 lost places, meets the group's own equations and has no share in the first sum across is zero.
+  pub first-zero : (i : ℕ) (lost : ℕ → Bool) (x : ℕ → K) → ((e : ℕ) → e < c → psum F (locator G) (group G i) x e ≡ 𝟘)
+      → dot F (group G i) x (coeff₁ layout) ≡ 𝟘 → All (group G i) (λ p. lost p ≡ false → x p ≡ 𝟘)
+      → length (filter lost (group G i)) ≡ suc c → All (group G i) (λ p. x p ≡ 𝟘)
+  first-zero i lost x s a z l =
+      filter-all lost (group G i)
+      (excess-1 F T (locator G) c (filter lost (group G i)) x (record {
+        distinct = filter-distinct lost (locator G) (group G i) (group-distinct i);
+        small = λ p _. small (p % w) (mod-lt p wide);
+        locals = λ e k. dot-filter F lost (group G i) x _ z ∙ s e k;
+      }) l (dot-filter F lost (group G i) x _ z ∙ a)) z
 
   -- A nonzero word on the lost places that meets the local equations and the two across.
   pub record HiddenWord (lost : ℕ → Bool) (h₁ h₂ : ℕ → K) : Type 0 where

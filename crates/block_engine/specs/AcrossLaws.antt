@@ -10,6 +10,7 @@ use Rattle.counting.specs.Count.{countBelow}
 use Rattle.binary_field.specs.XorLaws.{⊕-lt}
 use Rattle.binary_field.specs.ProductLaws.{product-lt}
 use Rattle.shape.specs.Shapes.{Good}
+use Rattle.binary_field.specs.Inverse.{inverse}
 use Rattle.code.specs.Edition.{times}
 use Rattle.code.specs.Marks.{lost, excess}
 use Rattle.code.specs.Recovery.{Agrees}
@@ -24,7 +25,7 @@ use Rattle.block_engine.specs.Whole.{rowSum, Across}
 use Rattle.block_engine.specs.Free.{Completes, Completable, OneSolved, TwoSolved}
 use Rattle.block_engine.specs.FreeLaws.{row-agree, of-completes, one-some, one-completable, one-value, one-tested}
 use Rattle.block_engine.specs.FreeLaws.{two-some, two-completable, two-value, two-value′}
-use Rattle.block_free.specs.Rows.{firstOf, secondOf, testFirst, testSecond, valueFirst, valueSecond, oneTest, determinantInverse}
+use Rattle.block_free.specs.Rows.{firstOf, secondOf, oneTest, determinantInverse}
 use Rattle.block_engine.specs.Rest.{BothZero, OneWritten, TwoWritten}
 use Rattle.block_engine.specs.RestLaws.{one-solved, two-factors, across-first, across-second}
 use Rattle.block_engine.specs.Ready.{wordOf, FreeWritten}
@@ -82,8 +83,8 @@ module _ (m w c : ℕ) (good : Good m w c) (marks bound : List ℕ) (K : BoundAl
       open-p : lost bound p ≡ false
       open-p = F .not-bound 0 (omega arith)
 
-      S : OneSolved (a p) (b p) (valueFirst (a p) (b p)) (valueSecond (a p) (b p)) (testFirst (a p) (b p)) (testSecond (a p) (b p))
-      S = one-solved (a p) (b p) (la p) (lb p) (one-some m w c good marks bound K a b A B p less lost-p open-p only low)
+      S : OneSolved (a p) (b p) (inverse 8 285 (a p)) 0 (times byteEdition (b p) (inverse 8 285 (a p))) 1
+      S = one-solved (a p) (b p) (la p) (lb p) (one-some m w c good marks bound K a b A B p less lost-p open-p long)
 
       pub one-enough : (v : ℕ → ℕ) → ((r : ℕ) → v r < 256) → rowSum (m * w) v (oneTest p a b) ≡ 0 → Completable (m * w) marks bound a b v
       one-enough v small z = one-completable m w c good marks bound K a b A B p less lost-p open-p only _ _ _ _ S v small z

@@ -3,7 +3,7 @@ use mathlib.Core.Path.{_≡_, refl, sym, ap, ap₂, _∙_, subst}
 use mathlib.Core.Bool.{Bool, true, false, cond, not, _&&_, true≢false}
 use mathlib.Core.List.{List}
 use Prim.Native.Nat.{ℕ, zero, suc, _+_, _*_, _/_, _%_, _<_, _≤_}
-use native.Mathlib.Nat.{div-add-mod', mod-lt, div-lt-iff-lt-mul}
+use native.Mathlib.Nat.{div-add-mod', mod-lt, div-lt-iff-lt-mul, mul-le-mul-right}
 use native.Mathlib.Omega.{arith}
 use native.Mathlib.Decide.{ℕ-discrete, decLt}
 use borrow.Author.Tests.{eq-eqb, ne-eqb}
@@ -18,6 +18,7 @@ use Rattle.binary_field.specs.Sum.{sumBelow}
 use Rattle.binary_field.specs.SumLaws.{sum-ext, sum-zero, sum-add, sum-single, scale-sum, sum-lt}
 use Rattle.shape.specs.Shapes.{Good}
 use Rattle.code.specs.Edition.{times}
+use Rattle.code.specs.PairLaws.{determinant-some}
 use Rattle.code.specs.Word.{Codeword}
 use Rattle.code.specs.Marks.{lost, lostIn, excess}
 use Rattle.code.specs.Blank.{blank}
@@ -26,15 +27,15 @@ use Rattle.code.specs.Determined.{listOf}
 use Rattle.code.specs.DeterminedLaws.{list-at, unique}
 use Rattle.code.specs.Recovery.{Agrees}
 use Rattle.code.specs.Stretch.{stretch}
-use Rattle.code.specs.StretchLaws.{stretch-at, stretch-count}
+use Rattle.code.specs.StretchLaws.{stretch-at, stretch-length, stretch-count}
 use Rattle.code.specs.CombinedLaws.{place-less}
 use Rattle.byte_edition.specs.Edition.{byteEdition}
 use Rattle.byte_edition.specs.EditionLaws.{bytes-sound, bytes-few}
 use Rattle.erasures.specs.Bound.{free}
 use Rattle.erasures.specs.Whole.{BoundAll}
 use Rattle.block_free.specs.Rows.{withAt, mixed}
-use Rattle.block_engine.specs.Group.{AgreesIn, Mendable, StandsFor}
-use Rattle.block_engine.specs.GroupLaws.{mendable}
+use Rattle.block_engine.specs.Group.{AgreesIn, Mendable}
+use Rattle.block_engine.specs.GroupLaws.{mendable, first-some}
 use Rattle.block_engine.specs.Whole.{rowSum, Across}
 use Rattle.block_engine.specs.WholeLaws.{joined-codeword, codeword-group, codeword-first, codeword-second}
 use Rattle.block_engine.specs.Free.{PresentSame, Completes, Completable, OneSolved, TwoSolved}
@@ -73,7 +74,7 @@ module _ (n : ℕ) where
 one-times : (a : ℕ) → a < 256 → times byteEdition a 1 ≡ a
 one-times a l = product-one 8 285 (lit< tt) a l
 
--- by the first row
+-- the symbol by the first row
 pub one-first : (a b i : ℕ) → a < 256 → b < 256 → times byteEdition a i ≡ 1 → OneSolved a b i 0 (times byteEdition b i) 1
 one-first a b i la lb e = record {
   unit = ap₂ _⊕_ e (product-zero 8 285 b) ∙ ⊕-zero-r 1;
@@ -96,22 +97,6 @@ one-first a b i la lb e = record {
 
     undo : (s : ℕ) → s < 256 → times byteEdition s (times byteEdition a i) ≡ s
     undo s l = ap (times byteEdition s) e ∙ one-times s l
-
--- by the second, where the first has 0 there
-pub one-second : (a b i : ℕ) → a ≡ 0 → b < 256 → times byteEdition b i ≡ 1 → OneSolved a b 0 i 1 0
-one-second a b i z lb e = record {
-  unit = ap₂ _⊕_ (product-zero 8 285 a) e ∙ ⊕-zero-l 1;
-  none = ap₂ _⊕_ (ap (λ x. times byteEdition x 1) z ∙ zero-product 8 285 1) (product-zero 8 285 b) ∙ ⊕-self 0;
-  first = λ s t ls lt q.
-      ap (times byteEdition _) z ∙ product-zero 8 285 _ ∙ sym (sym (one-times s ls) ∙ sym (⊕-zero-r _) ∙ ap (λ u. times byteEdition s 1 ⊕ u) (sym
-      (product-zero 8 285 t)) ∙ q);
-  second = λ s t ls lt q.
-      ap (λ u. times byteEdition (u ⊕ times byteEdition t i) b) (product-zero 8 285 s) ∙ ap (λ u. times byteEdition u b) (⊕-zero-l _) ∙ turn t i b
-      ∙ ap (times byteEdition t) e ∙ one-times t lt;
-}
-  where
-    turn : (s i b : ℕ) → times byteEdition (times byteEdition s i) b ≡ times byteEdition s (times byteEdition b i)
-    turn s i b = simp ring
 
 -- by the determinant, of which i is the inverse
 pub two-solved : (a a′ b b′ i : ℕ) → times byteEdition (times byteEdition a b′ ⊕ times byteEdition a′ b) i ≡ 1
@@ -317,6 +302,27 @@ from-value z a b s t f h e g = ap₂ (λ x y. times byteEdition x f ⊕ times by
 
 module _ (m w c : ℕ) (good : Good m w c) (marks bound : List ℕ) (K : BoundAll m w c marks bound) (a b : ℕ → ℕ)
     (A : Across m w c bound 4 a) (B : Across m w c bound 5 b) (p : ℕ) (less : p < m * w) (lost-p : lost marks p ≡ true) (open-p : lost bound p ≡ false) where
+  -- the entry of a free place in the first row across is not 0
+  pub one-some : length marks ≡ m * w → a p ≡ 0 → ⊥
+  one-some long z =
+      first-some w c (p / w) wide (good .narrow) (stretch w (p / w) bound) (let k = good .few-checks in let e = full in omega arith)
+      (stretch-length w (p / w) bound (subst (λ n. suc (p / w) * w ≤ n) (sym (K .size ∙ long)) (mul-le-mul-right w g))) full (p % w) inside
+      (ap (λ b. eqb b 1) (stretch-at w (p / w) bound (p % w) inside) ∙ ap (lost bound) (div-add-mod' p w) ∙ open-p) _ (A (p / w) g)
+      (ap a (div-add-mod' p w) ∙ z)
+    where
+      wide : 0 < w
+      wide = let k = good .wide in omega arith
+
+      inside : p % w < w
+      inside = mod-lt p wide
+
+      g : p / w < m
+      g = div-lt-iff-lt-mul wide .1 less
+
+      full : lostIn w (stretch w (p / w) bound) 0 ≡ c
+      full = stretch-count w (p / w) bound
+          ∙ K .bound-full (p / w) (p % w) g inside (ap (lost marks) (div-add-mod' p w) ∙ lost-p) (ap (lost bound) (div-add-mod' p w) ∙ open-p)
+
   -- place p alone
   module _ (only : (q : ℕ) → q < m * w → lost marks q ≡ true → lost bound q ≡ false → q ≡ p) where
     other-present : (q : ℕ) → q < m * w → lost bound q ≡ false → ¬ (q ≡ p) → lost marks q ≡ false
@@ -325,16 +331,6 @@ module _ (m w c : ℕ) (good : Good m w c) (marks bound : List ℕ) (K : BoundAl
         go : (x : Bool) → lost marks q ≡ x → lost marks q ≡ false
         go true f = absurd (d (only q l f e))
         go false f = f
-
-    pub one-some : excess m w c marks ≤ 2 → a p ≡ 0 → b p ≡ 0 → ⊥
-    one-some low za zb =
-        let z : _≡_ {A = ℕ} 1 0 = sym (at-here p 1 (λ _. 0)) ∙ kernel m w c good marks bound K a b A B low (withAt p 1 (λ _. 0)) (record {
-          small = at-small p 1 (λ _. 0) (lit< tt) (λ _. lit< tt);
-          same = λ q l e. sym (at-other p 1 (λ _. 0) q (λ d. true≢false (sym lost-p ∙ ap (lost marks) (sym d) ∙ e)));
-          first = row-at (m * w) p 1 (λ _. 0) a less ∙ ap₂ _⊕_ (row-nothing (m * w) _) (ap (times byteEdition 1) za ∙ product-zero 8 285 1) ∙ ⊕-self 0;
-          second = row-at (m * w) p 1 (λ _. 0) b less ∙ ap₂ _⊕_ (row-nothing (m * w) _) (ap (times byteEdition 1) zb ∙ product-zero 8 285 1) ∙ ⊕-self 0;
-        }) p less open-p in
-        omega arith
 
     module _ (f h d k : ℕ) (S : OneSolved (a p) (b p) f h d k) (v : ℕ → ℕ) (small : (q : ℕ) → v q < 256) where
       s : ℕ
@@ -416,24 +412,10 @@ module _ (m w c : ℕ) (good : Good m w c) (marks bound : List ℕ) (K : BoundAl
     -- the determinant is not 0
     pub two-some : excess m w c marks ≤ 2 → a p < 256 → a q < 256 → b p < 256 → b q < 256 → times byteEdition (a p) (b q)
         ⊕ times byteEdition (a q) (b p) ≡ 0 → ⊥
-    two-some low la la′ lb lb′ z =
-        let X = two-kernel low (a q) (a p) la′ la (k1 (a p) (a q)) (k2 (a p) (a q) (b p) (b q) ∙ z) in
-        let Y = two-kernel low (b q) (b p) lb′ lb (k3 (a p) (a q) (b p) (b q) ∙ z) (k1 (b p) (b q)) in
-        let O = two-kernel low 1 0 (lit< tt) (lit< tt) (zero-both (a p) (a q) (X .1)) (zero-both (b p) (b q) (Y .1)) in
-        let e = O .0 in
-        omega arith
-      where
-        k1 : (i j : ℕ) → times byteEdition j i ⊕ times byteEdition i j ≡ 0
-        k1 i j = simp ring
-
-        k2 : (i j k l : ℕ) → times byteEdition j k ⊕ times byteEdition i l ≡ times byteEdition i l ⊕ times byteEdition j k
-        k2 i j k l = simp ring
-
-        k3 : (i j k l : ℕ) → times byteEdition l i ⊕ times byteEdition k j ≡ times byteEdition i l ⊕ times byteEdition j k
-        k3 i j k l = simp ring
-
-        zero-both : (i j : ℕ) → i ≡ 0 → times byteEdition 1 i ⊕ times byteEdition 0 j ≡ 0
-        zero-both i j e = ap₂ _⊕_ (ap (times byteEdition 1) e ∙ product-zero 8 285 1) (zero-product 8 285 j) ∙ ⊕-self 0
+    two-some low la la′ lb lb′ =
+        determinant-some bytes-sound la la′ lb lb′
+        (λ u x Q. two-kernel low u x (Q .u-lt) (Q .v-lt) (ap₂ _⊕_ (product-comm 8 285 u (a p)) (product-comm 8 285 x (a q)) ∙ Q .first)
+        (ap₂ _⊕_ (product-comm 8 285 u (b p)) (product-comm 8 285 x (b q)) ∙ Q .second))
 
     module _ (f h f′ h′ : ℕ) (S : TwoSolved (a p) (a q) (b p) (b q) f h f′ h′) (v : ℕ → ℕ) (small : (r : ℕ) → v r < 256) where
       s₂ : ℕ

@@ -6,7 +6,7 @@ use Prim.Native.Nat.{ℕ, zero, suc, _+_, _*_, _<_, _≤_, _^_}
 use native.Mathlib.Omega.{arith}
 use native.Mathlib.Decide.{ℕ-discrete, decLt}
 use lib.Dec.{eqb, lit<}
-use lib.ListN.{getD}
+use lib.ListN.{length, getD}
 use Rattle.counting.specs.Count.{countBelow}
 use Rattle.counting.specs.CountLaws.{count-next}
 use Rattle.binary_field.specs.Xor.{_⊕_}
@@ -15,12 +15,12 @@ use Rattle.binary_field.specs.ProductLaws.{product-comm, product-assoc, product
 use Rattle.binary_field.specs.Sum.{sumBelow}
 use Rattle.binary_field.specs.SumLaws.{sum-ext, sum-zero, sum-single, sum-swap, sum-scale, scale-sum, sum-lt}
 use Rattle.code.specs.Edition.{times, raised}
-use Rattle.code.specs.Word.{groupSum, localSum}
+use Rattle.code.specs.Word.{groupSum, localSum, coefficient}
 use Rattle.code.specs.Marks.{lost, lostIn}
 use Rattle.code.specs.Blank.{blank}
 use Rattle.code.specs.BlankLaws.{blank-at, blank-group}
 use Rattle.code.specs.OneGroup.{LocalWay}
-use Rattle.code.specs.OneGroupLaws.{local-way}
+use Rattle.code.specs.OneGroupLaws.{local-way, way-share}
 use Rattle.code.specs.StretchLaws.{own-place}
 use Rattle.byte_edition.specs.Edition.{byteEdition}
 use Rattle.byte_edition.specs.EditionLaws.{bytes-sound}
@@ -38,6 +38,10 @@ check-local c g (suc zero) l j = refl
 check-local c g (suc (suc zero)) l j = refl
 check-local c g (suc (suc (suc zero))) l j = refl
 check-local c g (suc (suc (suc (suc e)))) l j = absurd (omega arith)
+
+pub check-first : (c g : ℕ) (j : ℕ) → checkOf c g 4 j ≡ coefficient byteEdition c j
+unfolding checkOf
+check-first c g j = refl
 
 pub group-dot : (w g : ℕ) (word : List ℕ) (h : ℕ → ℕ) → groupSum byteEdition w word g h ≡ dot byteEdition w (groupOf w g word) h
 unfolding groupSum dot
@@ -170,6 +174,29 @@ module _ (w c g : ℕ) (wide : 0 < w) (narrow : w ≤ 16) (bound : List ℕ) (fe
             ];
             meets = λ k h. sym (local-dot w c g (W .h) k (omega arith)) ∙ W .zero k h;
           }
+
+  -- where c places are bound, what stands for the first equation across has no 0 at another place
+  pub first-some : length bound ≡ w → lostIn w bound 0 ≡ c → (j : ℕ) → j < w → lost bound j ≡ false → (a : ℕ → ℕ) → StandsFor w c g bound 4 a → a j ≡ 0 → ⊥
+  unfolding groupSum dot
+  first-some long full j l free a A z =
+      way-share byteEdition bytes-sound w wide narrow c bound long full j l free (W .h) (W .own) (W .off) (W .zero)
+      (sum-ext w _ _ (λ i _. ap₂ (times byteEdition) (ap (λ k. getD (W .h) k 0) (own-place w i)) (sym (check-first c g i)))
+      ∙ A .sum (λ i. identity i j) (λ i. getD (W .h) i 0) fills
+      ∙ sum-single w j _ l (λ i _ n. ap (λ b. times byteEdition b (a i)) (identity-other i j n) ∙ zero-product 8 285 (a i))
+      ∙ ap (times byteEdition (identity j j)) z ∙ product-zero 8 285 (identity j j))
+    where
+      W : LocalWay byteEdition w bound j
+      W = local-way byteEdition bytes-sound w wide narrow bound j l free
+
+      fills : Fills w c g bound (λ i. identity i j) (λ i. getD (W .h) i 0)
+      fills = record {
+        small = W .symbols .each;
+        same = λ i k f. elim (ℕ-discrete i j) [
+          | yes q ↦ ap (λ k. getD (W .h) k 0) q ∙ W .own ∙ sym (identity-same i j q)
+          | no q ↦ W .off i k f q ∙ sym (identity-other i j q)
+        ];
+        meets = λ e k. sym (local-dot w c g (W .h) e (omega arith)) ∙ W .zero e k;
+      }
 
   module _ (v : ℕ → ℕ) (small : (j : ℕ) → v j < 256) where
     filled : ℕ → ℕ

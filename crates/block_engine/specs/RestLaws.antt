@@ -4,8 +4,6 @@ use mathlib.Core.List.{List, [], _∷_}
 use Prim.Native.Nat.{ℕ, zero, suc, _+_, _*_, _<_, _≤_}
 use native.Mathlib.Nat.{zero-add, zero-mul, one-mul, add-mul, add-assoc}
 use native.Mathlib.Omega.{arith}
-use native.Mathlib.Decide.{ℕ-discrete}
-use borrow.Author.Tests.{eq-eqb, ne-eqb}
 use lib.ListN.{length, getD}
 use Rattle.binary_field.specs.Product.{product}
 use Rattle.binary_field.specs.ProductLaws.{product-comm}
@@ -18,14 +16,14 @@ use Rattle.byte_edition.specs.Edition.{byteEdition}
 use Rattle.byte_edition.specs.EditionLaws.{bytes-sound}
 use Rattle.block_sums.specs.Sums.{blockSum, ZeroUntil, Aimed, SumsWritten}
 use Rattle.code.specs.Stretch.{stretch}
-use Rattle.block_free.specs.Rows.{firstOf, secondOf, testFirst, testSecond, valueFirst, valueSecond, oneValue, twoFirst, twoSecond, determinantInverse}
+use Rattle.block_free.specs.Rows.{firstOf, secondOf, oneValue, twoFirst, twoSecond, determinantInverse}
 use Rattle.block_free.specs.Rows.{OneRow, TwoRows}
 use Rattle.block_engine.specs.Steps.{Limit, placeSymbol, AcrossRows}
 use Rattle.block_engine.specs.StepsLaws.{row-inside}
 use Rattle.block_engine.specs.PassLaws.{stands-ext, sums-stay}
 use Rattle.block_engine.specs.Whole.{rowSum, Across}
 use Rattle.block_engine.specs.Free.{OneSolved, TwoSolved}
-use Rattle.block_engine.specs.FreeLaws.{one-first, one-second, two-solved}
+use Rattle.block_engine.specs.FreeLaws.{one-first, two-solved}
 use Rattle.block_engine.specs.Rest.{BothZero, OneWritten, TwoWritten}
 
 -- ---- the factors
@@ -33,11 +31,8 @@ inverse-times : (a : ℕ) → a < 256 → (a ≡ 0 → ⊥) → times byteEditio
 inverse-times a l n = product-inverse 8 285 (bytes-sound .facts .pos) (bytes-sound .facts .values) (bytes-sound .facts .tested) a l n
 
 -- the factors solve what they shall
-pub one-solved : (a b : ℕ) → a < 256 → b < 256 → (a ≡ 0 → b ≡ 0 → ⊥) → OneSolved a b (valueFirst a b) (valueSecond a b) (testFirst a b) (testSecond a b)
-one-solved a b la lb some = elim (ℕ-discrete a 0) [
-  | yes z ↦ (rw (eq-eqb a 0 z) (one-second a b (inverse 8 285 b) z lb (inverse-times b lb (some z))))
-  | no z ↦ (rw (ne-eqb a 0 z) (one-first a b (inverse 8 285 a) la lb (inverse-times a la z)))
-]
+pub one-solved : (a b : ℕ) → a < 256 → b < 256 → (a ≡ 0 → ⊥) → OneSolved a b (inverse 8 285 a) 0 (times byteEdition b (inverse 8 285 a)) 1
+one-solved a b la lb some = one-first a b (inverse 8 285 a) la lb (inverse-times a la some)
 
 pub two-factors : (p : ℕ) (a b : ℕ → ℕ) (q : ℕ) → times byteEdition (a p) (b q) ⊕ times byteEdition (a q) (b p) < 256
     → (times byteEdition (a p) (b q) ⊕ times byteEdition (a q) (b p) ≡ 0 → ⊥)

@@ -13,7 +13,7 @@ use Rattle.binary_field.specs.Xor.{_⊕_}
 use Rattle.binary_field.specs.Sum.{sumBelow}
 use Rattle.binary_field.specs.SumLaws.{sum-none, sum-suc, sum-append, sum-ext}
 use Rattle.code.specs.Edition.{times}
-use Rattle.code.specs.Word.{groupSum, wordSum, localSum, firstAcross, secondAcross, coefficient, secondCoefficient, Codeword, Symbols}
+use Rattle.code.specs.Word.{groupSum, wordSum, localSum, firstAcross, secondAcross, secondCoefficient, Codeword, Symbols}
 use Rattle.code.specs.WordLaws.{equations, is-codeword}
 use Rattle.code.specs.Marks.{lost, lostIn}
 use Rattle.code.specs.Determined.{listOf}
@@ -25,7 +25,7 @@ use Rattle.byte_edition.specs.Edition.{byteEdition}
 use Rattle.block_constants.specs.Reduced.{dot}
 use Rattle.block_constants.specs.ReducedLaws.{dot-ext}
 use Rattle.block_engine.specs.Group.{checkOf, groupOf, Fills, AgreesIn, Mendable, StandsFor}
-use Rattle.block_engine.specs.GroupLaws.{check-local, group-dot, agrees-fills}
+use Rattle.block_engine.specs.GroupLaws.{check-local, check-first, group-dot, agrees-fills}
 use Rattle.block_engine.specs.Whole.{rowSum, Across}
 
 -- a sum over m·w places, group by group
@@ -33,10 +33,6 @@ pub sum-rows : (m w : ℕ) (f : ℕ → ℕ) → sumBelow (m * w) f ≡ sumBelow
 sum-rows zero w f = ap (λ n. sumBelow n f) (zero-mul w) ∙ sum-none f ∙ sym (sum-none _)
 sum-rows (suc m) w f =
     ap (λ n. sumBelow n f) (suc-mul m w) ∙ sum-append (m * w) w f ∙ ap (λ s. s ⊕ sumBelow w (λ j. f (m * w + j))) (sum-rows m w f) ∙ sym (sum-suc m _)
-
-check-first : (c g : ℕ) (j : ℕ) → checkOf c g 4 j ≡ coefficient byteEdition c j
-unfolding checkOf
-check-first c g j = refl
 
 check-second : (c g : ℕ) (j : ℕ) → checkOf c g 5 j ≡ secondCoefficient byteEdition c g j
 unfolding checkOf

@@ -26,20 +26,6 @@ firstOf rows q = getD rows q 0
 abbrev pub secondOf : ℕ → List ℕ → ℕ → ℕ
 secondOf n rows q = getD rows (n + q) 0
 
--- the factors of the one test, from the entries of the free place
-abbrev pub testFirst : ℕ → ℕ → ℕ
-testFirst a b = cond (eqb a 0) 1 (times byteEdition b (inverse 8 285 a))
-
-abbrev pub testSecond : ℕ → ℕ → ℕ
-testSecond a b = cond (eqb a 0) 0 1
-
--- those of its symbol
-abbrev pub valueFirst : ℕ → ℕ → ℕ
-valueFirst a b = cond (eqb a 0) 0 (inverse 8 285 a)
-
-abbrev pub valueSecond : ℕ → ℕ → ℕ
-valueSecond a b = cond (eqb a 0) (inverse 8 285 b) 0
-
 -- both rows with 0 at place p, where they were a and b
 pub record Cleared (n p : ℕ) (before after : List ℕ) : Type 0 where
   pub long : length after ≡ length before
@@ -53,13 +39,13 @@ pub record Mixed (n start f h : ℕ) (rows before after : List ℕ) : Type 0 whe
   pub other : (k : ℕ) → (k < start) ⊎ (start + n ≤ k) → getD after k 0 ≡ getD before k 0
 
 module _ (p : ℕ) (a b : ℕ → ℕ) where
-  -- the constants of the test that is left with the one free place p
+  -- the constants of the test that is left with the one free place p, once the first row has given its symbol
   abbrev pub oneTest : ℕ → ℕ
-  oneTest q = mixed (testFirst (a p) (b p)) (testSecond (a p) (b p)) (withAt p 0 a) (withAt p 0 b) q
+  oneTest q = mixed (times byteEdition (b p) (inverse 8 285 (a p))) 1 (withAt p 0 a) (withAt p 0 b) q
 
   -- those of its symbol
   abbrev pub oneValue : ℕ → ℕ
-  oneValue q = mixed (valueFirst (a p) (b p)) (valueSecond (a p) (b p)) (withAt p 0 a) (withAt p 0 b) q
+  oneValue q = mixed (inverse 8 285 (a p)) 0 (withAt p 0 a) (withAt p 0 b) q
 
   module _ (q : ℕ) where
     -- the inverse of the determinant of two free places

@@ -1,46 +1,8 @@
 // Rows of constants for the free places of a block rebuild, from the two rows across.
 ghost use mathlib.Core.Path.{_≡_};
 ghost use Prim.Native.Nat.{_≤_, _<_};
-ghost use Rattle.block_free.specs.Rows.{firstOf, secondOf, testFirst, testSecond, valueFirst, valueSecond, Cleared, Mixed};
+ghost use Rattle.block_free.specs.Rows.{firstOf, secondOf, Cleared, Mixed};
 ghost use Rattle.block_free.specs.Rows.{oneTest, oneValue, twoFirst, twoSecond, OneRow, TwoRows};
-
-// The factors of the two rows across in a mixture of them.
-struct Factors {
-    first: u8,
-    second: u8,
-}
-
-// Those of the test that is left with one free place, from its entries a and b.
-fn test_factors(a: u8, b: u8) -> Factors
-    ensures { λ r. ⌜ (r .first ≡ testFirst a b) × (r .second ≡ testSecond a b) ⌝ }
-{
-    if a == 0 {
-        return Factors {
-            first: 1,
-            second: 0,
-        };
-    }
-    Factors {
-        first: gf256::shifted_product(b, gf256::inverse(a)),
-        second: 1,
-    }
-}
-
-// Those of its symbol.
-fn value_factors(a: u8, b: u8) -> Factors
-    ensures { λ r. ⌜ (r .first ≡ valueFirst a b) × (r .second ≡ valueSecond a b) ⌝ }
-{
-    if a == 0 {
-        return Factors {
-            first: 0,
-            second: gf256::inverse(b),
-        };
-    }
-    Factors {
-        first: gf256::inverse(a),
-        second: 0,
-    }
-}
 
 // Both rows with 0 at place p.
 fn clear_place(n: usize, p: usize, rows: [u8; 480]) -> [u8; 480]
@@ -78,10 +40,10 @@ pub fn test_row(n: usize, p: usize, across: [u8; 480]) -> [u8; 480]
     if n <= p {
         return across;
     }
-    let k = test_factors(across[p], across[n + p]);
+    let f = gf256::shifted_product(across[n + p], gf256::inverse(across[p]));
     let rows = clear_place(n, p, across);
     let zero = [0u8; 480];
-    mix(n, 0, rows, k.first, k.second, zero)
+    mix(n, 0, rows, f, 1, zero)
 }
 
 // Those of its symbol.
@@ -95,10 +57,10 @@ pub fn value_row(n: usize, p: usize, across: [u8; 480]) -> [u8; 480]
     if n <= p {
         return across;
     }
-    let k = value_factors(across[p], across[n + p]);
+    let f = gf256::inverse(across[p]);
     let rows = clear_place(n, p, across);
     let zero = [0u8; 480];
-    mix(n, 0, rows, k.first, k.second, zero)
+    mix(n, 0, rows, f, 0, zero)
 }
 
 // Two rows, the constants of the symbols of two free places.

@@ -6,17 +6,20 @@ use Prim.Native.Nat.{ℕ, zero, suc, _+_, _-_, _*_, _/_, _%_, _^_, _≤_, _<_}
 use native.Mathlib.Nat.{suc-mul, mul-le-mul-right, div-lt-iff-lt-mul, div-add-mod', mod-lt}
 use native.Mathlib.Decide.{ℕ-discrete, decLt}
 use native.Mathlib.Omega.{arith}
-use lib.Dec.{eqb, lit≤}
+use lib.Dec.{eqb}
+use lib.Bits.{bitXor}
 use lib.ListN.{length, getD, take, drop, set, replicate, length-set, length-replicate, getD-replicate, List·getD-eq-default}
 use lib.Seq.{getD-set-same, getD-set-other, getD-take, getD-drop, getD-append-add, take-at, length-take-le, ext-getD}
 use Rattle.binary_field.specs.Xor.{_⊕_}
-use Rattle.binary_field.specs.XorLaws.{⊕-zero-l, ⊕-zero-r}
-use Rattle.binary_field.specs.Product.{product}
-use Rattle.binary_field.specs.ProductLaws.{product-zero}
+use Rattle.binary_field.specs.XorLaws.{⊕-bits, ⊕-zero-l, ⊕-zero-r, ⊕-self}
+use Rattle.binary_field.specs.ProductLaws.{product-comm, product-assoc, product-zero, product-one, ring}
+use Rattle.binary_field.specs.Inverse.{inverse}
+use Rattle.binary_field.specs.InverseLaws.{product-inverse}
 use Rattle.binary_field.specs.SumLaws.{sum-ext, sum-none, sum-suc}
 use Rattle.code.specs.Edition.{Edition, Sound, times}
 use Rattle.byte_edition.specs.Edition.{byteEdition}
-use Rattle.code.specs.Word.{groupSum, localSum, wordSum, coefficient, secondCoefficient}
+use Rattle.byte_edition.specs.EditionLaws.{bytes-sound}
+use Rattle.code.specs.Word.{groupSum, localSum, wordSum, firstAcross, secondAcross, coefficient, secondCoefficient}
 use Rattle.code.specs.Marks.{lost, lostIn}
 use Rattle.code.specs.Stretch.{stretch, withStretch}
 use Rattle.code.specs.StretchLaws.{stretch-at, stretch-length, with-length, with-inside, with-before, with-after, stretch-count, place-cases, own-place}
@@ -26,17 +29,13 @@ use Rattle.code.specs.Lone.{lone}
 use Rattle.code.specs.LoneLaws.{lone-inside, lone-before, lone-after, lone-word}
 use Rattle.shape.specs.Shapes.{Limits, GoodIn}
 use Rattle.fill.specs.Filled.{FilledIn}
-use Rattle.erasures.specs.Whole.{BoundAll}
-use Rattle.erasures.specs.Places.{FreePlaces, freeAt}
-use Rattle.solve.specs.Elimination.{entry, eliminated}
-use Rattle.solve.specs.Solution.{OnlySolution}
-use Rattle.solve.specs.SolutionLaws.{solution}
 use Rattle.syndrome.specs.Across.{groupSums, acrossOf}
 use Rattle.syndrome.specs.declared.Sums.{Sums}
 use Rattle.candidate.specs.Steps.{GroupsFilledIn, DirectionIn, AddedIn}
-use Rattle.candidate.specs.Solved.{twoRow, twoRows, pairAt, SolvedIn, Solved}
+use Rattle.code.specs.Pair.{MetIn}
 use Rattle.candidate.specs.SolvedLaws.{combined-length, combined-one}
-use Rattle.candidate.specs.Mended.{BoundFew, movedBy}
+use Rattle.candidate.specs.Mended.{BoundFew}
+use Rattle.candidate.specs.WeightsLaws.{word-lt}
 
 -- ---- writes
 -- past a write at i the elements are as they were
@@ -150,49 +149,6 @@ direction-after n j w part size inside room i l =
       | no h ↦ List·getD-eq-default (replicate n 0) 0 (omega (arith, length-replicate {A = ℕ} n 0))
     ]
 
--- ---- two unknowns
-row-lt : {n a b s : ℕ} → a < n → b < n → s < n → (i : ℕ) → getD (twoRow a b s) i 0 < n
-row-lt ha hb hs zero = ha
-row-lt ha hb hs (suc zero) = hb
-row-lt ha hb hs (suc (suc zero)) = omega arith
-row-lt ha hb hs (suc (suc (suc zero))) = omega arith
-row-lt ha hb hs (suc (suc (suc (suc zero)))) = hs
-row-lt {n} ha hb hs (suc (suc (suc (suc (suc i))))) = zeros-lt 11 i
-  where
-    zeros-lt : (k i : ℕ) → getD (replicate k 0) i 0 < n
-    zeros-lt zero i = omega arith
-    zeros-lt (suc k) zero = omega arith
-    zeros-lt (suc k) (suc i) = zeros-lt k i
-
--- a solution is known by its values below t
-solution-ext : {k m : ℕ} {M : List (List ℕ)} {t r : ℕ} {x : ℕ → ℕ} (y : ℕ → ℕ) → ((i : ℕ) → i < t → x i ≡ y i) → OnlySolution k m M t r x
-    → OnlySolution k m M t r y
-solution-ext {k} {m} {M} {t} y same S = record {
-  solves = λ e l. sum-ext t _ _ (λ i h. ap (product k m (entry M e i)) (sym (same i h))) ∙ S .solves e l;
-  small = λ i l. subst (λ a. a < 2 ^ k) (same i l) (S .small i l);
-  only = λ z small solves i l. S .only z small solves i l ∙ same i l;
-}
-
-pub two-solved : {E : Edition} (S : Sound E) {a₁ a₂ b₁ b₂ s t : ℕ} {R : List (List ℕ)} → a₁ < 2 ^ E .bits → a₂ < 2 ^ E .bits → b₁ < 2 ^ E .bits
-    → b₂ < 2 ^ E .bits → s < 2 ^ E .bits → t < 2 ^ E .bits
-    → R ≡ eliminated (E .bits) (E .poly) (twoRows a₁ a₂ b₁ b₂ s t) 2 → SolvedIn E a₁ a₂ b₁ b₂ s t (entry R 0 4) (entry R 1 4)
-two-solved {E} S {a₁} {a₂} {b₁} {b₂} {s} {t} {R} ha₁ ha₂ hb₁ hb₂ hs ht e trivial =
-    solution-ext (pairAt (entry R 0 4) (entry R 1 4)) same (solution (E .bits) (E .poly) (S .facts .pos) (S .facts .values) (S .facts .tested) M 2
-    (record { long = lit≤ tt; small = small }) trivial 4)
-  where
-    M : List (List ℕ)
-    M = twoRows a₁ a₂ b₁ b₂ s t
-
-    small : (i : ℕ) → i < 2 → (j : ℕ) → entry M i j < 2 ^ E .bits
-    small zero l = row-lt ha₁ ha₂ hs
-    small (suc zero) l = row-lt hb₁ hb₂ ht
-    small (suc (suc i)) l = absurd (omega arith)
-
-    same : (i : ℕ) → i < 2 → entry (eliminated (E .bits) (E .poly) M 2) i 4 ≡ pairAt (entry R 0 4) (entry R 1 4) i
-    same zero l = ap (λ Q. entry Q 0 4) (sym e)
-    same (suc zero) l = ap (λ Q. entry Q 1 4) (sym e)
-    same (suc (suc i)) l = absurd (omega arith)
-
 -- ---- a multiple of a direction added to its group
 pub added-combined : {E : Edition} (m w g u : ℕ) (h word part : List ℕ) → g < m → length word ≡ m * w → length h ≡ w → AddedIn E u h (stretch w g word) part
     → withStretch w g word part ≡ combined E (m * w) word 1 (λ _. u) (λ _. lone m w g h)
@@ -282,25 +238,61 @@ word-moved E m w u before h f =
     combined-word E m w 1 before (λ _. u) (λ _. h) f
     ∙ ap (λ s. wordSum E m w before f ⊕ s) (sum-suc 0 _ ∙ ap (λ s. s ⊕ times E u (wordSum E m w h f)) (sum-none _) ∙ ⊕-zero-l _)
 
--- the sums across
-across-moved : (m w c u : ℕ) (before h : List ℕ) → movedBy u (acrossOf m w c h) (acrossOf m w c before)
-    ≡ acrossOf m w c (combined byteEdition (m * w) before 1 (λ _. u) (λ _. h))
-across-moved m w c u before h =
-    sym (ap₂ (λ a b. record { first = a; second = b }) (word-moved byteEdition m w u before h _) (word-moved byteEdition m w u before h _))
+-- one direction was added, by the unknown that the first sum determines
+pub mended-one : {E : Edition} (S : Sound E) (m w u : ℕ) (before h : List ℕ) (f : ℕ → ℕ → ℕ) → (wordSum E m w h f ≡ 0 → ⊥)
+    → u ≡ times E (wordSum E m w before f) (inverse (E .bits) (E .poly) (wordSum E m w h f))
+    → wordSum E m w (combined E (m * w) before 1 (λ _. u) (λ _. h)) f ≡ 0
+mended-one {E} S m w u before h f n e =
+    word-moved E m w u before h f
+    ∙ ap (λ x. s ⊕ times E x a) e
+    ∙ ap (λ x. s ⊕ x) (product-assoc (E .bits) (E .poly) s _ a ∙ ap (times E s) (product-comm (E .bits) (E .poly) _ a
+    ∙ product-inverse (E .bits) (E .poly) (S .facts .pos) (S .facts .values) (S .facts .tested) a (word-lt E m w h f) n)
+    ∙ product-one (E .bits) (E .poly) (S .facts .pos) s (word-lt E m w before f))
+    ∙ ⊕-self s
+  where
+    a : ℕ
+    a = wordSum E m w h f
 
-pub moved-to : (m w c u : ℕ) (before after h : List ℕ) {a s r : Sums} → r ≡ movedBy u a s → a ≡ acrossOf m w c h → s ≡ acrossOf m w c before
-    → after ≡ combined byteEdition (m * w) before 1 (λ _. u) (λ _. h) → r ≡ acrossOf m w c after
-moved-to m w c u before after h e f g i = e ∙ ap₂ (movedBy u) f g ∙ across-moved m w c u before h ∙ ap (acrossOf m w c) (sym i)
+    s : ℕ
+    s = wordSum E m w before f
+
+-- two were, by unknowns that meet the equation
+pub mended-two : (E : Edition) (m w u v : ℕ) (before middle h k : List ℕ) (f : ℕ → ℕ → ℕ)
+    → times E (wordSum E m w h f) u ⊕ times E (wordSum E m w k f) v ≡ wordSum E m w before f
+    → middle ≡ combined E (m * w) before 1 (λ _. u) (λ _. h)
+    → wordSum E m w (combined E (m * w) middle 1 (λ _. v) (λ _. k)) f ≡ 0
+mended-two E m w u v before middle h k f e g =
+    word-moved E m w v middle k f ∙ ap (λ x. wordSum E m w x f ⊕ times E v b) g ∙ ap (λ x. x ⊕ times E v b) (word-moved E m w u before h f)
+    ∙ ap (λ x. (x ⊕ times E u a) ⊕ times E v b) (sym e) ∙ simp ring
+  where
+    a : ℕ
+    a = wordSum E m w h f
+
+    b : ℕ
+    b = wordSum E m w k f
+
+-- ---- the sums across of bytes, once the free places are mended
+pub one-cleared : (m w c u : ℕ) (before after h : List ℕ) {a s : Sums} {t : ℕ} → (firstAcross byteEdition m w c h ≡ 0 → ⊥) → a ≡ acrossOf m w c h
+    → s ≡ acrossOf m w c before → u ≡ times byteEdition (s .first) (inverse 8 285 (a .first)) → t ≡ times byteEdition u (a .second)
+    → after ≡ combined byteEdition (m * w) before 1 (λ _. u) (λ _. h) → record { first = 0; second = bitXor (s .second) t } ≡ acrossOf m w c after
+one-cleared m w c u before after h n e f g k i =
+    ap₂ (λ x y. record { first = x; second = y })
+    (sym (mended-one bytes-sound m w u before h _ n (g ∙ ap₂ (λ s a. times byteEdition (s .first) (inverse 8 285 (a .first))) f e)))
+    (⊕-bits _ _ ∙ ap₂ (λ s t. s .second ⊕ t) f (k ∙ ap (λ a. times byteEdition u (a .second)) e) ∙ sym (word-moved byteEdition m w u before h _))
+    ∙ ap (acrossOf m w c) (sym i)
 
 -- the unknowns for these sums
-pub solved-sums : {A B S a b s : Sums} {u v : ℕ} → A ≡ a → B ≡ b → S ≡ s → Solved (A .first) (B .first) (A .second) (B .second) (S .first) (S .second) u v
-    → Solved (a .first) (b .first) (a .second) (b .second) (s .first) (s .second) u v
-solved-sums {A} {B} {S} {a} {b} {u = u} {v = v} e f g Q =
-    subst (λ z. Solved (a .first) (b .first) (a .second) (b .second) (z .first) (z .second) u v) g
-    (subst (λ z. Solved (a .first) (z .first) (a .second) (z .second) (S .first) (S .second) u v) f
-    (subst (λ z. Solved (z .first) (B .first) (z .second) (B .second) (S .first) (S .second) u v) e Q))
+pub met-sums : {A B S a b s : Sums} {u v : ℕ} → A ≡ a → B ≡ b → S ≡ s
+    → MetIn byteEdition (A .first) (B .first) (A .second) (B .second) (S .first) (S .second) u v
+    → MetIn byteEdition (a .first) (b .first) (a .second) (b .second) (s .first) (s .second) u v
+met-sums e f g Q = rw (← e, ← f, ← g) Q
 
--- ---- a free place is one for a direction
-pub few-at : {m w c : ℕ} {marks bound : List ℕ} {x a b : ℕ} → BoundAll m w c marks bound → FreePlaces marks bound x a b → length marks ≡ m * w
-    → (i : ℕ) → i < x → BoundFew m w c (freeAt a b i) bound
-few-at K P size i l = record { size = K .size ∙ size; few = K .bound-few; own = P .not-bound i l }
+pub two-cleared : (m w c u v : ℕ) (before middle after h k : List ℕ)
+    → MetIn byteEdition (firstAcross byteEdition m w c h) (firstAcross byteEdition m w c k) (secondAcross byteEdition m w c h)
+    (secondAcross byteEdition m w c k) (firstAcross byteEdition m w c before) (secondAcross byteEdition m w c before) u v
+    → middle ≡ combined byteEdition (m * w) before 1 (λ _. u) (λ _. h) → after ≡ combined byteEdition (m * w) middle 1 (λ _. v) (λ _. k)
+    → record { first = 0; second = 0 } ≡ acrossOf m w c after
+two-cleared m w c u v before middle after h k Q e i =
+    ap₂ (λ x y. record { first = x; second = y }) (sym (mended-two byteEdition m w u v before middle h k _ (Q .first) e))
+    (sym (mended-two byteEdition m w u v before middle h k _ (Q .second) e))
+    ∙ ap (acrossOf m w c) (sym i)

@@ -33,7 +33,7 @@ use Rattle.candidate.specs.Solved.{pairAt}
 use Rattle.candidate.specs.Columns.{Left, Independent, ColumnsIndependent}
 
 -- The places that a test passes, each listed once, are as many as the list is long.
-listed : (n x : ℕ) (f : ℕ → ℕ) (t : ℕ → Bool) → ((i : ℕ) → i < x → f i < n) → ((i : ℕ) → i < x → t (f i) ≡ true)
+pub listed : (n x : ℕ) (f : ℕ → ℕ) (t : ℕ → Bool) → ((i : ℕ) → i < x → f i < n) → ((i : ℕ) → i < x → t (f i) ≡ true)
     → ((i l : ℕ) → i < x → l < x → f i ≡ f l → i ≡ l) → ((p : ℕ) → p < n → t p ≡ true → (i : ℕ) × (i < x) × (p ≡ f i)) → countBelow n t ≡ x
 listed n zero f t less passes apart every = total-zero n _ (λ p l. go p l (t p) refl)
   where
@@ -66,7 +66,7 @@ listed n (suc x) f t less passes apart every =
       | no h ↦ (let l = s .1 in let e : s .0 ≡ x = omega arith in absurd (d (s .2 ∙ ap f e)))
     ]
 
-split : (a b : Bool) → (a && not b) ≡ true → (a ≡ true) × (b ≡ false)
+pub split : (a b : Bool) → (a && not b) ≡ true → (a ≡ true) × (b ≡ false)
 split true true e = absurd (true≢false (sym e))
 split true false e = (refl, refl)
 split false b e = absurd (true≢false (sym e))

@@ -5,6 +5,7 @@ pub mod AssemblyLaws
 pub mod Solved
 pub mod SolvedLaws
 pub mod Mended
-pub mod WholeLaws
 pub mod Columns
 pub mod ColumnsLaws
+pub mod WeightsLaws
+pub mod WholeLaws

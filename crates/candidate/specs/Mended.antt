@@ -5,7 +5,7 @@ use mathlib.Core.List.{List}
 use Prim.Native.Nat.{ℕ, _*_, _/_, _%_, _≤_, _<_}
 use lib.Dec.{T}
 use lib.ListN.{length, getD}
-use Rattle.binary_field.specs.Xor.{_⊕_}
+use Rattle.binary_field.specs.Inverse.{inverse}
 use Rattle.code.specs.Edition.{Edition, times}
 use Rattle.byte_edition.specs.Edition.{byteEdition}
 use Rattle.code.specs.Word.{isLocal, firstAcross, secondAcross}
@@ -15,28 +15,23 @@ use Rattle.code.specs.Repair.{Satisfies}
 use Rattle.code.specs.Stretch.{stretch}
 use Rattle.code.specs.Combined.{combined}
 use Rattle.code.specs.Lone.{lone}
-use Rattle.syndrome.specs.declared.Sums.{Sums}
 use Rattle.erasures.specs.Places.{FreePlaces}
 use Rattle.candidate.specs.Steps.{DirectionIn}
-use Rattle.candidate.specs.Solved.{SolvedIn, SolvedOneIn}
+use Rattle.code.specs.Pair.{MetIn}
 
--- bound marks of a word's length, at most c in each group, and not at place p
+-- bound marks of a word's length, at most c in each group, c in that of place p, and not at p itself
 pub record BoundFew (m w c p : ℕ) (bound : List ℕ) : Type 0 where
   pub size : length bound ≡ m * w
   pub few : (g : ℕ) → g < m → lostIn w bound g ≤ c
+  pub full : lostIn w bound (p / w) ≡ c
   pub own : lost bound p ≡ false
 
--- the two sums across after u times a word with the sums a is added to one with the sums s
-abbrev pub movedBy : ℕ → Sums → Sums → Sums
-movedBy u a s = record { first = s .first ⊕ times byteEdition u (a .first); second = s .second ⊕ times byteEdition u (a .second) }
-
--- one free place p: u times its direction h is added, and u is solved for
+-- one free place p: u times its direction h is added, and u is solved for by the first sum across
 pub record MendedOneIn (E : Edition) (m w c p : ℕ) (bound before after : List ℕ) : Type 0 where
   pub h : List ℕ
   pub way : DirectionIn E w (p % w) (stretch w (p / w) bound) h
   pub u : ℕ
-  pub solved : SolvedOneIn E (firstAcross E m w c (lone m w (p / w) h)) (secondAcross E m w c (lone m w (p / w) h))
-      (firstAcross E m w c before) (secondAcross E m w c before) u
+  pub solved : u ≡ times E (firstAcross E m w c before) (inverse (E .bits) (E .poly) (firstAcross E m w c (lone m w (p / w) h)))
   pub is : after ≡ combined E (m * w) before 1 (λ _. u) (λ _. lone m w (p / w) h)
 
 -- two free places p and q: u times the one direction and v times the other, one after the other
@@ -47,7 +42,7 @@ pub record MendedTwoIn (E : Edition) (m w c p q : ℕ) (bound before after : Lis
   pub way₂ : DirectionIn E w (q % w) (stretch w (q / w) bound) h₂
   pub u : ℕ
   pub v : ℕ
-  pub solved : SolvedIn E (firstAcross E m w c (lone m w (p / w) h₁)) (firstAcross E m w c (lone m w (q / w) h₂))
+  pub solved : MetIn E (firstAcross E m w c (lone m w (p / w) h₁)) (firstAcross E m w c (lone m w (q / w) h₂))
       (secondAcross E m w c (lone m w (p / w) h₁)) (secondAcross E m w c (lone m w (q / w) h₂))
       (firstAcross E m w c before) (secondAcross E m w c before) u v
   pub middle : List ℕ

@@ -3,18 +3,15 @@ use mathlib.Core.Path.{_≡_, refl, sym, ap, ap₂, _∙_, subst}
 use mathlib.Core.List.{List}
 use Prim.Native.Nat.{ℕ, zero, suc, _*_, _^_, _<_, _≤_}
 use native.Mathlib.Omega.{arith}
-use native.Mathlib.Decide.{ℕ-discrete}
 use lib.ListN.{length, getD}
 use lib.Seq.{ext-getD}
 use Rattle.binary_field.specs.Xor.{_⊕_}
-use Rattle.binary_field.specs.XorLaws.{⊕-zero-l, ⊕-zero-r, ⊕-assoc}
-use Rattle.binary_field.specs.Product.{product}
-use Rattle.binary_field.specs.ProductLaws.{product-comm, product-assoc, product-zero, product-one}
+use Rattle.binary_field.specs.XorLaws.{⊕-zero-l, ⊕-zero-r, ⊕-assoc, ⊕-self, ⊕-cancel, ⊕-lt}
+use Rattle.binary_field.specs.ProductLaws.{product-assoc, product-one, ring}
 use Rattle.binary_field.specs.Sum.{sumBelow}
 use Rattle.binary_field.specs.SumLaws.{sum-ext, sum-none, sum-suc}
 use Rattle.binary_field.specs.Inverse.{inverse}
 use Rattle.binary_field.specs.InverseLaws.{product-inverse}
-use Rattle.binary_field.specs.ElementLaws.{one-lt}
 use Rattle.code.specs.Edition.{Edition, Sound, times}
 use Rattle.code.specs.Word.{firstAcross, secondAcross}
 use Rattle.code.specs.WordLaws.{equations}
@@ -24,12 +21,10 @@ use Rattle.code.specs.DeterminedLaws.{list-length}
 use Rattle.code.specs.Combined.{combined}
 use Rattle.code.specs.CombinedLaws.{combined-at}
 use Rattle.code.specs.Recovery.{Agrees}
-use Rattle.solve.specs.Elimination.{entry}
-use Rattle.solve.specs.Kernel.{TrivialKernel}
-use Rattle.solve.specs.Solution.{Solves}
 use Rattle.candidate.specs.Frame.{Frame}
 use Rattle.candidate.specs.FrameLaws.{codeword-combined, codeword-across, ways-independent}
-use Rattle.candidate.specs.Solved.{twoRows, pairAt, SolvedIn, SolvedOneIn}
+use Rattle.code.specs.Pair.{MetIn}
+use Rattle.candidate.specs.Solved.{pairAt}
 
 pub combined-cong : (E : Edition) (n : ℕ) (base : List ℕ) (x : ℕ) {u v : ℕ → ℕ} {H K : ℕ → List ℕ} → ((i : ℕ) → i < x → u i ≡ v i)
     → ((i : ℕ) → i < x → H i ≡ K i)
@@ -63,8 +58,12 @@ quotient {E} S a s y ha hy n e =
 sum-one : (f : ℕ → ℕ) → sumBelow 1 f ≡ f 0
 sum-one f = sum-suc 0 f ∙ ap (λ s. s ⊕ f 0) (sum-none f) ∙ ⊕-zero-l (f 0)
 
-sum-two : (f : ℕ → ℕ) → sumBelow 2 f ≡ f 0 ⊕ f 1
+pub sum-two : (f : ℕ → ℕ) → sumBelow 2 f ≡ f 0 ⊕ f 1
 sum-two f = sum-suc 1 f ∙ ap (λ s. s ⊕ f 1) (sum-one f)
+
+pub pair-lt : {n u v : ℕ} → u < n → v < n → (i : ℕ) → pairAt u v i < n
+pair-lt hu hv zero = hu
+pair-lt hu hv (suc i) = hv
 
 -- one multiple, and then another
 module _ (E : Edition) (m w : ℕ) where
@@ -111,74 +110,47 @@ module _ (E : Edition) (S : Sound E) (m w c : ℕ) (few : m ≤ S .r) (wide : 0 
       sym (combined-none E m w base (λ _. 0) H (F .base-symbols .size))
       ∙ found E S m w c few wide narrow marks bound word base 0 f H F low y A (λ _. 0) (λ i l. absurd (omega arith))
 
-  -- one free place
-  pub found-one : Frame E m w c marks bound word base 1 f H → (u : ℕ)
-      → firstAcross E m w c (H 0) < 2 ^ E .bits → secondAcross E m w c (H 0) < 2 ^ E .bits
-      → SolvedOneIn E (firstAcross E m w c (H 0)) (secondAcross E m w c (H 0)) (firstAcross E m w c base) (secondAcross E m w c base) u
+  -- one free place, whose direction has a first sum that is not 0
+  pub found-one : Frame E m w c marks bound word base 1 f H → (u : ℕ) → firstAcross E m w c (H 0) < 2 ^ E .bits → (firstAcross E m w c (H 0) ≡ 0 → ⊥)
+      → u ≡ times E (firstAcross E m w c base) (inverse (E .bits) (E .poly) (firstAcross E m w c (H 0)))
       → combined E (m * w) base 1 (λ _. u) H ≡ y
-  found-one F u ha hb Q =
-      found E S m w c few wide narrow marks bound word base 1 f H F low y A (λ _. u) (λ i l. at i (is-zero i l) ∙ ap (λ j. getD y (f j) 0) (sym (is-zero i l)))
+  found-one F u ha n e =
+      found E S m w c few wide narrow marks bound word base 1 f H F low y A (λ _. u)
+      (λ i l. e ∙ sym (quotient S _ _ (getD y (f 0) 0) ha (A .codeword .symbols .each (f 0)) n
+      (sym (sum-one _) ∙ across-first E S m w c few wide narrow marks bound word base 1 f H F low y A)) ∙ ap (λ j. getD y (f j) 0) (sym (is-zero i l)))
     where
-      a : ℕ
-      a = firstAcross E m w c (H 0)
-
-      b : ℕ
-      b = secondAcross E m w c (H 0)
-
       is-zero : (i : ℕ) → i < 1 → i ≡ 0
       is-zero i l = omega arith
 
-      b-ne : a ≡ 0 → b ≡ 0 → ⊥
-      b-ne p q =
-          let z : _≡_ {A = ℕ} 1 0 =
-          independent E S m w c few wide narrow marks bound word base 1 f H F low y A (λ _. 1) (λ _. one-lt (S .facts))
-          (sum-one _ ∙ ap (times E 1) p ∙ product-zero (E .bits) (E .poly) 1) (sum-one _ ∙ ap (times E 1) q ∙ product-zero (E .bits) (E .poly) 1) 0
-          (omega arith) in
-          omega arith
-
-      at : (i : ℕ) → i ≡ 0 → u ≡ getD y (f 0) 0
-      at i e = elim (ℕ-discrete a 0) [
-        | yes p ↦
-            Q .by-second p
-            ∙ sym (quotient S b (secondAcross E m w c base) (getD y (f 0) 0) hb (A .codeword .symbols .each (f 0)) (λ q. b-ne p q)
-            (sym (sum-one _) ∙ across-second E S m w c few wide narrow marks bound word base 1 f H F low y A))
-        | no p ↦
-            Q .by-first p
-            ∙ sym (quotient S a (firstAcross E m w c base) (getD y (f 0) 0) ha (A .codeword .symbols .each (f 0)) p
-            (sym (sum-one _) ∙ across-first E S m w c few wide narrow marks bound word base 1 f H F low y A))
-      ]
-
   -- two free places
   pub found-two : Frame E m w c marks bound word base 2 f H → (u v : ℕ)
-      → SolvedIn E (firstAcross E m w c (H 0)) (firstAcross E m w c (H 1)) (secondAcross E m w c (H 0)) (secondAcross E m w c (H 1))
+      → MetIn E (firstAcross E m w c (H 0)) (firstAcross E m w c (H 1)) (secondAcross E m w c (H 0)) (secondAcross E m w c (H 1))
       (firstAcross E m w c base) (secondAcross E m w c base) u v
       → combined E (m * w) base 2 (pairAt u v) H ≡ y
-  found-two F u v Q =
-      found E S m w c few wide narrow marks bound word base 2 f H F low y A (pairAt u v)
-      (λ i l. sym (Q trivial .only (λ i. getD y (f i) 0) (λ i _. A .codeword .symbols .each (f i)) solves i l))
+  found-two F u v Q = found E S m w c few wide narrow marks bound word base 2 f H F low y A (pairAt u v) same
     where
-      M : List (List ℕ)
-      M = twoRows (firstAcross E m w c (H 0)) (firstAcross E m w c (H 1)) (secondAcross E m w c (H 0)) (secondAcross E m w c (H 1))
-          (firstAcross E m w c base) (secondAcross E m w c base)
+      p : ℕ
+      p = getD y (f 0) 0
 
-      -- a row of the system is a sum over the directions
-      row-sum : (g : ℕ → ℕ) (z : ℕ → ℕ) (e : ℕ → ℕ) → e 0 ≡ g 0 → e 1 ≡ g 1 → sumBelow 2 (λ i. product (E .bits) (E .poly) (e i) (z i))
-          ≡ sumBelow 2 (λ i. times E (z i) (g i))
-      row-sum g z e p q =
-          sum-two _ ∙ ap₂ (λ a b. product (E .bits) (E .poly) a (z 0) ⊕ product (E .bits) (E .poly) b (z 1)) p q
-          ∙ ap₂ _⊕_ (product-comm (E .bits) (E .poly) (g 0) (z 0)) (product-comm (E .bits) (E .poly) (g 1) (z 1)) ∙ sym (sum-two _)
+      q : ℕ
+      q = getD y (f 1) 0
 
-      solves : Solves (E .bits) (E .poly) M 2 4 (λ i. getD y (f i) 0)
-      solves zero l =
-          row-sum (λ i. firstAcross E m w c (H i)) (λ i. getD y (f i) 0) (entry M 0) refl refl
-          ∙ across-first E S m w c few wide narrow marks bound word base 2 f H F low y A
-      solves (suc zero) l =
-          row-sum (λ i. secondAcross E m w c (H i)) (λ i. getD y (f i) 0) (entry M 1) refl refl
-          ∙ across-second E S m w c few wide narrow marks bound word base 2 f H F low y A
-      solves (suc (suc e)) l = absurd (omega arith)
+      -- the codeword's symbols meet the equations too, so the difference is a solution with zeros on the right
+      none : (a : ℕ → ℕ) {s : ℕ} → times E (a 0) u ⊕ times E (a 1) v ≡ s → sumBelow 2 (λ i. times E (getD y (f i) 0) (a i)) ≡ s
+          → sumBelow 2 (λ i. times E (pairAt (u ⊕ p) (v ⊕ q) i) (a i)) ≡ 0
+      none a {s} e g = sum-two _ ∙ spread (a 0) (a 1) ∙ ap₂ _⊕_ e (sym (sum-two _) ∙ g) ∙ ⊕-self s
+        where
+          spread : (a b : ℕ) → times E (u ⊕ p) a ⊕ times E (v ⊕ q) b ≡ (times E a u ⊕ times E b v) ⊕ (times E p a ⊕ times E q b)
+          spread a b = simp ring
 
-      trivial : TrivialKernel (E .bits) (E .poly) M 2
-      trivial z small k =
-          independent E S m w c few wide narrow marks bound word base 2 f H F low y A z small
-          (sym (row-sum (λ i. firstAcross E m w c (H i)) z (entry M 0) refl refl) ∙ k 0 (omega arith))
-          (sym (row-sum (λ i. secondAcross E m w c (H i)) z (entry M 1) refl refl) ∙ k 1 (omega arith))
+      differ : (i : ℕ) → i < 2 → pairAt (u ⊕ p) (v ⊕ q) i ≡ 0
+      differ =
+          independent E S m w c few wide narrow marks bound word base 2 f H F low y A (pairAt (u ⊕ p) (v ⊕ q))
+          (pair-lt (⊕-lt (E .bits) u p (Q .u-lt) (A .codeword .symbols .each (f 0))) (⊕-lt (E .bits) v q (Q .v-lt) (A .codeword .symbols .each (f 1))))
+          (none (λ i. firstAcross E m w c (H i)) (Q .first) (across-first E S m w c few wide narrow marks bound word base 2 f H F low y A))
+          (none (λ i. secondAcross E m w c (H i)) (Q .second) (across-second E S m w c few wide narrow marks bound word base 2 f H F low y A))
+
+      same : (i : ℕ) → i < 2 → pairAt u v i ≡ getD y (f i) 0
+      same zero l = ⊕-cancel (differ 0 l)
+      same (suc zero) l = ⊕-cancel (differ 1 l)
+      same (suc (suc i)) l = absurd (omega arith)

@@ -12,11 +12,11 @@ use Rattle.counting.specs.Test.{anyBelow}
 use Rattle.counting.specs.TestLaws.{any-at, none-at}
 use Rattle.binary_field.specs.Xor.{_⊕_}
 use Rattle.binary_field.specs.XorLaws.{⊕-zero-r, ⊕-self}
-use Rattle.binary_field.specs.ProductLaws.{product-lt, product-zero}
-use Rattle.binary_field.specs.SumLaws.{sum-lt, sum-zero}
+use Rattle.binary_field.specs.ProductLaws.{product-zero}
+use Rattle.binary_field.specs.SumLaws.{sum-zero}
 use Rattle.shape.specs.Shapes.{GoodIn}
 use Rattle.code.specs.Edition.{Edition, Sound, times}
-use Rattle.code.specs.Word.{groupSum, wordSum, localSum, Symbols}
+use Rattle.code.specs.Word.{localSum, Symbols}
 use Rattle.code.specs.WordLaws.{local-zero, zero-local}
 use Rattle.code.specs.Marks.{lost, lostIn, excess}
 use Rattle.code.specs.DeterminedLaws.{local-unique}
@@ -37,6 +37,7 @@ use Rattle.candidate.specs.Steps.{Blanked, GroupsFilledIn, DirectionIn}
 use Rattle.candidate.specs.AssemblyLaws.{wayOf, frame}
 use Rattle.candidate.specs.Solved.{pairAt}
 use Rattle.candidate.specs.SolvedLaws.{combined-length, combined-cong, combined-none, combined-two, found-none, found-one, found-two}
+use Rattle.candidate.specs.WeightsLaws.{few-at, word-lt, first-weight}
 use Rattle.candidate.specs.Mended.{MendedOneIn, MendedTwoIn, MendedIn, IsCandidateIn}
 
 -- a free place is lost and not bound
@@ -54,10 +55,6 @@ no-free marks bound p n e = go (lost marks p) refl
     go : (a : Bool) → lost marks p ≡ a → a ≡ false
     go true d = sym (ap₂ (λ a b. a && not b) d e) ∙ n
     go false d = refl
-
-word-lt : (E : Edition) (m w : ℕ) (word : List ℕ) (h : ℕ → ℕ → ℕ) → wordSum E m w word h < 2 ^ E .bits
-unfolding wordSum groupSum
-word-lt E m w word h = sum-lt (E .bits) m _ (λ g _. sum-lt (E .bits) w _ (λ j _. product-lt (E .bits) (E .poly) _ _))
 
 module _ {E : Edition} (S : Sound E) (m w c : ℕ) (good : GoodIn (E .limits) m w c) (marks bound word blanked base out : List ℕ)
     (word-symbols : Symbols E (m * w) word) (base-symbols : Symbols E (m * w) base) (size : length marks ≡ m * w)
@@ -146,7 +143,8 @@ module _ {E : Edition} (S : Sound E) (m w c : ℕ) (good : GoodIn (E .limits) m 
     with-one : FreePlaces marks bound 1 p q → MendedOneIn E m w c p bound base out → IsCandidateIn E m w c marks word out
     with-one P M =
         of-frame 1 (freeAt p q) H (λ _. M .u) F (M .is ∙ combined-cong E (m * w) base 1 (λ _ _. refl) (λ i l. ways i l))
-        (λ low y A. found-one E S m w c few wide narrow marks bound word base _ H low y A F (M .u) (word-lt E m w _ _) (word-lt E m w _ _) (M .solved))
+        (λ low y A. found-one E S m w c few wide narrow marks bound word base _ H low y A F (M .u) (word-lt E m w _ _)
+        (first-weight S m w c good bound p (subst (λ n. p < n) size (P .less 0 (omega arith))) (few-at wide K P size 0 (omega arith)) (M .h) (M .way)) (M .solved))
       where
         H : ℕ → List ℕ
         H = wayOf m w (freeAt p q) (λ _. M .h)

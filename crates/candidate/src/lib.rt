@@ -7,14 +7,16 @@ ghost use lib.ListN.{length, take};
 ghost use Rattle.shape.specs.Shapes.{Good};
 ghost use Rattle.code.specs.Marks.{lost, lostIn};
 ghost use Rattle.byte_edition.specs.Edition.{byteEdition};
+ghost use Rattle.binary_field.specs.Xor.{_⊕_};
+ghost use Rattle.code.specs.Edition.{times};
 ghost use Rattle.code.specs.Combined.{combined};
 ghost use Rattle.code.specs.Lone.{lone};
 ghost use Rattle.code.specs.Stretch.{stretch};
 ghost use Rattle.syndrome.specs.Across.{acrossOf, noSums};
 ghost use Rattle.erasures.specs.Whole.{BoundAll};
 ghost use Rattle.candidate.specs.Steps.{Blanked, GroupsFilled, Direction, ZeroFrom, Added};
-ghost use Rattle.candidate.specs.Solved.{Solved, SolvedOne};
-ghost use Rattle.candidate.specs.Mended.{BoundFew, movedBy, MendedOne, MendedTwo, Mended, IsCandidate};
+ghost use Rattle.code.specs.Pair.{MetIn};
+ghost use Rattle.candidate.specs.Mended.{BoundFew, MendedOne, MendedTwo, Mended, IsCandidate};
 
 // A byte, and 0 where its mark says that it is lost.
 fn unless_lost(mark: u8, byte: u8) -> u8
@@ -82,38 +84,27 @@ fn add_multiple(u: u8, h: &[u8], part: &mut [u8])
     }
 }
 
-// The unknown of one free place, from its coefficients a and b in the two sums across and what they have to come to.
-fn one_unknown(a: u8, b: u8, s: u8, t: u8) -> u8
-    ensures { λ r. ⌜ SolvedOne a b s t r ⌝ }
-{
-    if a == 0 {
-        gf256::shifted_product(t, gf256::inverse(b))
-    } else {
-        gf256::shifted_product(s, gf256::inverse(a))
-    }
-}
-
 // The unknowns of two free places.
 struct Unknowns {
     first: u8,
     second: u8,
 }
 
-// The two unknowns, from their coefficients in the two sums across and what they have to come to.
+// The two unknowns, from their coefficients in the two sums across and what they have to come to, by the determinant, which is not 0.
 fn two_unknowns(a1: u8, a2: u8, b1: u8, b2: u8, s: u8, t: u8) -> Unknowns
-    ensures { λ r. ⌜ Solved a1 a2 b1 b2 s t (r .first) (r .second) ⌝ }
+    requires { ⌜ (times byteEdition a1 b2 ⊕ times byteEdition a2 b1 ≡ 0 → ⊥) ⌝ }
+    ensures { λ r. ⌜ MetIn byteEdition a1 a2 b1 b2 s t (r .first) (r .second) ⌝ }
 {
-    let rows = [
-        [a1, a2, 0, 0, s, 0, 0, 0, 0, 0, 0, 0, 0, 0, 0, 0],
-        [b1, b2, 0, 0, t, 0, 0, 0, 0, 0, 0, 0, 0, 0, 0, 0],
-        [0; 16],
-        [0; 16],
-    ];
-    let r = solve::eliminate(rows, 2);
-    Unknowns {
-        first: r[0][4],
-        second: r[1][4],
-    }
+    let i = gf256::inverse(gf256::shifted_product(a1, b2) ^ gf256::shifted_product(a2, b1));
+    let first = gf256::shifted_product(
+        i,
+        gf256::shifted_product(s, b2) ^ gf256::shifted_product(t, a2),
+    );
+    let second = gf256::shifted_product(
+        i,
+        gf256::shifted_product(a1, t) ^ gf256::shifted_product(b1, s),
+    );
+    Unknowns { first, second }
 }
 
 // Adds u times the direction h to group g of the word.
@@ -153,17 +144,8 @@ fn weights(m: usize, w: usize, c: usize, g: usize, h: [u8; 16]) -> Sums
     syndrome::group_sums(&h, c, g)
 }
 
-// The two sums across of a word, after u times a direction with the coefficients a was added to it.
-fn moved(s: Sums, u: u8, a: Sums) -> Sums
-    ensures { λ r. ⌜ r ≡ movedBy u a s ⌝ }
-{
-    let first = s.first ^ gf256::shifted_product(u, a.first);
-    let second = s.second ^ gf256::shifted_product(u, a.second);
-    Sums { first, second }
-}
-
-// Sets the one free place p, and with it the bound places of its group, so that the sums across, which are s, become zero if they can be.
-// It gives back what they have become.
+// Sets the one free place p, and with it the bound places of its group, so that the sums across, which are s, become zero if they can be:
+// the first does, since the direction's is not 0. It gives back what they have become.
 fn mend_one(m: usize, w: usize, c: usize, p: usize, bound: &[u8], word: &mut [u8], s: Sums) -> Sums
     requires { ⌜ Good m w c ⌝ }
     requires { ⌜ length (now word) ≡ m * w ⌝ }
@@ -176,12 +158,13 @@ fn mend_one(m: usize, w: usize, c: usize, p: usize, bound: &[u8], word: &mut [u8
     let g = p / w;
     let h = way(m, w, c, p, bound);
     let a = weights(m, w, c, g, h);
-    let u = one_unknown(a.first, a.second, s.first, s.second);
+    let u = gf256::shifted_product(s.first, gf256::inverse(a.first));
     add_direction(m, w, g, u, h, word);
-    moved(s, u, a)
+    let second = s.second ^ gf256::shifted_product(u, a.second);
+    Sums { first: 0, second }
 }
 
-// The same for two free places p and q.
+// The same for two free places p and q: both sums become zero.
 fn mend_two(
     m: usize,
     w: usize,
@@ -194,7 +177,7 @@ fn mend_two(
 ) -> Sums
     requires { ⌜ Good m w c ⌝ }
     requires { ⌜ length (now word) ≡ m * w ⌝ }
-    requires { ⌜ (p < m * w) × (q < m * w) ⌝ }
+    requires { ⌜ (p < m * w) × (q < m * w) × (p ≡ q → ⊥) ⌝ }
     requires { ⌜ BoundFew m w c p (now bound) ⌝ }
     requires { ⌜ BoundFew m w c q (now bound) ⌝ }
     requires { ⌜ s ≡ acrossOf m w c (now word) ⌝ }
@@ -210,8 +193,10 @@ fn mend_two(
     let u = two_unknowns(a.first, b.first, a.second, b.second, s.first, s.second);
     add_direction(m, w, g, u.first, h, word);
     add_direction(m, w, i, u.second, k, word);
-    let t = moved(s, u.first, a);
-    moved(t, u.second, b)
+    Sums {
+        first: 0,
+        second: 0,
+    }
 }
 
 // Sets the first two free places, or as many as there are, so that the sums across are zero if they can be, and gives these sums back.

@@ -113,6 +113,12 @@ module _ (E : Edition) (S : Sound E) (m w c : ℕ) (few : m ≤ S .r) (wide : 0 
       ap₂ (times E) (pow-value (S .facts) _ ((g * w + j) / w) ∙ ap (raised E 2) (digits-div g l))
       (pow-value (S .facts) (coeff₁ (layout geometry) (g * w + j)) (suc (S .r)) ∙ ap₂ (raised E) (first-value g j l) (sym (S .small-is)))
 
+  -- the share of a group in the first sum across
+  pub first-group : (word : List ℕ) (g : ℕ)
+      → (dot (field (S .facts)) (group geometry g) (symbol E S m w c few wide narrow word) (coeff₁ (layout geometry))) .0
+      ≡ groupSum E w word g (coefficient E c)
+  first-group word g = group-value word g (coeff₁ (layout geometry)) _ (λ j l a. ap (times E a) (first-value g j l))
+
   first-sum : (word : List ℕ) → (Abstract.word-dot (layout geometry) (symbol E S m w c few wide narrow word) (coeff₁ (layout geometry))) .0
       ≡ firstAcross E m w c word
   first-sum word = word-value word (coeff₁ (layout geometry)) _ (λ g j l a. ap (times E a) (first-value g j l))

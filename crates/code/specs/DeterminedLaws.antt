@@ -3,7 +3,7 @@ use mathlib.Core.Path.{_≡_, refl, sym, ap, ap₂, _∙_, subst}
 use mathlib.Core.Bool.{false}
 use mathlib.Core.List.{List}
 use Prim.Native.Nat.{ℕ, zero, suc, _+_, _*_, _/_, _%_, _<_, _≤_, _^_}
-use native.Mathlib.Nat.{mod-eq-of-lt}
+use native.Mathlib.Nat.{mod-eq-of-lt, zero-mod}
 use native.Mathlib.Omega.{arith}
 use native.Mathlib.Decide.{decLt, decLe}
 use lib.Arith.{digits-div, digits-mod}
@@ -18,7 +18,7 @@ use Rattle.binary_field.specs.ProductLaws.{product-low-r}
 use Rattle.binary_field.specs.Element.{Element, reduced}
 use Rattle.binary_field.specs.ElementLaws.{field, tower, element-lt, same-value}
 use Rattle.code.specs.Edition.{Edition, Sound, times}
-use Rattle.code.specs.Word.{localSum, Symbols, Codeword, coefficient, secondCoefficient}
+use Rattle.code.specs.Word.{groupSum, localSum, Symbols, Codeword, coefficient, secondCoefficient}
 use Rattle.code.specs.WordLaws.{equations, is-codeword}
 use Rattle.code.specs.Marks.{lost, lostIn, excess, Agree}
 use Rattle.code.specs.Blank.{blank}
@@ -180,3 +180,27 @@ local-unique E S w v g wide narrow marks x y sx sy same agree few j l =
     at-place p h e =
         let t = group-at G g p h in
         ap (reduced (E .bits)) (ap (λ i. getD x i 0) (t .2) ∙ agree (t .0) (t .1) (ap (lost marks) (sym (t .2)) ∙ e) ∙ ap (λ i. getD y i 0) (sym (t .2)))
+
+-- One group alone, with its share of the first sum across: a word whose first c local sums and whose share are zero there, and that is zero
+-- but at c + 1 of the group's places, is zero on the whole group.
+pub first-zero : (E : Edition) (S : Sound E) (w c g : ℕ) → 0 < w → w ≤ E .small → (marks x : List ℕ)
+    → ((e : ℕ) → e < c → localSum E w x g e ≡ 0) → groupSum E w x g (coefficient E c) ≡ 0
+    → ((j : ℕ) → j < w → lost marks (g * w + j) ≡ false → getD x (g * w + j) 0 ≡ 0)
+    → lostIn w marks g ≡ suc c → (j : ℕ) → j < w → getD x (g * w + j) 0 % 2 ^ E .bits ≡ 0
+unfolding BridgeLaws.geometry Bridge.symbol
+first-zero E S w c g wide narrow marks x own share off few j l =
+    ap (λ (s : Element (E .bits)). s .0)
+    (FlatLaws.first-zero G g (lost marks) (Bridge.symbol E S 0 w c none wide narrow x)
+    (λ e h. same-value (E .bits) (BridgeLaws.local-value E S 0 w c none wide narrow x g e ∙ own e h))
+    (same-value (E .bits) (BridgeLaws.first-group E S 0 w c none wide narrow x g ∙ share))
+    (λ p h e. let t = group-at G g p h in
+    same-value (E .bits)
+    (ap (λ a. a % 2 ^ E .bits) (ap (λ i. getD x i 0) (t .2) ∙ off (t .0) (t .1) (ap (lost marks) (sym (t .2)) ∙ e)) ∙ zero-mod (2 ^ E .bits)))
+    (BridgeLaws.group-lost E S 0 w c none wide narrow marks g ∙ few) (g * w + j)
+    (subst (λ i. (g * w + j) ∈ group G i) (digits-div g l) (in-group G (g * w + j))))
+  where
+    none : 0 ≤ S .r
+    none = omega arith
+
+    G : Geometry (field (S .facts)) (tower (S .facts))
+    G = BridgeLaws.geometry E S 0 w c none wide narrow

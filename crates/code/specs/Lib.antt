@@ -1,4 +1,6 @@
 pub mod Edition
+pub mod Pair
+pub mod PairLaws
 pub mod Word
 pub mod WordLaws
 pub mod Marks
@@ -26,6 +28,7 @@ pub mod LoneLaws
 pub mod Repair
 pub mod RepairLaws
 pub mod ContradictionLaws
+pub mod MarksLaws
 pub mod OneGroup
 pub mod OneGroupLaws
 pub mod RepairOrder

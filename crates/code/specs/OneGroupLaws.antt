@@ -1,13 +1,13 @@
 -- The repair of one group under the rule of recovery: undetermined exactly where more than c of its places are lost.
 use mathlib.Core.Path.{_≡_, refl, sym, ap, _∙_, subst}
 use mathlib.Core.Logic.{_↔_}
-use mathlib.Core.Bool.{Bool, true, false}
+use mathlib.Core.Bool.{Bool, true, false, true≢false}
 use mathlib.Core.List.{List}
-use Prim.Native.Nat.{ℕ, _+_, _*_, _<_, _≤_, _^_}
+use Prim.Native.Nat.{ℕ, suc, _+_, _*_, _%_, _<_, _≤_, _^_}
 use native.Mathlib.Nat.{mod-eq-of-lt, div-eq-of-lt}
 use native.Mathlib.Omega.{arith}
-use native.Mathlib.Decide.{decLt, decLe}
-use lib.ListN.{length, getD, List·getD-eq-default}
+use native.Mathlib.Decide.{decLt, decLe, ℕ-discrete}
+use lib.ListN.{length, getD, set, List·getD-eq-default}
 use lib.Seq.{ext-getD}
 use Rattle.algebra.specs.Lists.{_∈_, filter}
 use Rattle.algebra.specs.Vandermonde.{psum}
@@ -17,17 +17,18 @@ use Rattle.algebra.specs.Flat as Flat
 use Rattle.algebra.specs.FlatLaws as FlatLaws
 use Rattle.algebra.specs.OneGroupLaws.{beyond-group, way-group}
 use Rattle.binary_field.specs.Element.{Element}
-use Rattle.binary_field.specs.ElementLaws.{field, tower, element-lt, same-value}
+use Rattle.binary_field.specs.ElementLaws.{field, tower, element-lt, same-value, one-lt}
 use Rattle.code.specs.Edition.{Edition, Sound}
-use Rattle.code.specs.Word.{localSum, Symbols}
+use Rattle.code.specs.Word.{groupSum, localSum, coefficient, Symbols}
 use Rattle.code.specs.WordLaws.{local-zero, zero-local}
 use Rattle.code.specs.Marks.{lost, lostIn, Agree}
+use Rattle.code.specs.MarksLaws.{marked-other, marked-own, marked-count}
 use Rattle.code.specs.Blank.{blank}
 use Rattle.code.specs.BlankLaws.{blank-at, blank-symbols, blank-group}
 use Rattle.code.specs.Bridge as Bridge
 use Rattle.code.specs.BridgeLaws as BridgeLaws
 use Rattle.code.specs.Determined.{listOf}
-use Rattle.code.specs.DeterminedLaws.{list-length, list-at, local-unique}
+use Rattle.code.specs.DeterminedLaws.{list-length, list-at, local-unique, first-zero}
 use Rattle.code.specs.FillingLaws.{filling-symbols}
 use Rattle.code.specs.Outcome.{Outcome}
 use Rattle.code.specs.StretchLaws.{own-place}
@@ -116,6 +117,23 @@ module _ (E : Edition) (S : Sound E) (w : ℕ) (wide : 0 < w) (narrow : w ≤ E 
         off = λ i k f n. symbols-at (W .x) (W .outside) i ∙ ap (λ (s : Element (E .bits)). s .0) (W .off i f n);
         zero = λ i k. symbols-zero (W .x) (W .outside) i (W .meets i (subst (λ n. i < n) (sym (group-lost kept)) k));
       }
+
+  -- The share of such a stretch in the first sum across is not 0, where c places are kept: with place j they would be c + 1, and the stretch zero
+  -- on the whole group.
+  pub way-share : (c : ℕ) (kept : List ℕ) → length kept ≡ w → lostIn w kept 0 ≡ c → (j : ℕ) → j < w → lost kept j ≡ false
+      → (h : List ℕ) → getD h j 0 ≡ 1 → ((i : ℕ) → i < w → lost kept i ≡ false → ¬ (i ≡ j) → getD h i 0 ≡ 0)
+      → ((e : ℕ) → e < lostIn w kept 0 → localSum E w h 0 e ≡ 0) → groupSum E w h 0 (coefficient E c) ≡ 0 → ⊥
+  way-share c kept long full j l free h own off zero share =
+      let e = sym (mod-eq-of-lt (one-lt (S .facts))) ∙ ap (λ a. a % 2 ^ E .bits) (sym own ∙ ap (λ i. getD h i 0) (sym (own-place w j)))
+      ∙ first-zero E S w c 0 wide narrow (set kept j 1) h (λ e k. zero e (subst (λ n. e < n) (sym full) k)) share rest
+      (marked-count w kept j l long free ∙ ap suc full) j l in
+      omega arith
+    where
+      rest : (i : ℕ) → i < w → lost (set kept j 1) (0 * w + i) ≡ false → getD h (0 * w + i) 0 ≡ 0
+      rest i k f = ap (λ q. getD h q 0) (own-place w i) ∙ elim (ℕ-discrete i j) [
+        | yes q ↦ absurd (true≢false (sym (marked-own kept j (subst (λ n. j < n) (sym long) l)) ∙ ap (lost (set kept j 1)) (sym (own-place w i ∙ q)) ∙ f))
+        | no q ↦ off i k (sym (marked-other kept j i q) ∙ ap (lost (set kept j 1)) (sym (own-place w i)) ∙ f) q
+      ]
 
 module _ (E : Edition) (S : Sound E) (w c : ℕ) (wide : 0 < w) (narrow : w ≤ E .small) (marks : List ℕ) where
   -- at most c lost places are determined

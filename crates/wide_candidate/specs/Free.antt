@@ -1,4 +1,5 @@
--- One or two free places within a word, with bound marks for their directions.
+-- One or two different free places within a word, with bound marks for their directions.
+use mathlib.Core.Path.{_≡_}
 use Prim.Native.Nat.{ℕ, _*_, _≤_, _<_}
 use mathlib.Core.List.{List}
 use Rattle.erasures.specs.declared.Free.{Free}
@@ -10,3 +11,4 @@ pub record OneOrTwo (m w c : ℕ) (f : Free) (bound : List ℕ) : Type 0 where
   pub most : f .count ≤ 2
   pub less : (i : ℕ) → i < f .count → freeAt (f .first) (f .second) i < m * w
   pub few : (i : ℕ) → i < f .count → BoundFew m w c (freeAt (f .first) (f .second) i) bound
+  pub apart : f .count ≡ 2 → f .first ≡ f .second → ⊥

@@ -1,5 +1,2 @@
-pub mod Two
-pub mod TwoLaws
 pub mod Free
-pub mod Moved
-pub mod MovedLaws
+pub mod ClearedLaws

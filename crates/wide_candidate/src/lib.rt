@@ -2,22 +2,22 @@
 use erasures::Free;
 use wide_across::Sums;
 ghost use mathlib.Core.Path.{_≡_};
-ghost use mathlib.Core.Bool.{true, false};
+ghost use mathlib.Core.Bool.{false};
 ghost use Prim.Native.Nat.{ℕ, _*_, _/_, _%_, _≤_, _<_};
 ghost use lib.ListN.{length, replicate};
 ghost use Rattle.shape.specs.Shapes.{GoodIn};
 ghost use Rattle.code.specs.Marks.{lost, lostIn};
 ghost use Rattle.wide_edition.specs.Edition.{wideLimits, wideEdition};
+ghost use Rattle.binary_field.specs.Xor.{_⊕_};
+ghost use Rattle.code.specs.Edition.{times};
 ghost use Rattle.code.specs.Combined.{combined};
 ghost use Rattle.code.specs.Lone.{lone};
 ghost use Rattle.code.specs.Stretch.{stretch};
 ghost use Rattle.wide_across.specs.Across.{acrossOf, noSums};
 ghost use Rattle.erasures.specs.Whole.{BoundAll};
 ghost use Rattle.candidate.specs.Steps.{Blanked, GroupsFilledIn, DirectionIn, AddedIn};
-ghost use Rattle.candidate.specs.Solved.{SolvedIn, SolvedOneIn};
-ghost use Rattle.wide_candidate.specs.Two.{MetIn};
+ghost use Rattle.code.specs.Pair.{MetIn};
 ghost use Rattle.wide_candidate.specs.Free.{OneOrTwo};
-ghost use Rattle.wide_candidate.specs.Moved.{movedBy};
 ghost use Rattle.candidate.specs.Mended.{BoundFew, MendedOneIn, MendedTwoIn, MendedIn, IsCandidateIn};
 
 // Writes word into base, with 0 in the lost places.
@@ -81,41 +81,24 @@ fn add_multiple(u: u16, h: &[u16], part: &mut [u16])
     }
 }
 
-// The unknown of one free place, from its coefficients a and b in the two sums across and what they have to come to.
-fn one_unknown(a: u16, b: u16, s: u16, t: u16) -> u16
-    ensures { λ r. ⌜ SolvedOneIn wideEdition a b s t r ⌝ }
-{
-    if a == 0 {
-        wide_field::product(t, wide_solve::inverse(b))
-    } else {
-        wide_field::product(s, wide_solve::inverse(a))
-    }
-}
-
-// The unknowns of two free places, and whether they meet their equations.
+// The unknowns of two free places.
 struct Unknowns {
     first: u16,
     second: u16,
-    solved: bool,
 }
 
-// The two unknowns, from their coefficients in the two sums across and what they have to come to.
+// The two unknowns, from their coefficients in the two sums across and what they have to come to, by the determinant, which is not 0.
 fn two_unknowns(a1: u16, a2: u16, b1: u16, b2: u16, s: u16, t: u16) -> Unknowns
-    ensures { λ r. ⌜ SolvedIn wideEdition a1 a2 b1 b2 s t (r .first) (r .second) ⌝ }
-    ensures { λ r. ⌜ (r .solved ≡ true → MetIn wideEdition a1 a2 b1 b2 s t (r .first) (r .second)) ⌝ }
+    requires { ⌜ (times wideEdition a1 b2 ⊕ times wideEdition a2 b1 ≡ 0 → ⊥) ⌝ }
+    ensures { λ r. ⌜ MetIn wideEdition a1 a2 b1 b2 s t (r .first) (r .second) ⌝ }
 {
     let mut x = [a1, a2, s, t, a1, b1, 0, 0];
     let y = [b2, b1, b2, a2, t, s, 0, 0];
     wide_sums::multiply(&mut x, &y);
-    let d = x[0] ^ x[1];
-    let i = wide_solve::inverse(d);
+    let i = wide_solve::inverse(x[0] ^ x[1]);
     let first = wide_field::product(i, x[2] ^ x[3]);
     let second = wide_field::product(i, x[4] ^ x[5]);
-    Unknowns {
-        first,
-        second,
-        solved: d != 0,
-    }
+    Unknowns { first, second }
 }
 
 // Adds u times the direction h to group g of the word.
@@ -157,44 +140,8 @@ fn way(m: usize, w: usize, c: usize, p: usize, bound: &[u8], h: &mut [u16]) -> S
     weights(m, w, c, g, h)
 }
 
-// The two sums across of a word, after u times a direction with the coefficients a was added to it.
-fn moved(s: Sums, u: u16, a: Sums) -> Sums
-    ensures { λ r. ⌜ r ≡ movedBy u a s ⌝ }
-{
-    let first = s.first ^ wide_field::product(u, a.first);
-    let second = s.second ^ wide_field::product(u, a.second);
-    Sums { first, second }
-}
-
-// The same where u is the unknown of the one free place: a first sum that it was solved from becomes 0.
-fn moved_one(s: Sums, u: u16, a: Sums) -> Sums
-    requires { ⌜ SolvedOneIn wideEdition (a .first) (a .second) (s .first) (s .second) u ⌝ }
-    ensures { λ r. ⌜ r ≡ movedBy u a s ⌝ }
-{
-    if a.first == 0 {
-        return moved(s, u, a);
-    }
-    let second = s.second ^ wide_field::product(u, a.second);
-    Sums { first: 0, second }
-}
-
-// The same for the two unknowns of two directions: both sums become 0 where these meet their equations.
-fn moved_two(s: Sums, u: Unknowns, a: Sums, b: Sums) -> Sums
-    requires { ⌜ (u .solved ≡ true → MetIn wideEdition (a .first) (b .first) (a .second) (b .second) (s .first) (s .second) (u .first) (u .second)) ⌝ }
-    ensures { λ r. ⌜ r ≡ movedBy (u .second) b (movedBy (u .first) a s) ⌝ }
-{
-    if u.solved {
-        return Sums {
-            first: 0,
-            second: 0,
-        };
-    }
-    let t = moved(s, u.first, a);
-    moved(t, u.second, b)
-}
-
-// Sets the one free place p, and with it the bound places of its group, so that the sums across, which are s, become zero if they can be.
-// It gives back what they have become. The direction is worked out in h, which comes as zeros.
+// Sets the one free place p, and with it the bound places of its group, so that the sums across, which are s, become zero if they can be:
+// the first does, since the direction's is not 0. It gives back what they have become. The direction is worked out in h, which comes as zeros.
 fn mend_one(
     m: usize,
     w: usize,
@@ -216,12 +163,13 @@ fn mend_one(
 {
     let g = p / w;
     let a = way(m, w, c, p, bound, h);
-    let u = one_unknown(a.first, a.second, s.first, s.second);
+    let u = wide_field::product(s.first, wide_solve::inverse(a.first));
     add_direction(m, w, g, u, h, word);
-    moved_one(s, u, a)
+    let second = s.second ^ wide_field::product(u, a.second);
+    Sums { first: 0, second }
 }
 
-// The same for two free places p and q, with room for two directions.
+// The same for two free places p and q, with room for two directions: both sums become zero.
 fn mend_two(
     m: usize,
     w: usize,
@@ -236,7 +184,7 @@ fn mend_two(
 ) -> Sums
     requires { ⌜ GoodIn wideLimits m w c ⌝ }
     requires { ⌜ length (now word) ≡ m * w ⌝ }
-    requires { ⌜ (p < m * w) × (q < m * w) ⌝ }
+    requires { ⌜ (p < m * w) × (q < m * w) × (p ≡ q → ⊥) ⌝ }
     requires { ⌜ BoundFew m w c p (now bound) ⌝ }
     requires { ⌜ BoundFew m w c q (now bound) ⌝ }
     requires { ⌜ s ≡ acrossOf m w c (now word) ⌝ }
@@ -251,7 +199,10 @@ fn mend_two(
     let u = two_unknowns(a.first, b.first, a.second, b.second, s.first, s.second);
     add_direction(m, w, g, u.first, h, word);
     add_direction(m, w, i, u.second, k, word);
-    moved_two(s, u, a, b)
+    Sums {
+        first: 0,
+        second: 0,
+    }
 }
 
 // The same for the one or two free places f.

@@ -1,8 +1,9 @@
 use mathlib.Core.Path.{_≡_, refl}
+use Prim.Native.Nat.{_<_}
 use native.Mathlib.Omega.{arith}
 use borrow.Author.Needs.{needs}
 use Rattle.candidate.specs.Mended.{MendedIn}
-use Rattle.candidate.proofs.Laws.{few-at}
+use Rattle.candidate.specs.WeightsLaws.{few-at}
 use Rattle.candidate.proofs.mend.Statement.{statement}
 use Rattle.candidate.proofs.mend.Tie as tie
 
@@ -18,9 +19,10 @@ mend-one-requires c κs =
     let f = x .before .before in
     let s = f .before .before .before .before in
     let P = f .free-places .ensures .0 in
+    let wide : 0 < s .args .w = (let h = s .pre .0 .wide in omega arith) in
     let l = P .less 0 (omega arith) in (
       s .pre .0,
-      (s .pre .1 .0, (omega arith, (few-at (s .pre .1 .1 .1) P (s .pre .1 .1 .0) 0 (omega arith), x .across .ensures .0 (s .pre .0) (s .pre .1 .0)))),
+      (s .pre .1 .0, (omega arith, (few-at wide (s .pre .1 .1 .1) P (s .pre .1 .1 .0) 0 (omega arith), x .across .ensures .0 (s .pre .0) (s .pre .1 .0)))),
     )
 
 same-length : tie.Need-same-length
@@ -38,16 +40,17 @@ mend-two-requires c κs =
     let f = x .before .before in
     let s = f .before .before .before .before in
     let P = f .free-places .ensures .0 in
+    let wide : 0 < s .args .w = (let h = s .pre .0 .wide in omega arith) in
     let l = P .less 0 (omega arith) in
     let k = P .less 1 (omega arith) in (
       s .pre .0,
       (
         s .pre .1 .0,
         (
-          (omega arith, omega arith),
+          (omega arith, omega arith, λ e. let z = P .apart 0 1 (omega arith) (omega arith) e in omega arith),
           (
-            few-at (s .pre .1 .1 .1) P (s .pre .1 .1 .0) 0 (omega arith),
-            (few-at (s .pre .1 .1 .1) P (s .pre .1 .1 .0) 1 (omega arith), x .across .ensures .0 (s .pre .0) (s .pre .1 .0)),
+            few-at wide (s .pre .1 .1 .1) P (s .pre .1 .1 .0) 0 (omega arith),
+            (few-at wide (s .pre .1 .1 .1) P (s .pre .1 .1 .0) 1 (omega arith), x .across .ensures .0 (s .pre .0) (s .pre .1 .0)),
           ),
         ),
       ),

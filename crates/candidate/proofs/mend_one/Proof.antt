@@ -1,6 +1,12 @@
+use mathlib.Core.Path.{ap, _∙_}
+use Prim.Native.Nat.{_/_}
 use lib.ListN.{take}
 use borrow.Author.Needs.{needs}
-use Rattle.candidate.proofs.Laws.{group-lt, moved-to}
+use Rattle.binary_field.specs.Product.{product}
+use Rattle.code.specs.Lone.{lone}
+use Rattle.byte_edition.specs.EditionLaws.{bytes-sound}
+use Rattle.candidate.specs.WeightsLaws.{first-weight}
+use Rattle.candidate.proofs.Laws.{group-lt, one-cleared}
 use Rattle.candidate.proofs.mend_one.Statement.{statement}
 use Rattle.candidate.proofs.mend_one.Tie as tie
 
@@ -16,38 +22,47 @@ weights-requires c κs =
     let a = s .args in
     (s .pre .0, (group-lt (a .m) (a .w) (a .c) (a .p) (s .pre .0) (s .pre .1 .1 .0), c .way .ensures .1))
 
-one-unknown-requires : tie.Need-one-unknown-requires
-one-unknown-requires c κs = search needs
+inverse-requires : tie.Need-inverse-requires
+inverse-requires c κs = search needs
+
+shifted-product-requires : tie.Need-shifted-product-requires
+shifted-product-requires c κs = search needs
 
 add-direction-requires : tie.Need-add-direction-requires
 add-direction-requires c κs =
-    let s = c .before .before .before .before .before .before in
+    let s = c .before .before .before .before .before .before .before in
     let a = s .args in
     (s .pre .0 .narrow, (group-lt (a .m) (a .w) (a .c) (a .p) (s .pre .0) (s .pre .1 .1 .0), s .pre .1 .0))
+
+shifted-product-requires-2 : tie.Need-shifted-product-requires-2
+shifted-product-requires-2 c κs = search needs
 
 same-length : tie.Need-same-length
 same-length c = search needs
 
-moved-requires : tie.Need-moved-requires
-moved-requires c κs = search needs
-
 returns : tie.Need-returns
 returns c =
-    let d = c .before .before .before in
-    let u = d .before .before in
-    let k = u .before in
+    let t = c .before in
+    let d = t .before .before .before in
+    let q = d .before .before in
+    let n = q .before in
+    let k = n .before in
     let v = k .before in
     let s = v .before .before .before in
-    let a = s .args in (
+    let a = s .args in
+    let h = take (a .w) (v .way .result) in
+    let here = s .pre .1 .1 .1 .1 in
+    let u = q .shifted-product .ensures ∙ ap (product 8 285 _) (n .inverse .ensures) in (
       record {
-        h = take (a .w) (v .way .result);
+        h = h;
         way = v .way .ensures .0;
-        u = u .one-unknown .result;
-        solved = rw (k .weights .ensures, s .pre .1 .1 .1 .1) at (u .one-unknown .ensures);
+        u = q .shifted-product .result;
+        solved = rw (k .weights .ensures, here) at u;
         is = d .add-direction .ensures;
       },
-      moved-to (a .m) (a .w) (a .c) (u .one-unknown .result) (a .word .now) _ _ (c .moved .ensures) (k .weights .ensures) (s .pre .1 .1 .1 .1)
-          (d .add-direction .ensures),
+      one-cleared (a .m) (a .w) (a .c) _ (a .word .now) _ (lone (a .m) (a .w) (a .p / a .w) h)
+          (first-weight bytes-sound (a .m) (a .w) (a .c) (s .pre .0) (a .bound .now) (a .p) (s .pre .1 .1 .0) (s .pre .1 .1 .1 .0) h (v .way .ensures .0))
+          (k .weights .ensures) here u (t .shifted-product2 .ensures) (d .add-direction .ensures),
     )
 
 pub mend-one-spec : {M : Type 1} → statement M
@@ -57,8 +72,9 @@ mend-one-spec =
     div-g
     way-requires
     weights-requires
-    one-unknown-requires
+    inverse-requires
+    shifted-product-requires
     add-direction-requires
-    moved-requires
+    shifted-product-requires-2
     same-length
     returns)

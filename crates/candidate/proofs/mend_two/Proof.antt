@@ -1,10 +1,15 @@
-use mathlib.Core.Path.{ap, _∙_}
-use Prim.Native.Nat.{_*_}
+use mathlib.Core.Path.{sym, ap, ap₂, _∙_}
+use Prim.Native.Nat.{_*_, _/_}
 use lib.ListN.{length, take}
 use borrow.Author.Needs.{needs}
+use Rattle.binary_field.specs.Xor.{_⊕_}
+use Rattle.code.specs.Edition.{times}
+use Rattle.code.specs.Lone.{lone}
 use Rattle.byte_edition.specs.Edition.{byteEdition}
+use Rattle.byte_edition.specs.EditionLaws.{bytes-sound}
+use Rattle.candidate.specs.WeightsLaws.{two-weights}
 use Rattle.candidate.specs.SolvedLaws.{combined-length}
-use Rattle.candidate.proofs.Laws.{group-lt, moved-to, solved-sums}
+use Rattle.candidate.proofs.Laws.{group-lt, met-sums, two-cleared}
 use Rattle.candidate.proofs.mend_two.Statement.{statement}
 use Rattle.candidate.proofs.mend_two.Tie as tie
 
@@ -33,7 +38,16 @@ weights-requires-2 c κs =
     (s .pre .0, (group-lt (a .m) (a .w) (a .c) (a .q) (s .pre .0) (s .pre .1 .1 .0 .1), c .way2 .ensures .1))
 
 two-unknowns-requires : tie.Need-two-unknowns-requires
-two-unknowns-requires c κs = search needs
+two-unknowns-requires c κs =
+    let y = c .before in
+    let k = y .before in
+    let v = k .before in
+    let s = v .before .before .before in
+    let a = s .args in
+    let P = s .pre .1 .1 in
+    λ z. two-weights bytes-sound (a .m) (a .w) (a .c) (s .pre .0) (a .bound .now) (a .p) (a .q) (P .0 .0) (P .0 .1) (P .0 .2) (P .1 .0) (P .1 .1 .0)
+    (take (a .w) (v .way .result)) (take (a .w) (y .way2 .result)) (v .way .ensures .0) (y .way2 .ensures .0)
+    (sym (ap₂ (λ x y. times byteEdition (x .first) (y .second) ⊕ times byteEdition (y .first) (x .second)) (k .weights .ensures) (c .weights2 .ensures)) ∙ z)
 
 add-direction-requires : tie.Need-add-direction-requires
 add-direction-requires c κs =
@@ -57,15 +71,9 @@ add-direction-requires-2 c κs =
 same-length : tie.Need-same-length
 same-length c = search needs
 
-moved-requires : tie.Need-moved-requires
-moved-requires c κs = search needs
-
-moved-requires-2 : tie.Need-moved-requires-2
-moved-requires-2 c κs = search needs
-
 returns : tie.Need-returns
 returns c =
-    let e = c .before .before .before .before in
+    let e = c .before .before in
     let d = e .before .before .before .before in
     let u = d .before .before in
     let l = u .before in
@@ -74,23 +82,24 @@ returns c =
     let v = k .before in
     let s = v .before .before .before in
     let a = s .args in
-    let here = s .pre .1 .1 .1 .1 .1 in (
+    let h = take (a .w) (v .way .result) in
+    let i = take (a .w) (y .way2 .result) in
+    let middle = d .add-direction .last .1 .1 .1 .1 .1 .0 in
+    let met = met-sums (k .weights .ensures) (l .weights2 .ensures) (s .pre .1 .1 .1 .1 .1) (u .two-unknowns .ensures) in (
       record {
-        h₁ = take (a .w) (v .way .result);
-        h₂ = take (a .w) (y .way2 .result);
+        h₁ = h;
+        h₂ = i;
         way₁ = v .way .ensures .0;
         way₂ = y .way2 .ensures .0;
         u = u .two-unknowns .result .first;
         v = u .two-unknowns .result .second;
-        solved = solved-sums (k .weights .ensures) (l .weights2 .ensures) here (u .two-unknowns .ensures);
-        middle = d .add-direction .last .1 .1 .1 .1 .1 .0;
+        solved = met;
+        middle = middle;
         first = d .add-direction .ensures;
         second = e .add-direction2 .ensures;
       },
-      moved-to (a .m) (a .w) (a .c) (u .two-unknowns .result .second) (d .add-direction .last .1 .1 .1 .1 .1 .0) _ _ (c .moved2 .ensures) (l .weights2 .ensures)
-          (moved-to (a .m) (a .w) (a .c) (u .two-unknowns .result .first) (a .word .now) _ _ (c .before .moved .ensures) (k .weights .ensures) here
-          (d .add-direction .ensures))
-          (e .add-direction2 .ensures),
+      two-cleared (a .m) (a .w) (a .c) _ _ (a .word .now) middle _ (lone (a .m) (a .w) (a .p / a .w) h) (lone (a .m) (a .w) (a .q / a .w) i) met
+          (d .add-direction .ensures) (e .add-direction2 .ensures),
     )
 
 pub mend-two-spec : {M : Type 1} → statement M
@@ -106,7 +115,5 @@ mend-two-spec =
     two-unknowns-requires
     add-direction-requires
     add-direction-requires-2
-    moved-requires
-    moved-requires-2
     same-length
     returns)

@@ -1,30 +1,74 @@
+use mathlib.Core.Path.{_≡_, ap, ap₂, _∙_}
+use Prim.Native.Nat.{ℕ}
+use lib.Bits.{bitXor}
 use borrow.Author.Needs.{needs}
+use Rattle.binary_field.specs.Xor.{_⊕_}
+use Rattle.binary_field.specs.XorLaws.{⊕-bits}
+use Rattle.binary_field.specs.Product.{product}
+use Rattle.binary_field.specs.Inverse.{inverse}
 use Rattle.byte_edition.specs.EditionLaws.{bytes-sound}
-use Rattle.candidate.proofs.Laws.{two-solved}
+use Rattle.code.specs.PairLaws.{two-met}
 use Rattle.candidate.proofs.two_unknowns.Statement.{statement}
 use Rattle.candidate.proofs.two_unknowns.Tie as tie
 
-eliminate-requires : tie.Need-eliminate-requires
-eliminate-requires c κs = search needs
+shifted-product-requires : tie.Need-shifted-product-requires
+shifted-product-requires c κs = search needs
 
-index-1-t18 : tie.Need-index-1-t18
-index-1-t18 c = search needs
+shifted-product-requires-2 : tie.Need-shifted-product-requires-2
+shifted-product-requires-2 c κs = search needs
 
-index-2-t18 : tie.Need-index-2-t18
-index-2-t18 c = search needs
+inverse-requires : tie.Need-inverse-requires
+inverse-requires c κs = search needs
 
-index-1-t23 : tie.Need-index-1-t23
-index-1-t23 c = search needs
+shifted-product-requires-3 : tie.Need-shifted-product-requires-3
+shifted-product-requires-3 c κs = search needs
 
-index-2-t23 : tie.Need-index-2-t23
-index-2-t23 c = search needs
+shifted-product-requires-4 : tie.Need-shifted-product-requires-4
+shifted-product-requires-4 c κs = search needs
+
+shifted-product-requires-5 : tie.Need-shifted-product-requires-5
+shifted-product-requires-5 c κs = search needs
+
+shifted-product-requires-6 : tie.Need-shifted-product-requires-6
+shifted-product-requires-6 c κs = search needs
+
+shifted-product-requires-7 : tie.Need-shifted-product-requires-7
+shifted-product-requires-7 c κs = search needs
+
+shifted-product-requires-8 : tie.Need-shifted-product-requires-8
+shifted-product-requires-8 c κs = search needs
+
+-- the sum of two that are known
+sum-of : {x y a b : ℕ} → x ≡ a → y ≡ b → bitXor x y ≡ a ⊕ b
+sum-of {x} {y} e f = ⊕-bits x y ∙ ap₂ _⊕_ e f
 
 returns : tie.Need-returns
 returns c =
-    let e = c .before .before in
-    let f = e .before .fits in
-    two-solved bytes-sound (f .a1 .fits) (f .a2 .fits) (f .b1 .fits) (f .b2 .fits) (f .s .fits) (f .t .fits) (e .eliminate .ensures)
+    let seventh = c .before in
+    let sixth = seventh .before in
+    let fifth = sixth .before in
+    let fourth = fifth .before in
+    let third = fourth .before in
+    let i = third .before in
+    let second = i .before in
+    let first = second .before in
+    let s = first .before in
+    two-met bytes-sound (s .fits .s .fits) (s .fits .t .fits) (s .pre)
+    (i .inverse .ensures ∙ ap (inverse 8 285) (sum-of (first .shifted-product .ensures) (second .shifted-product2 .ensures)))
+    (fifth .shifted-product5 .ensures ∙ ap (product 8 285 _) (sum-of (third .shifted-product3 .ensures) (fourth .shifted-product4 .ensures)))
+    (c .shifted-product8 .ensures ∙ ap (product 8 285 _) (sum-of (sixth .shifted-product6 .ensures) (seventh .shifted-product7 .ensures)))
 
 pub two-unknowns-spec : {M : Type 1} → statement M
 two-unknowns-spec =
-    tie.close (tie.spec eliminate-requires index-1-t18 index-2-t18 index-1-t23 index-2-t23 returns)
+    tie.close
+    (tie.spec
+    shifted-product-requires
+    shifted-product-requires-2
+    inverse-requires
+    shifted-product-requires-3
+    shifted-product-requires-4
+    shifted-product-requires-5
+    shifted-product-requires-6
+    shifted-product-requires-7
+    shifted-product-requires-8
+    returns)

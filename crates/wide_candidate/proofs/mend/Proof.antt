@@ -8,7 +8,7 @@ use Rattle.erasures.specs.declared.Free.{Free}
 use Rattle.erasures.specs.Whole.{BoundAll}
 use Rattle.erasures.specs.Places.{FreePlaces, freeAt}
 use Rattle.candidate.specs.Mended.{MendedOneIn, MendedTwoIn, MendedIn}
-use Rattle.candidate.proofs.Laws.{few-at}
+use Rattle.candidate.specs.WeightsLaws.{few-at}
 use Rattle.wide_edition.specs.Edition.{wideLimits, wideEdition}
 use Rattle.wide_across.specs.declared.Sums.{Sums}
 use Rattle.wide_across.specs.Across.{acrossOf}
@@ -31,7 +31,8 @@ asked m w c n f word {bound = bound} good size long K P some e l = (good, (size,
       some = some;
       most = P .most;
       less = λ i h. subst (λ k. freeAt (f .first) (f .second) i < k) long (P .less i h);
-      few = few-at K P long;
+      few = few-at (let h = good .wide in omega arith) K P long;
+      apart = λ k e. let z = P .apart 0 1 (omega arith) (omega arith) e in omega arith;
     }
 
 mended : {m w c : ℕ} {marks bound before after : List ℕ} {x p q : ℕ} → FreePlaces marks bound x p q → 0 < x

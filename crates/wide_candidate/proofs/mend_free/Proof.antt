@@ -27,7 +27,8 @@ mend-two-requires c κs =
     let p = s .pre .1 .1 in
     let P = p .0 in
     let two : 1 < s .args .f .count = omega arith in
-    (s .pre .0, (s .pre .1 .0, ((P .less 0 (P .some), P .less 1 two), (P .few 0 (P .some), (P .few 1 two, p .1)))))
+    let most = P .most in
+    (s .pre .0, (s .pre .1 .0, ((P .less 0 (P .some), P .less 1 two, P .apart (omega arith)), (P .few 0 (P .some), (P .few 1 two, p .1)))))
 
 same-length-3 : tie.Need-same-length-3
 same-length-3 c = search needs

@@ -1,10 +1,15 @@
-use mathlib.Core.Path.{refl, ap, _∙_}
-use Prim.Native.Nat.{_*_}
+use mathlib.Core.Path.{sym, ap, ap₂, _∙_}
+use Prim.Native.Nat.{_*_, _/_}
 use lib.ListN.{length}
+use Rattle.binary_field.specs.Xor.{_⊕_}
+use Rattle.code.specs.Edition.{times}
+use Rattle.code.specs.Lone.{lone}
+use Rattle.candidate.specs.WeightsLaws.{two-weights}
 use Rattle.candidate.specs.SolvedLaws.{combined-length}
 use Rattle.candidate.proofs.Laws.{group-lt}
 use Rattle.wide_edition.specs.Edition.{wideEdition}
-use Rattle.wide_candidate.specs.MovedLaws.{moved-to, solved-sums}
+use Rattle.wide_edition.specs.EditionLaws.{wide-sound}
+use Rattle.wide_candidate.specs.ClearedLaws.{met-sums, two-cleared}
 use borrow.Author.Needs.{needs}
 use Rattle.wide_candidate.proofs.mend_two.Statement.{statement}
 use Rattle.wide_candidate.proofs.mend_two.Tie as tie
@@ -26,7 +31,15 @@ way-requires-2 c κs =
     (s .pre .0, (s .pre .1 .1 .0 .1, (s .pre .1 .1 .1 .1 .0, s .pre .1 .1 .1 .1 .1 .1 .1)))
 
 two-unknowns-requires : tie.Need-two-unknowns-requires
-two-unknowns-requires c κs = search needs
+two-unknowns-requires c κs =
+    let y = c .before .before in
+    let v = y .before .before .before .before in
+    let s = v .before .before .before .before .before .before in
+    let a = s .args in
+    let P = s .pre .1 .1 in
+    λ z. two-weights wide-sound (a .m) (a .w) (a .c) (s .pre .0) (a .bound .now) (a .p) (a .q) (P .0 .0) (P .0 .1) (P .0 .2) (P .1 .0) (P .1 .1 .0)
+    _ _ (v .way .ensures .0) (y .way2 .ensures .0)
+    (sym (ap₂ (λ x y. times wideEdition (x .first) (y .second) ⊕ times wideEdition (y .first) (x .second)) (v .way .ensures .1) (y .way2 .ensures .1)) ∙ z)
 
 add-direction-requires : tie.Need-add-direction-requires
 add-direction-requires c κs =
@@ -48,10 +61,6 @@ add-direction-requires-2 c κs =
       ),
     )
 
-moved-two-requires : tie.Need-moved-two-requires
-moved-two-requires c κs =
-    let u = c .before .before .before .before .before .before .before .before .before .before in u .two-unknowns .ensures .1
-
 same-length : tie.Need-same-length
 same-length c = search needs
 
@@ -63,30 +72,31 @@ same-length-3 c = search needs
 
 returns : tie.Need-returns
 returns c =
-    let e = c .before .before .before in
+    let e = c .before .before in
     let d = e .before .before .before .before .before in
     let u = d .before .before .before in
     let y = u .before .before .before in
     let v = y .before .before .before .before in
     let s = v .before .before .before .before .before .before in
     let a = s .args in
-    let here = s .pre .1 .1 .1 .1 .1 .0 in
-    let middle = d .add-direction .last .1 .1 .1 .1 .1 .0 in (
+    let h = v .way .last .1 .1 .1 .1 .1 .0 in
+    let i = y .way2 .last .1 .1 .1 .1 .1 .0 in
+    let middle = d .add-direction .last .1 .1 .1 .1 .1 .0 in
+    let met = met-sums (v .way .ensures .1) (y .way2 .ensures .1) (s .pre .1 .1 .1 .1 .1 .0) (u .two-unknowns .ensures) in (
       record {
-        h₁ = v .way .last .1 .1 .1 .1 .1 .0;
-        h₂ = y .way2 .last .1 .1 .1 .1 .1 .0;
+        h₁ = h;
+        h₂ = i;
         way₁ = v .way .ensures .0;
         way₂ = y .way2 .ensures .0;
         u = u .two-unknowns .result .first;
         v = u .two-unknowns .result .second;
-        solved = solved-sums (v .way .ensures .1) (y .way2 .ensures .1) here (u .two-unknowns .ensures .0);
+        solved = met;
         middle = middle;
         first = d .add-direction .ensures;
         second = e .add-direction2 .ensures;
       },
-      moved-to (a .m) (a .w) (a .c) (u .two-unknowns .result .second) middle _ _ (c .moved-two .ensures) (y .way2 .ensures .1)
-          (moved-to (a .m) (a .w) (a .c) (u .two-unknowns .result .first) (a .word .now) _ _ refl (v .way .ensures .1) here (d .add-direction .ensures))
-          (e .add-direction2 .ensures),
+      two-cleared (a .m) (a .w) (a .c) _ _ (a .word .now) middle _ (lone (a .m) (a .w) (a .p / a .w) h) (lone (a .m) (a .w) (a .q / a .w) i) met
+          (d .add-direction .ensures) (e .add-direction2 .ensures),
     )
 
 pub mend-two-spec : {M : Type 1} → statement M
@@ -100,7 +110,6 @@ mend-two-spec =
     two-unknowns-requires
     add-direction-requires
     add-direction-requires-2
-    moved-two-requires
     same-length
     same-length-2
     same-length-3

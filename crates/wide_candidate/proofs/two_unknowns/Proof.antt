@@ -1,11 +1,9 @@
-use mathlib.Core.Path.{_≡_, refl, sym, ap, ap₂, _∙_}
-use mathlib.Core.Bool.{not, true≢false}
+use mathlib.Core.Path.{_≡_, refl, ap, ap₂, _∙_}
 use mathlib.Core.List.{List}
 use Prim.Native.Nat.{ℕ, _<_}
 use lib.Dec.{lit<}
 use lib.Bits.{bitXor}
 use lib.ListN.{length, getD}
-use borrow.Author.Tests.{eq-eqb}
 use Rattle.binary_field.specs.Xor.{_⊕_}
 use Rattle.binary_field.specs.XorLaws.{⊕-bits}
 use Rattle.binary_field.specs.Product.{product}
@@ -14,7 +12,7 @@ use Rattle.code.specs.Edition.{times}
 use Rattle.wide_edition.specs.Edition.{wideEdition}
 use Rattle.wide_sums.specs.PowerSums.{EachTimes}
 use Rattle.wide_edition.specs.EditionLaws.{wide-sound}
-use Rattle.wide_candidate.specs.TwoLaws.{two-met, two-by-determinant}
+use Rattle.code.specs.PairLaws.{two-met}
 use borrow.Author.Needs.{needs}
 use Rattle.wide_candidate.proofs.two_unknowns.Statement.{statement}
 use Rattle.wide_candidate.proofs.two_unknowns.Tie as tie
@@ -28,11 +26,11 @@ slice-aggregate-multiply-2 c = search needs
 multiply-requires : tie.Need-multiply-requires
 multiply-requires c κs = search needs
 
-array-read-d : tie.Need-array-read-d
-array-read-d c = search needs
+array-read-inverse : tie.Need-array-read-inverse
+array-read-inverse c = search needs
 
-array-read-d-2 : tie.Need-array-read-d-2
-array-read-d-2 c = search needs
+array-read-inverse-2 : tie.Need-array-read-inverse-2
+array-read-inverse-2 c = search needs
 
 inverse-requires : tie.Need-inverse-requires
 inverse-requires c κs = search needs
@@ -68,13 +66,9 @@ returns c =
     let s = m .before .before .before in
     let f = s .fits in
     let T = m .multiply .ensures .0 refl in
-    let d = sum-of T 0 1 (lit< tt) (lit< tt) in
-    let hi = i .inverse .ensures ∙ ap (inverse 16 69643) d in
-    let hu = p .product .ensures ∙ ap (product 16 69643 (i .inverse .result)) (sum-of T 2 3 (lit< tt) (lit< tt)) in
-    let hv = c .product2 .ensures ∙ ap (product 16 69643 (i .inverse .result)) (sum-of T 4 5 (lit< tt) (lit< tt)) in (
-      two-by-determinant wide-sound (f .s .fits) (f .t .fits) (i .inverse .result) hi hu hv (f .a1 .fits) (f .a2 .fits) (f .b1 .fits) (f .b2 .fits),
-      λ e. two-met wide-sound (f .s .fits) (f .t .fits) (i .inverse .result) hi hu hv (λ z. true≢false (sym e ∙ ap not (eq-eqb _ 0 (d ∙ z)))),
-    )
+    two-met wide-sound (f .s .fits) (f .t .fits) (s .pre) (i .inverse .ensures ∙ ap (inverse 16 69643) (sum-of T 0 1 (lit< tt) (lit< tt)))
+    (p .product .ensures ∙ ap (product 16 69643 (i .inverse .result)) (sum-of T 2 3 (lit< tt) (lit< tt)))
+    (c .product2 .ensures ∙ ap (product 16 69643 (i .inverse .result)) (sum-of T 4 5 (lit< tt) (lit< tt)))
 
 pub two-unknowns-spec : {M : Type 1} → statement M
 two-unknowns-spec =
@@ -83,8 +77,8 @@ two-unknowns-spec =
     slice-aggregate-multiply
     slice-aggregate-multiply-2
     multiply-requires
-    array-read-d
-    array-read-d-2
+    array-read-inverse
+    array-read-inverse-2
     inverse-requires
     array-read-product
     array-read-product-2
