@@ -1,6 +1,6 @@
 /* Block rebuild over the block's length, beside the stock libraries ISA-L and Jerasure on the same blocks: megabytes of blocks a second, lost ones
  * included. Every group has lost c places, and the first one none or two more. The library works everything out in each call and tests that the present
- * bytes contradict nothing; the stock libraries multiply a matrix by the blocks and test nothing, with the matrix made beforehand, or anew for
+ * bytes contradict nothing; the stock libraries multiply a matrix by the blocks and test nothing, with the matrix ready before, or inverted in
  * each call by their own inversion. Best of many rounds; in each round every way is timed in turn. */
 #include <stdio.h>
 #include <stdlib.h>
@@ -13,7 +13,7 @@
 #include "stock.h"
 
 enum { MOST = 65536, WAYS = 5, ROUNDS = 15 };
-static const char *ways[WAYS] = {"library", "ISA-L, matrix beforehand", "ISA-L, anew", "Jerasure, matrix beforehand", "Jerasure, anew"};
+static const char *ways[WAYS] = {"library", "ISA-L, matrix ready", "ISA-L, inverting", "Jerasure, matrix ready", "Jerasure, inverting"};
 
 static uint8_t blocks[MOST] __attribute__((aligned(64))), whole[MOST], marks[PLACES], lost[PLACES];
 static struct plan plans[2];

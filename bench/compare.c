@@ -1,11 +1,11 @@
 /* Encode, recover and repair through the exported functions, beside plain C with logarithm tables and the stock libraries ISA-L and
  * Jerasure, which work with the same polynomial and so do the very same code.
  *
- * The library and plain C take one word a call, and work everything out anew from its marks each time; both also test that the present bytes
+ * The library and plain C take one word a call, and compute everything from its marks each time; both also test that the present bytes
  * contradict nothing. The stock libraries multiply a matrix by buffers and test nothing. They are timed in three ways:
- * - batch: 4,096 words with the same losses a call, place p of all of them in one buffer; the matrix and its tables are made beforehand;
- * - single: one word a call, spread over buffers of 64 bytes, the shortest for which both have fast loops; matrix and tables beforehand;
- * - anew: as single, but matrix and tables are made for every word, with the stock library's own inversion.
+ * - batch: 4,096 words with the same losses a call, place p of all of them in one buffer; the matrix and its tables are ready before;
+ * - single: one word a call, spread over buffers of 64 bytes, the shortest for which both have fast loops; matrix and tables are ready before;
+ * - inverting: as single, but matrix and tables are made for every word, with the stock library's own inversion.
  * They are called group by group, with only those sources that its lost places depend on. Every word that is made must be the codeword.
  * Rounds are many and short, a millisecond or so each way, so that the best of them was not interrupted. */
 #include <stdio.h>
@@ -18,7 +18,7 @@
 #include "record.h"
 #include "stock.h"
 
-enum { BATCH = 4096, CALLS = 128, SINGLES = 16, ANEWS = 1, ROUNDS = 300, SLOT = 64, STRIDE = BATCH + SLOT, WAYS = 8 };
+enum { BATCH = 4096, CALLS = 128, SINGLES = 16, INVERSIONS = 1, ROUNDS = 300, SLOT = 64, STRIDE = BATCH + SLOT, WAYS = 8 };
 enum service { ENCODE, RECOVER, REPAIR };
 
 /* a service on a shape with these marks; it needs the places from one to before another, all or one group's */
@@ -100,12 +100,12 @@ static void single(const struct scene *s, const struct stock *stock, struct plan
   for (int p = s->from; p < s->to; p++) if (s->marks[p]) word[p] = slot[p][0];
 }
 
-static double time_singles(const struct scene *s, const struct stock *stock, int count, int anew) {
+static double time_singles(const struct scene *s, const struct stock *stock, int count, int inverting) {
   static struct plan plan;
   int refused = make_plan(stock, s->m, s->w, s->c, s->marks, &plan);
   double start = now();
   for (int i = 0; i < count; i++) {
-    if (anew) refused |= make_plan(stock, s->m, s->w, s->c, s->marks, &plan);
+    if (inverting) refused |= make_plan(stock, s->m, s->w, s->c, s->marks, &plan);
     single(s, stock, &plan, lent[i]);
   }
   double t = now() - start;
@@ -125,10 +125,10 @@ static double time_way(const struct scene *s, int way) {
   clean_registers();
   if (way < 2) return time_calls(s, way ? plain_call : library_call);
   if (way % 3 == 2) return time_batch(s, stock);
-  return way % 3 ? time_singles(s, stock, ANEWS, 1) : time_singles(s, stock, SINGLES, 0);
+  return way % 3 ? time_singles(s, stock, INVERSIONS, 1) : time_singles(s, stock, SINGLES, 0);
 }
 
-/* nanoseconds a word each way, best of the rounds; a shape's own matrix is never made anew to encode */
+/* nanoseconds a word each way, best of the rounds; an encoding needs no inversion: its matrix is the shape's own */
 static void measure(const struct scene *s, double best[WAYS]) {
   make_words(s);
   for (int way = 0; way < WAYS; way++) best[way] = 1e9;
@@ -166,7 +166,7 @@ static void print_line(const struct scene *s, const double value[WAYS]) {
 }
 
 static void record_line(const struct scene *s, const double value[WAYS]) {
-  static const char *ways[] = {"library", "plain C", "ISA-L, batch", "ISA-L, single", "ISA-L, anew", "Jerasure, batch", "Jerasure, single", "Jerasure, anew"};
+  static const char *ways[] = {"library", "plain C", "ISA-L, batch", "ISA-L, single", "ISA-L, inverting", "Jerasure, batch", "Jerasure, single", "Jerasure, inverting"};
   static const char *names[] = {"encode", "recover, excess", "repair of a group"};
   char name[32];
   snprintf(name, sizeof name, s->service == RECOVER ? "%s %d" : "%s", names[s->service], s->excess);
@@ -175,7 +175,7 @@ static void record_line(const struct scene *s, const double value[WAYS]) {
 }
 
 static void print_head(const char *title) {
-  static const char *ways[] = {"library", "plain C", "I batch", "I single", "I anew", "J batch", "J single", "J anew"};
+  static const char *ways[] = {"library", "plain C", "I batch", "I single", "I invert", "J batch", "J single", "J invert"};
   printf("\n%s; I is ISA-L, J is Jerasure\n\n| %-17s | %-8s |", title, "service", "shape");
   for (int way = 0; way < WAYS; way++) printf(" %8s |", ways[way]);
   printf("\n|%.*s|%.*s|", 19, rule, 10, rule);

@@ -2,11 +2,11 @@
  * Every group has lost c places, and the first group as many more as the excess says.
  *
  * - library: axlebloom_rebuild;
- * - columns: axlebloom_recover on word after word, first all to test them and then all to write them;
- * - products, tables: plain C that takes the same steps and makes the same test, by a row of 256 products for each constant (gcc -O2), and by the
+ * - word by word: axlebloom_recover on word after word, first all to test them and then all to write them;
+ * - C products, C tables: plain C that takes the same steps and makes the same test, by a row of 256 products for each constant (gcc -O2), and by the
  *   library's own loops (gcc -O3, which works on sixteen bytes at once);
- * - ISA-L, Jerasure: the same steps and the same test by the stock libraries' sums, with the constants and their tables made for the call (anew), or
- *   made beforehand (ready). Jerasure wants blocks that begin at multiples of sixteen and are as long: it has a copy of them, whose making is not timed.
+ * - I steps, J steps: the same steps and the same test by the sums of ISA-L and Jerasure, with the constants and their tables made for the call, or
+ *   made before it (ready). Jerasure wants blocks that begin at multiples of sixteen and are as long: it has a copy of them, whose making is not timed.
  * Each way must give back the blocks that were lost, and must see a wrong byte if an equation is left over to see it by. */
 #include <isa-l/erasure_code.h>
 #include <jerasure.h>
@@ -18,6 +18,7 @@
 
 #include "axlebloom.h"
 #include "axlebloom_blocks.h"
+#include "record.h"
 #include "rows.h"
 
 enum { MOST = 65536, STACK = 1 << 16, PAINT = 0xA5, WAYS = 8, ROUNDS = 25, SUMS = GROUPS + 1 };
@@ -98,7 +99,7 @@ static int isal_ready(void) {
   return 0;
 }
 
-static int isal_anew(void) { return isal_prepare(), isal_ready(); }
+static int isal_steps(void) { return isal_prepare(), isal_ready(); }
 
 /* Jerasure, on the copy whose blocks begin at multiples of sixteen */
 static int test_matrix[SUMS][MOST_ROWS * PLACES], write_matrix[SUMS][MOST_ROWS * PLACES];
@@ -134,11 +135,12 @@ static int jerasure_ready(void) {
   return 0;
 }
 
-static int jerasure_anew(void) { return jerasure_prepare(), jerasure_ready(); }
+static int jerasure_steps(void) { return jerasure_prepare(), jerasure_ready(); }
 
 static const struct way { const char *name; int (*call)(void); void (*before)(void); } ways[WAYS] = {
-  {"library", library, NULL}, {"columns", columns, NULL}, {"products", by_products, NULL}, {"tables", by_tables, NULL},
-  {"I anew", isal_anew, NULL}, {"I ready", isal_ready, isal_prepare}, {"J anew", jerasure_anew, NULL}, {"J ready", jerasure_ready, jerasure_prepare},
+  {"library", library, NULL}, {"word by word", columns, NULL}, {"C products", by_products, NULL}, {"C tables", by_tables, NULL},
+  {"I steps", isal_steps, NULL}, {"I steps ready", isal_ready, isal_prepare},
+  {"J steps", jerasure_steps, NULL}, {"J steps ready", jerasure_ready, jerasure_prepare},
 };
 
 static int aligned_way(int i) { return i >= WAYS - 2; }
@@ -217,6 +219,9 @@ static void measure(size_t excess) {
   printf("| %zu x %zu, %zu | %zu | %zu |", m, w, c, length, excess);
   for (int i = 0; i < WAYS; i++) printf(" %.*f |", n * length / best[i] < 1e8, n * length / best[i] / 1e6);
   printf("\n");
+  char service[16];
+  snprintf(service, sizeof service, "excess %d", (int)excess);
+  for (int i = 0; i < WAYS; i++) record("steps", service, m, w, c, length, ways[i].name, n * length, best[i] * 1e9);
 }
 
 int main(void) {

@@ -1,6 +1,6 @@
 /* A figure for the table and the plot that bench/all makes: one line of the file that the environment variable BENCH_TABLE names, fields separated by
  * tabs. Where it is not set, nothing is written.
- *   edition      bytes, sixteen bits or blocks
+ *   edition      bytes, sixteen bits, blocks, or steps for the second table
  *   service      as encode, or recover, excess 2
  *   m, w, c      the shape
  *   length       the bytes of a block; 1 for words

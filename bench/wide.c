@@ -1,8 +1,8 @@
 /* The sixteen-bit edition through the exported functions, beside plain C with logarithm tables and beside Jerasure with GF-Complete at w = 16,
  * whose own polynomial for it is 69643: nanoseconds a call in one run, and the stack that calls on a word of 4,096 symbols take.
  *
- * The library and plain C take one word a call, and work everything out anew from its marks; both also test that the present symbols contradict
- * nothing. Jerasure multiplies a matrix, made beforehand, by buffers, and tests nothing:
+ * The library and plain C take one word a call, and compute everything from its marks; both also test that the present symbols contradict
+ * nothing. Jerasure multiplies a matrix, ready before, by buffers, and tests nothing:
  * - batch: 512 words with the same losses a call, place p of all of them in one buffer;
  * - single: one word a call, spread over buffers of 64 bytes.
  * Every word that is made must be the codeword. Rounds are short, and in each every way is timed in turn, so that the best of them was not

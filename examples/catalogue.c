@@ -1,5 +1,8 @@
-/* A catalogue in a file: reads it, or starts a new one; puts a shape under a name, removes a name, or drops the lines of removed names; writes it
- * back, and says how many bytes it had before and has now. Arguments: FILE put NAME M W C, or FILE remove NAME, or FILE compact */
+/* Keeps a catalogue in a file: reads it, or starts a new one if there is no such file; puts a shape under a name, removes a name or drops the lines of
+ * removed names; writes the result beside the old file and renames it, and prints the length before and after.
+ * Run it once at a time: of two runs that read the same text, the later one drops the change of the other.
+ * Arguments: FILE put NAME M W C, or FILE remove NAME, or FILE compact */
+#include <errno.h>
 #include <stdio.h>
 #include <stdlib.h>
 #include <string.h>
@@ -8,14 +11,27 @@
 
 static uint8_t text[AXLEBLOOM_CATALOGUE_MOST + 1];
 
+/* Returns the size of the catalogue that was read. Only a file that isn't there is a new catalogue. */
+static size_t read_or_start(const char *path) {
+  FILE *file = fopen(path, "rb");
+  size_t size = AXLEBLOOM_CATALOGUE_EMPTY_SIZE;
+  if (!file && errno == ENOENT) return memcpy(text, AXLEBLOOM_CATALOGUE_EMPTY, size), size;
+  if (file) size = fread(text, 1, sizeof text, file); /* a longer file is refused by its size */
+  if (!file || ferror(file)) printf("%s can't be read\n", path), exit(1);
+  fclose(file);
+  return size;
+}
+
 static int write_back(const char *path, size_t before, size_t size) {
-  FILE *file = fopen(path, "wb");
-  if (!file || fwrite(text, 1, size, file) != size || fclose(file)) return printf("%s can't be written\n", path), 1;
+  char beside[4096];
+  FILE *file = snprintf(beside, sizeof beside, "%s.new", path) < (int)sizeof beside ? fopen(beside, "wb") : NULL;
+  size_t written = file ? fwrite(text, 1, size, file) : 0;
+  if (!file || fclose(file) || written != size || rename(beside, path)) return printf("%s can't be written\n", path), 1;
   printf("%d bytes before, %d now\n", (int)before, (int)size);
   return 0;
 }
 
-/* Put or remove, with the revision that the name has now; shape is NULL for a remove. */
+/* Puts or removes a name, expecting the revision that it has now; shape is NULL for a remove. */
 static int change(const char *path, size_t size, const char *name, char **shape) {
   const uint8_t *bytes = (const uint8_t *)name;
   size_t length = strlen(name);
@@ -35,11 +51,7 @@ static int change(const char *path, size_t size, const char *name, char **shape)
 
 int main(int argc, char **argv) {
   const char *task = argc > 2 ? argv[2] : "";
-  size_t size = AXLEBLOOM_CATALOGUE_EMPTY_SIZE;
-  memcpy(text, AXLEBLOOM_CATALOGUE_EMPTY, size);
-  FILE *file = argc > 2 ? fopen(argv[1], "rb") : NULL;
-  if (file) size = fread(text, 1, sizeof text, file), fclose(file); /* a longer file is refused by its size */
-
+  size_t size = argc > 2 ? read_or_start(argv[1]) : 0;
   if (argc == 7 && !strcmp(task, "put")) return change(argv[1], size, argv[3], argv + 4);
   if (argc == 4 && !strcmp(task, "remove")) return change(argv[1], size, argv[3], NULL);
   if (argc == 3 && !strcmp(task, "compact")) {

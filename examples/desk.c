@@ -1,4 +1,4 @@
-/* Opens a job for boxes that have all lost the same disk, mends two words by it, reads its count and closes it. */
+/* Opens a job for words that have all lost the same places, recovers two words with it, reads its served count and closes it. */
 #include <stdio.h>
 #include <string.h>
 
@@ -19,7 +19,7 @@ int main(void) {
   uint32_t served;
   axlebloom_fresh(&desk);
 
-  /* group 2 has lost four places, two more than its own checks mend */
+  /* group 2 has lost four places, two more than it can recover on its own */
   uint8_t marks[N] = {0};
   for (int i = 16; i < 20; i++) marks[i] = 1;
   if (stopped("open", axlebloom_open(&desk, M, W, C, marks, N, &handle))) return 1;

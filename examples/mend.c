@@ -1,4 +1,4 @@
-/* Encodes a text, loses bytes, mends one group by its own checks and the rest across the groups, and reads the text again. */
+/* Encodes a text, loses bytes, repairs one group with its own checks, recovers the rest with the checks across, and reads the text again. */
 #include <stdio.h>
 #include <string.h>
 
@@ -18,7 +18,7 @@ int main(void) {
   if (axlebloom_data(M, W, C) != sizeof data || axlebloom_places(M, W, C) != N) return 1;
   if (stopped("encode", axlebloom_encode(M, W, C, data, sizeof data, word, N))) return 1;
 
-  /* group 0 loses two places, which its own checks mend; group 2 loses four, two more than it can mend alone */
+  /* group 0 loses two places, which its own checks can repair; group 2 loses four, two more than it can repair alone */
   const int lost[] = {1, 6, 16, 17, 18, 20};
   for (size_t i = 0; i < sizeof lost / sizeof *lost; i++) marks[lost[i]] = 1, word[lost[i]] = '?';
 
@@ -29,7 +29,7 @@ int main(void) {
   if (stopped("extract", axlebloom_extract(M, W, C, word, N, back, sizeof back))) return 1;
   printf("%.22s\n", (const char *)back);
 
-  /* with a byte wrong that is not marked, the word is refused and stays as it was; its group is named */
+  /* if a byte is wrong but not marked, the word is refused and left unchanged, and the byte's group is named */
   word[2 * W + 5] ^= 1;
   uint8_t copy[N];
   memcpy(copy, word, N);

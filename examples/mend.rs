@@ -1,4 +1,4 @@
-//! Axlebloom from Rust: a safe wrapper over the functions of `axlebloom.h`, and the same mending as `mend.c`.
+//! Axlebloom from Rust: a safe wrapper around the functions of `axlebloom.h`, and the steps of `mend.c`.
 //! Build: rustc -O examples/mend.rs -L target/library -l static=axlebloom
 
 mod c {
@@ -25,7 +25,7 @@ pub struct Shape {
     pub c: usize,
 }
 
-/// Why nothing has changed: the present bytes contradict each other, by this group or, if it is m, only across the groups; or another number.
+/// Why a call was refused: the present bytes fit no codeword (the group is the one named, or m if only the checks across fail), or another refusal number.
 #[derive(Debug, PartialEq)]
 pub enum Refusal {
     Contradictory { group: u8 },
@@ -45,7 +45,7 @@ fn mended(answer: c::Answer) -> Result<(), Refusal> {
 }
 
 impl Shape {
-    /// Bytes of a word and of data in it; 0 for a bad shape.
+    /// The bytes in a word and the data bytes in it; both are 0 for a bad shape.
     pub fn sizes(self) -> (usize, usize) {
         unsafe { (c::axlebloom_places(self.m, self.w, self.c), c::axlebloom_data(self.m, self.w, self.c)) }
     }

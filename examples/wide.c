@@ -1,4 +1,5 @@
-/* The sixteen-bit edition: a word for a rack of 32 groups of 100 places is encoded, a whole group's worth of places is lost in part, and mended. */
+/* The sixteen-bit edition: encodes a word for a rack of 32 groups of 100 places, loses three places of one group and five of another, and recovers
+ * them. */
 #include <stdio.h>
 #include <string.h>
 
@@ -21,7 +22,7 @@ int main(void) {
   for (size_t i = 0; i < K; i++) data[i] = (uint16_t)(i * i);
   if (stopped("encode", axlebloom_wide_encode(M, W, C, data, K, word, N))) return 1;
 
-  /* group 7 loses three places, which its own checks mend; group 20 loses five, two more than it can mend alone */
+  /* group 7 loses three places, which its own checks can repair; group 20 loses five, two more than it can repair alone */
   const size_t lost[] = {7 * W, 7 * W + 50, 7 * W + 99, 20 * W, 20 * W + 1, 20 * W + 2, 20 * W + 3, 20 * W + 4};
   for (size_t i = 0; i < sizeof lost / sizeof *lost; i++) marks[lost[i]] = 1, word[lost[i]] = 0;
 

@@ -3,20 +3,22 @@
  * A catalogue is a short text that the caller keeps, in a buffer or in a file. It is part of
  * libaxlebloom.
  *
- * THE TEXT has one record a line, fields separated by one tab, each line ended by a line feed, the
- * last one too. The first line is shapes, 2 and the floor, 0 to 65535. Each other line is a name, a
- * revision, m, w and c or, if the name was removed, a name, a revision and the word gone. Lines are
- * sorted by name in byte order, and no name stands twice. A name is 1 to 16 letters a to z, digits
- * or hyphens; numbers are decimal without leading zeros; a revision is 1 to 65535; the shape is good.
+ * THE TEXT has one record per line. Fields are separated by one tab, and every line, including the
+ * last, ends with a line feed. The first line is shapes, 2 and the floor, 0 to 65535. Every other
+ * line is a name, a revision, m, w and c or, if the name was removed, a name, a revision and the word
+ * gone. Lines are sorted by name in byte order, and no name appears twice. A name is 1 to 16 letters
+ * a to z, digits or hyphens; numbers are decimal without leading zeros; a revision is 1 to 65535; the
+ * shape is good.
  *
- * This is version 2. In version 1 the first line is shapes and 1, and no line is gone. It is read as
- * a text with floor 0; the first put or remove that is done makes version 2 of it, whose first line
- * is two bytes longer. A library from before version 2 refuses that text with 16.
+ * This is version 2. In version 1 the first line is shapes and 1, and there are no gone lines. A
+ * version 1 text is read as having floor 0. The first put or remove that succeeds converts it to
+ * version 2, whose first line is two bytes longer. A library from before version 2 refuses that text
+ * with 16.
  *
- * REVISIONS. In a text changed by these functions alone a name with a revision never stands for two
- * shapes. A gone line keeps its name's revision, and a later put goes on from there. Compaction drops
- * the gone lines and makes the floor the largest revision ever dropped; a name that has no line
- * starts one above the floor. A saved copy that is lent again counts as the text it was then.
+ * REVISIONS. In a text changed by these functions alone, a name with a revision never stands for two
+ * shapes. A gone line keeps its name's revision, and a later put continues from there. Compaction
+ * drops the gone lines and makes the floor the largest revision ever dropped; a name that has no line
+ * starts one above the floor. A saved copy that is lent later behaves as the text it was when saved.
  *
  * All functions take the text as
  *
@@ -24,9 +26,10 @@
  *   capacity  the length of the buffer in bytes
  *   size      the length of the text in bytes; at most capacity, and at most 4096
  *
- * and a name as its bytes, without a zero byte, and their number. What axlebloom.h says of pointers,
- * refusals and threads holds here too; a name must not point into the text. Bytes of the buffer past
- * the new text are never changed.
+ * and a name as its bytes, without a zero byte, and their number. What axlebloom.h says about
+ * pointers, refusals, threads and kernels holds here too; a name must not point into the text. Bytes
+ * of the buffer past the new text are never changed. Calls take less than 1 KB of stack (measured,
+ * not proved).
  *
  * @code
  *   uint8_t text[AXLEBLOOM_CATALOGUE_MOST] = AXLEBLOOM_CATALOGUE_EMPTY;
@@ -43,15 +46,15 @@
  *   assert(put.number == AXLEBLOOM_REVISION);
  * @endcode
  *
- * TWO ENDS TO KNOW OF
+ * TWO LIMITS TO PLAN FOR
  *
- * - A text of version 1 that fills its room can be refused with 21 on every put and remove, since the
- *   first line of version 2 is longer, and it has no gone lines to drop. Lend a larger buffer. If a
- *   buffer of 4096 bytes doesn't help, which can be so for texts of 4095 and 4096 bytes, start a new
- *   catalogue.
+ * - If a version 1 text fills its buffer, every put and remove may be refused with 21, because the
+ *   first line of version 2 is longer and there are no gone lines to drop. Lend a larger buffer. If a
+ *   buffer of 4096 bytes does not help, which can happen with texts of 4095 and 4096 bytes, start a
+ *   new catalogue.
  * - A name removed at revision 65534 is gone at 65535. Compaction then makes the floor 65535, and
- *   every new name is refused with 20 for good; names that have a line can still be put. A name at
- *   revision 65535 can be looked up, and neither put nor removed.
+ *   every new name is refused with 20, for good; names that have a line can still be put. A name at
+ *   revision 65535 can be looked up, but neither put nor removed.
  */
 #ifndef AXLEBLOOM_CATALOGUE_H
 #define AXLEBLOOM_CATALOGUE_H
@@ -59,91 +62,94 @@
 #include <stddef.h>
 #include <stdint.h>
 
+#if SIZE_MAX != 0xFFFFFFFFFFFFFFFF
+#error "the library counts on a size_t of 64 bits"
+#endif
+
 #ifdef __cplusplus
 extern "C" {
 #endif
 
-/* A catalogue without names: its first line alone, with floor 0. To start, copy it into the buffer,
- * with this size. */
+/* A catalogue without names: its first line alone, with floor 0. To start, copy it into the buffer
+ * and pass this size. */
 #define AXLEBLOOM_CATALOGUE_EMPTY "shapes\t2\t0\n"
 #define AXLEBLOOM_CATALOGUE_EMPTY_SIZE 11
 
-/* The longest text. No put or remove fails in a buffer of this length that a larger one would let
- * through. */
+/* The greatest length of a text. A larger buffer never allows a put or remove that is refused in a
+ * buffer of this length. */
 #define AXLEBLOOM_CATALOGUE_MOST 4096
 
-#define AXLEBLOOM_MAX_NAME 16        /* the most bytes of a name */
+#define AXLEBLOOM_MAX_NAME 16        /* the greatest length of a name */
 #define AXLEBLOOM_MAX_REVISION 65535 /* the last revision, and the highest floor */
 
-/* The refusals of a catalogue. The lowest number that applies is given; those of a shape, 1 to 4 and
- * 29 (axlebloom.h), come before them. */
+/* The refusals of a catalogue. The refusals of a shape, 1 to 4 and 29, are in axlebloom.h. */
 enum axlebloom_catalogue_number {
-  AXLEBLOOM_CATALOGUE_TEXT = 16, /* The text is not of the form above, or size is above capacity or
-                                    4096. Restore it from a copy, or start anew */
-  AXLEBLOOM_NAME = 17,           /* not a name: 1 to 16 letters a to z, digits or hyphens */
-  AXLEBLOOM_NO_SUCH_NAME = 18,   /* lookup and remove: there is no such name, or it is gone */
-  AXLEBLOOM_REVISION = 19,       /* Put and remove: the revision is not the expected one. Someone else
-                                    has changed the name, or it is new, or not new, or gone. Look it
-                                    up and decide again */
-  AXLEBLOOM_REVISION_END = 20,   /* Put and remove: the name has revision 65535, the last one, gone or
-                                    not; use another name. Put of a new name: the floor is 65535;
-                                    start a new catalogue */
-  AXLEBLOOM_CATALOGUE_FULL = 21  /* Put and remove: the new text would exceed 4096 bytes or the
-                                    buffer; compact it, or lend a larger buffer */
+  AXLEBLOOM_CATALOGUE_TEXT = 16, /* the catalogue text is malformed or its length is wrong */
+  AXLEBLOOM_NAME = 17,           /* not a valid name: use 1 to 16 of a to z, 0 to 9 and hyphen */
+  AXLEBLOOM_NO_SUCH_NAME = 18,   /* the catalogue has no such name, or it is gone */
+  AXLEBLOOM_REVISION = 19,       /* the name's revision is not the one you expected */
+  AXLEBLOOM_REVISION_END = 20,   /* no revision is left: 65535 is the last */
+  AXLEBLOOM_CATALOGUE_FULL = 21  /* the new catalogue text would exceed its buffer or 4096 bytes */
 };
 
-/* What lookup gives back. */
+/* Returned by lookup. */
 struct axlebloom_lookup_answer {
   uint8_t number;    /* 0, or the number of a refusal */
-  uint8_t m, w, c;   /* with 0 the shape; else 0 */
-  uint16_t revision; /* with 0 its revision; else 0 */
+  uint8_t m, w, c;   /* if number is 0, the shape; otherwise 0 */
+  uint16_t revision; /* if number is 0, its revision; otherwise 0 */
 };
 
-/* Finds the shape and the revision of a name. A stored shape with c = 4 is found, though it can't be
- * put any more. Refused by 16, 17 and 18, in that order. */
+/* Finds the shape and the revision of a name. A stored shape with c = 4 is found, although it can no
+ * longer be put. Refused with 16, 17 or 18 (there is no such name, or it is gone), in that order. */
 struct axlebloom_lookup_answer axlebloom_lookup(const uint8_t *text, size_t capacity, size_t size,
                                                 const uint8_t *name, size_t name_size);
 
-/* What put and remove give back. */
+/* Returned by put and remove. */
 struct axlebloom_change_answer {
   uint8_t number;    /* 0, or the number of a refusal */
-  uint16_t revision; /* with 0 the name's new revision; else 0 */
-  size_t size;       /* with 0 the new text's length, to be passed to the next call; else 0 */
+  uint16_t revision; /* if number is 0, the name's new revision; otherwise 0 */
+  size_t size;       /* if number is 0, the new length of the text, for the next call; otherwise 0 */
 };
 
-/* Puts a shape under a name. The line of a name that is there or gone takes the shape, and its
- * revision rises by one; a new name has the revision one above the floor. No other line changes but
- * the first one, if it was of version 1.
+/* Puts a shape under a name. If the name already has a line, gone or not, that line takes the shape
+ * and its revision goes up by one. A new name starts at the floor plus one. No other line changes,
+ * except the first if the text was version 1.
  *
  *   m, w, c   the shape; c is 1 to 3
  *   name      name_size bytes
  *   expected  the revision that the name has now, 0 for a name that is new or gone; a number above
  *             65535 is never the right one
  *
- * Refused by 1 to 4, 29 for c = 4, 16, 17, 19, 20 and 21, in that order. */
+ * Returns 19 if the name's revision is not the one you passed as expected: someone else may have
+ * changed, added or removed the name; look it up and decide again. Returns 20 if the name, gone or
+ * not, is at revision 65535, or if it is new and the floor is 65535. Returns 21 if the new text would
+ * exceed 4096 bytes or the buffer: compact, or lend a larger buffer.
+ *
+ * Refused with 1 to 4, 29 (if c = 4), 16, 17, 19, 20 or 21, in that order. */
 struct axlebloom_change_answer axlebloom_put(size_t m, size_t w, size_t c, const uint8_t *name,
                                              size_t name_size, size_t expected, uint8_t *text,
                                              size_t capacity, size_t size);
 
-/* Removes a name. Its line is left with the revision raised by one and the word gone in place of the
- * shape; no other line changes but the first one, if it was of version 1.
+/* Removes a name. Its line keeps the name, with the revision raised by one and the word gone in place
+ * of the shape. No other line changes, except the first if the text was version 1.
  *
  *   name      name_size bytes
  *   expected  the revision that the name has now
  *
- * Refused by 16 to 21, in that order; 18 if the name isn't there or is gone. */
+ * Refused with 16 to 21, in that order; 18 if the name does not exist or is gone, and 19, 20 and 21
+ * as for put. */
 struct axlebloom_change_answer axlebloom_remove(const uint8_t *name, size_t name_size,
                                                 size_t expected, uint8_t *text, size_t capacity,
                                                 size_t size);
 
-/* What compact gives back. */
+/* Returned by compact. */
 struct axlebloom_compact_answer {
   uint8_t number; /* 0, or 16 */
-  size_t size;    /* with 0 the text's length, to be passed to the next call; else 0 */
+  size_t size;    /* if number is 0, the length of the text, for the next call; otherwise 0 */
 };
 
 /* Drops all gone lines; the floor becomes the largest of itself and their revisions. No other line
- * changes. If no line is gone, nothing changes, in a text of version 1 either. Refused by 16 alone. */
+ * changes. If no line is gone, nothing changes, not even in a version 1 text. Refused with 16 only. */
 struct axlebloom_compact_answer axlebloom_compact(uint8_t *text, size_t capacity, size_t size);
 
 #ifdef __cplusplus

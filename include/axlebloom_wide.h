@@ -1,14 +1,16 @@
 /* axlebloom_wide.h - the sixteen-bit edition, for wide racks
  *
  * The services of axlebloom.h over symbols of 16 bits, in the same library. A word is m groups of w
- * symbols, group after group: n = m*w symbols in all, k = m*(w-c) - 2 of them data. Marks are n
- * bytes, 1 for a lost symbol and 0 for one that is present.
+ * symbols, stored one group after another: n = m*w symbols in all, k = m*(w-c) - 2 of them data.
+ * Marks are n bytes, 1 for a lost symbol and 0 for a present one.
  *
- * Lengths count symbols (uint16_t), or marks; they don't count bytes. Pointers to symbols are
- * aligned as uint16_t asks. Symbols are numbers of the
- * machine: whoever stores them as bytes chooses the byte order. What axlebloom.h says of pointers,
- * refusals and threads, and of the group that a 9 names, holds here too. There is no desk, no
- * gather, no profile and no edit in this edition. Calls take less than 32 KB of stack.
+ * Lengths are numbers of symbols (uint16_t) or of marks, not of bytes. Pointers to symbols must be
+ * aligned for uint16_t. Symbols are in the machine's own byte order; if you store them as bytes, you
+ * choose the order.
+ *
+ * What axlebloom.h says about pointers, refusals, threads and kernels, and about the group that a 9
+ * names, holds here too. This edition has no desk, gather, profile, edit or block rebuild. Calls take
+ * less than 32 KB of stack (measured, not proved).
  *
  * @code
  *   uint16_t data[2] = {700, 900}, word[6], back[2];
@@ -34,20 +36,21 @@ extern "C" {
 
 #define AXLEBLOOM_WIDE_MAX_GROUPS 255        /* m is 1 to this */
 #define AXLEBLOOM_WIDE_MAX_CHECKS 4          /* c is 1 to this */
-#define AXLEBLOOM_WIDE_MAX_ENCODED_CHECKS 3  /* c of a word that is encoded */
+#define AXLEBLOOM_WIDE_MAX_ENCODED_CHECKS 3  /* the largest c for encode and check_marks */
 #define AXLEBLOOM_WIDE_MAX_WIDTH 256         /* w is c+2 to this */
-#define AXLEBLOOM_WIDE_MAX_PLACES 4096       /* the most symbols of a word */
+#define AXLEBLOOM_WIDE_MAX_PLACES 4096       /* the largest n */
 
-/* The refusal that only this edition gives: the shape has more than 4096 places. It comes after 4
- * and before 29. The bounds of 1 to 3 are those above. */
-enum axlebloom_wide_number { AXLEBLOOM_WIDE_PLACES = 26 };
+/* The refusal that only this edition returns. The limits behind 1 to 3 are those above. */
+enum axlebloom_wide_number {
+  AXLEBLOOM_WIDE_PLACES = 26 /* the shape has more than 4096 places */
+};
 
-/* Whether a shape is good: 0, or 1 to 4 or 26. */
+/* Returns 0 if the shape is good, otherwise its refusal: 1 to 4 or 26, in that order. */
 uint8_t axlebloom_wide_describe(size_t m, size_t w, size_t c);
 
-/* The figures of a good shape, or 0 if it is refused: the symbols n of a word; the symbols k of data
- * in it; and the largest number of lost symbols that are mended wherever they lie, if no present
- * symbol is wrong. */
+/* For a good shape these return n, the symbols in a word; k, the data symbols in it; and the sure
+ * count, the largest number such that any loss of that many symbols or fewer is recovered, wherever
+ * they are, provided no present symbol is wrong. They return 0 if the shape is refused. */
 size_t axlebloom_wide_places(size_t m, size_t w, size_t c);
 size_t axlebloom_wide_data(size_t m, size_t w, size_t c);
 size_t axlebloom_wide_sure(size_t m, size_t w, size_t c);
@@ -57,54 +60,69 @@ size_t axlebloom_wide_sure(size_t m, size_t w, size_t c);
  *   data  data_length symbols, which must be k
  *   word  word_length symbols, which must be n; written
  *
- * Refused by 1 to 4, 26, 29 for c = 4, and 5. */
+ * Refused with 1 to 4, 26, 29 (if c = 4) or 5, in that order. */
 uint8_t axlebloom_wide_encode(size_t m, size_t w, size_t c, const uint16_t *data, size_t data_length,
                               uint16_t *word, size_t word_length);
 
-/* Takes the data out of a word, codeword or not.
+/* Extracts the data of a word, codeword or not.
  *
  *   word  word_length symbols, which must be n
  *   data  data_length symbols, which must be k; written
  *
- * Refused by 1 to 4, 26 and 5. */
+ * Refused with 1 to 4, 26 or 5, in that order. */
 uint8_t axlebloom_wide_extract(size_t m, size_t w, size_t c, const uint16_t *word,
                                size_t word_length, uint16_t *data, size_t data_length);
 
-/* Whether a word is a codeword: 0 for yes, 9 with a group for no.
+/* Tests whether a word is a codeword: returns 0 if it is, 9 with a group if it is not.
  *
  *   word  word_length symbols, which must be n
  *
- * Refused by 1 to 4, 26 and 5. */
+ * Refused with 1 to 4, 26, 5 or 9, in that order. */
 struct axlebloom_answer axlebloom_wide_check(size_t m, size_t w, size_t c, const uint16_t *word,
                                              size_t word_length);
 
-/* Whether the losses can be mended: 0 if what is present settles the word, 8 if it doesn't.
+/* Writes the marks of a word that has lost its check places: 1 for every check place and 0 for every
+ * data place. A recovery with these marks encodes: it leaves the data as they are and writes the
+ * checks.
+ *
+ *   marks  marks_length bytes, which must be n; written
+ *
+ * Refused with 1 to 4, 26, 29 (if c = 4) or 5, in that order. */
+uint8_t axlebloom_wide_check_marks(size_t m, size_t w, size_t c, uint8_t *marks,
+                                   size_t marks_length);
+
+/* Tests whether the losses can be recovered: returns 0 if the present places determine the word and
+ * 8 if they do not.
  *
  *   marks  marks_length bytes, which must be n
  *
- * Refused by 1 to 4, 26, 5 and 6. */
+ * Refused with 1 to 4, 26, 5, 6 or 8, in that order. */
 uint8_t axlebloom_wide_judge(size_t m, size_t w, size_t c, const uint8_t *marks,
                              size_t marks_length);
 
-/* Mends one group by its own checks, and clears its marks. No symbol or mark of another group is
+/* Repairs one group with its own checks, and clears its marks. No symbol or mark of another group is
  * touched.
  *
  *   g      the group, 0 to m-1
  *   word   word_length symbols, which must be n; the lost symbols of group g are written
  *   marks  marks_length bytes, which must be n; those of group g are cleared
  *
- * Refused by 1 to 4, 26, 5 to 9; 8 if more than c places of the group are lost. */
+ * Returns 8 if more than c places of the group are lost; recover may still succeed. A group that has
+ * lost exactly c places has no check to spare: a wrong present symbol goes unnoticed, and the symbols
+ * written are computed from it.
+ *
+ * Refused with 1 to 4, 26, 5 to 9, in that order. */
 struct axlebloom_answer axlebloom_wide_repair(size_t m, size_t w, size_t c, size_t g, uint16_t *word,
                                               size_t word_length, uint8_t *marks,
                                               size_t marks_length);
 
-/* Mends a whole word, and clears all marks. Repairs of groups beforehand, in any order, make no
- * difference to what it answers and writes.
+/* Recovers a whole word and clears all marks. Repairing groups first, in any order, changes neither
+ * what it returns nor, if it returns 0, the word and marks it leaves.
  *
  *   word   word_length symbols, which must be n; the lost symbols are written
  *   marks  marks_length bytes, which must be n; all are cleared
  *
- * Refused by 1 to 4, 26, 5, 6, 8 and 9. */
+ * Refused with 1 to 4, 26, 5, 6, 8 or 9, in that order. */
 struct axlebloom_answer axlebloom_wide_recover(size_t m, size_t w, size_t c, uint16_t *word,
                                                size_t word_length, uint8_t *marks,
                                                size_t marks_length);

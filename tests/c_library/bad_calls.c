@@ -28,6 +28,28 @@ static void expect(const char *what, int expected, int number, int odd, uint8_t 
 /* the number of an answer that carries this group, else 255 */
 static int number_of(int group, struct axlebloom_answer answer) { return answer.group == group ? answer.number : 255; }
 
+/* a refused call on marks of 7 has left each of them */
+static void expect_marks(const char *what, int expected, int number) {
+  calls++;
+  for (int i = 0; i < 240; i++) {
+    if (marks[i] != 7) number = 255;
+  }
+  if (number == expected) return;
+  printf("%s: %d for %d, or a mark changed\n", what, number, expected);
+  failures++;
+}
+
+/* the marks of the check places of 2 groups of 5 with 2 checks, and what a recovery by them makes of data */
+static void check_marks(void) {
+  const uint8_t expected[10] = {0, 0, 0, 1, 1, 0, 1, 1, 1, 1}, four[4] = {3, 1, 4, 1};
+  uint8_t whole[10], some[10] = {3, 1, 4, 7, 7, 1, 7, 7, 7, 7}, lost[10];
+  memset(lost, 7, 10);
+  calls += 3;
+  if (axlebloom_check_marks(2, 5, 2, lost, 10) || memcmp(lost, expected, 10)) printf("check marks of 2, 5, 2\n"), failures++;
+  if (axlebloom_encode(2, 5, 2, four, 4, whole, 10)) printf("encode of 2, 5, 2\n"), failures++;
+  if (number_of(0, axlebloom_recover(2, 5, 2, some, 10, lost, 10)) || memcmp(some, whole, 10)) printf("a recovery by check marks\n"), failures++;
+}
+
 /* the group that a 9 carries, in a word of zeroes where only the bytes at these two places are not 0; the second may be lost */
 static void expect_group(const char *what, int group, int place, int other, int is_lost) {
   uint8_t zeroes[240] = {0}, lost[240] = {0};
@@ -316,6 +338,16 @@ int main(void) {
   expect("four checks, no data", 4, axlebloom_encode(1, 6, 4, data, 0, word, 6), -1, 0);
   expect("four checks, short word", 29, axlebloom_encode(15, 16, 4, data, 178, word, 239), -1, 0);
   expect("short word of check", 5, number_of(0, axlebloom_check(15, 16, 4, word, 239)), -1, 0);
+  memset(marks, 7, 240);
+  expect_marks("check marks, groups 0", 1, axlebloom_check_marks(0, 16, 3, marks, 240));
+  expect_marks("check marks, checks 5", 2, axlebloom_check_marks(15, 16, 5, marks, 240));
+  expect_marks("check marks, width at the end", 3, axlebloom_check_marks(15, most, 3, marks, 240));
+  expect_marks("check marks, no data", 4, axlebloom_check_marks(1, 3, 1, marks, 3));
+  expect_marks("check marks, four checks", 29, axlebloom_check_marks(15, 16, 4, marks, 239));
+  expect_marks("check marks, null", 5, axlebloom_check_marks(15, 16, 3, NULL, 0));
+  expect_marks("check marks, one short", 5, axlebloom_check_marks(15, 16, 3, marks, 239));
+  fill();
+  check_marks();
   expect("group m", 7, number_of(0, axlebloom_repair(15, 16, 4, 15, word, 240, marks, 240)), -1, 0);
   expect("group at the end", 7, number_of(0, axlebloom_repair(15, 16, 4, most, word, 240, marks, 240)), -1, 0);
   for (int mark = 2; mark < 256; mark++) {

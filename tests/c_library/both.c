@@ -46,6 +46,12 @@ int main(void) {
   assert(axlebloom_wide_describe(1, 3, 1) == 4 && axlebloom_wide_describe(17, 256, 4) == AXLEBLOOM_WIDE_PLACES);
   assert(axlebloom_wide_describe(2, 300 + 65536, 1) == 3 && axlebloom_wide_sure(2, 6, 4) == 10);
   assert(axlebloom_wide_encode(2, 6, 4, two, 2, word, 12) == AXLEBLOOM_RETIRED);
+  const uint8_t checks[12] = {0, 0, 0, 1, 0, 0, 0, 1, 0, 1, 1, 1};
+  memset(marks, 7, 13);
+  assert(axlebloom_wide_check_marks(3, 4, 1, marks, 11) == AXLEBLOOM_LENGTH && axlebloom_wide_check_marks(17, 256, 4, marks, 0) == AXLEBLOOM_WIDE_PLACES);
+  assert(axlebloom_wide_check_marks(2, 6, 4, marks, 0) == AXLEBLOOM_RETIRED && axlebloom_wide_check_marks(0, 4, 1, NULL, 0) == AXLEBLOOM_GROUPS);
+  for (size_t i = 0; i < 13; i++) assert(marks[i] == 7);
+  assert(axlebloom_wide_check_marks(3, 4, 1, marks, 12) == 0 && memcmp(marks, checks, 12) == 0 && marks[12] == 7);
   uint8_t bytes[6], small[2] = {1, 1};
   assert(axlebloom_encode(2, 3, 1, small, 2, bytes, 6) == 0 && bytes[3] == 78);
   puts("both editions answer");

@@ -10,6 +10,7 @@ mod c {
         pub fn axlebloom_encode(m: usize, w: usize, c: usize, d: *const u8, k: usize, x: *mut u8, n: usize) -> u8;
         pub fn axlebloom_extract(m: usize, w: usize, c: usize, x: *const u8, n: usize, d: *mut u8, k: usize) -> u8;
         pub fn axlebloom_check(m: usize, w: usize, c: usize, x: *const u8, n: usize) -> Answer;
+        pub fn axlebloom_check_marks(m: usize, w: usize, c: usize, l: *mut u8, n: usize) -> u8;
         pub fn axlebloom_judge(m: usize, w: usize, c: usize, l: *const u8, n: usize) -> u8;
         pub fn axlebloom_profile(m: usize, w: usize, c: usize, l: *const u8, n: usize) -> Profile;
         pub fn axlebloom_repair(m: usize, w: usize, c: usize, g: usize, x: *mut u8, n: usize, l: *mut u8, k: usize) -> Answer;
@@ -66,6 +67,10 @@ pub fn extract(s: Shape, x: &[u8], d: &mut [u8]) -> u8 {
 
 pub fn check(s: Shape, x: &[u8]) -> Mended {
     mended(unsafe { c::axlebloom_check(s.0, s.1, s.2, x.as_ptr(), x.len()) })
+}
+
+pub fn check_marks(s: Shape, l: &mut [u8]) -> u8 {
+    unsafe { c::axlebloom_check_marks(s.0, s.1, s.2, l.as_mut_ptr(), l.len()) }
 }
 
 pub fn judge(s: Shape, l: &[u8]) -> u8 {

@@ -42,7 +42,7 @@ fn described(answer: Result<(u64, u64, u64), u8>) -> (u8, (u64, u64, u64)) {
     }
 }
 
-/// Describe, Encode, Extract, Check and Judge.
+/// Describe, Encode, Extract, Check, Check marks and Judge.
 fn plain_services(case: &Services, seen: Seen) -> Result<(), String> {
     let s = case.shape;
     let (m, w, c) = wide(s);
@@ -59,6 +59,9 @@ fn plain_services(case: &Services, seen: Seen) -> Result<(), String> {
         Err(number) => (number, 0),
     };
     alike_mended("check", (library::check(s, &case.word), ()), (checked, ()), seen)?;
+    let (mut k, mut l) = (case.marks.clone(), case.marks.clone());
+    let (a, b) = (library::check_marks(s, &mut k), second::check_marks(m, w, c, &mut l));
+    alike("check marks", (a, k), (b, l), seen)?;
     alike("judge", (library::judge(s, &case.marks), ()), (second::judge(m, w, c, &case.marks), ()), seen)
 }
 

@@ -24,7 +24,6 @@ struct Answer {
 }
 
 extern "C" {
-    fn axlebloom_text(number: usize, text: *mut u8, size: usize) -> usize;
     fn axlebloom_rebuild(m: usize, w: usize, c: usize, length: usize, b: *mut u8, all: usize, l: *mut u8, n: usize) -> Answer;
 }
 
@@ -140,19 +139,32 @@ fn run(r: &mut Random, input: &[u8]) -> std::io::Result<(Vec<u8>, Vec<u8>)> {
     Ok((output.stdout, output.stderr))
 }
 
-/// What a refused run writes to standard error: the line of the refusal, and then what its number means.
-fn explained(refusal: &[u8]) -> Vec<u8> {
-    let number = std::str::from_utf8(refusal).ok().and_then(|line| line.trim_end().split('\t').nth(1)?.parse().ok()).expect("a number");
-    let mut text = [0u8; 64];
-    let length = unsafe { axlebloom_text(number, text.as_mut_ptr(), text.len()) };
-    [refusal, b"rebuild: ", &text[..length], b"\n"].concat()
+/// What rebuild --numbers says that a number means.
+fn meaning(number: &str) -> String {
+    static PAGE: std::sync::OnceLock<String> = std::sync::OnceLock::new();
+    let page = PAGE.get_or_init(|| {
+        let output = Command::new("target/bin/rebuild").arg("--numbers").output().expect("the list of numbers");
+        String::from_utf8(output.stdout).expect("a text")
+    });
+    let entry = format!("{number:>2}  ");
+    page.lines().find_map(|line| line.strip_prefix(&entry)).expect("an entry for every number").to_string()
+}
+
+/// What a refused run writes to standard error: the line of the refusal, and then what its number means, or which line can't be read.
+fn explained(refusal: &[u8], line: u8) -> Vec<u8> {
+    let number = std::str::from_utf8(refusal).ok().and_then(|line| line.trim_end().split('\t').nth(1)).expect("a number");
+    let text = match line {
+        0 => meaning(number),
+        _ => format!("line {line} cannot be read as a {} line", ["shape", "marks", "length"][line as usize - 1]),
+    };
+    [refusal, b"rebuild: ", text.as_bytes(), b"\n"].concat()
 }
 
 /// The program writes what the second program does, and a refusal on standard error too.
 fn compare_run(r: &mut Random, input: &[u8]) -> Result<(), String> {
     let (theirs, refused) = second::rebuild_run(input);
     let (ours, errors) = run(r, input).map_err(|error| error.to_string())?;
-    let expected = if refused { explained(&theirs) } else { Vec::new() };
+    let expected = refused.map_or(Vec::new(), |line| explained(&theirs, line));
     if ours != theirs || errors != expected {
         let show = |bytes: &[u8]| bytes[..bytes.len().min(60)].escape_ascii().to_string();
         return Err(format!("program {}, errors {}, second program {}", show(&ours), show(&errors), show(&theirs)));

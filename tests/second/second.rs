@@ -248,6 +248,24 @@ pub fn encode(m: u64, w: u64, c: u64, data: &[u8], word: &mut [u8]) -> u8 {
     0
 }
 
+/// Check marks: 1 at every check place and 0 at every other: 0, or 1 to 4, 29, 5.
+pub fn check_marks(m: u64, w: u64, c: u64, marks: &mut [u8]) -> u8 {
+    let n = match describe(m, w, c) {
+        Ok((n, _, _)) => n,
+        Err(number) => return number,
+    };
+    if is_retired(c) {
+        return 29;
+    }
+    if marks.len() as u64 != n {
+        return 5;
+    }
+    for p in 0..n {
+        marks[p as usize] = is_check_place(m, w, c, p) as u8;
+    }
+    0
+}
+
 /// The codeword that carries these k data bytes, of any good shape, a retired one too.
 pub fn codeword(m: u64, w: u64, c: u64, data: &[u8]) -> Vec<u8> {
     let n = m * w;
@@ -1158,15 +1176,17 @@ fn long_number(field: &[u8]) -> Option<u64> {
     (value <= 65536 && value.to_string() == text).then_some(value)
 }
 
-/// The blocks, mended, or the fields of the one refused line.
-fn rebuild_input(input: &[u8]) -> Result<Vec<u8>, String> {
-    let refuse = |number: u8| number.to_string();
+/// The blocks, mended, or the fields of the one refused line and which input
+/// line can't be read, 0 if all can.
+fn rebuild_input(input: &[u8]) -> Result<Vec<u8>, (String, u8)> {
+    let refuse = |number: u8| (number.to_string(), 0);
+    let unreadable = |line: u8| (14.to_string(), line);
     let (first, rest) = split_line(input);
-    let shape = fields_of(first, b"shape").and_then(|fields| numbers(&fields)).filter(|values| values.len() == 3).ok_or(refuse(14))?;
+    let shape = fields_of(first, b"shape").and_then(|fields| numbers(&fields)).filter(|values| values.len() == 3).ok_or(unreadable(1))?;
     let (m, w, c) = (shape[0] as u64, shape[1] as u64, shape[2] as u64);
     let (n, _, _) = describe(m, w, c).map_err(refuse)?;
     let (second, rest) = split_line(rest);
-    let mut marks = fields_of(second, b"marks").and_then(|fields| numbers(&fields)).ok_or(refuse(14))?;
+    let mut marks = fields_of(second, b"marks").and_then(|fields| numbers(&fields)).ok_or(unreadable(2))?;
     if marks.len() as u64 != n {
         return Err(refuse(5));
     }
@@ -1174,21 +1194,21 @@ fn rebuild_input(input: &[u8]) -> Result<Vec<u8>, String> {
         return Err(refuse(6));
     }
     let (third, rest) = split_line(rest);
-    let fields = fields_of(third, b"length").filter(|fields| fields.len() == 1).ok_or(refuse(14))?;
-    let length = long_number(fields[0]).ok_or(refuse(14))?;
+    let fields = fields_of(third, b"length").filter(|fields| fields.len() == 1).ok_or(unreadable(3))?;
+    let length = long_number(fields[0]).ok_or(unreadable(3))?;
     let mut blocks = rest.to_vec();
     match rebuild(m, w, c, length, &mut blocks, &mut marks) {
         (0, _, _) => Ok(blocks),
-        (9, word, group) => Err(format!("9\t{word}\t{group}")),
+        (9, word, group) => Err((format!("9\t{word}\t{group}"), 0)),
         (number, _, _) => Err(refuse(number)),
     }
 }
 
-/// A whole run of the program that rebuilds: what it writes, and whether that
-/// is a refused line.
-pub fn rebuild_run(input: &[u8]) -> (Vec<u8>, bool) {
+/// A whole run of the program that rebuilds: what it writes and, if that is a
+/// refused line, which input line can't be read, 0 if all can.
+pub fn rebuild_run(input: &[u8]) -> (Vec<u8>, Option<u8>) {
     match rebuild_input(input) {
-        Ok(blocks) => (blocks, false),
-        Err(fields) => (format!("refused\t{fields}\n").into_bytes(), true),
+        Ok(blocks) => (blocks, None),
+        Err((fields, line)) => (format!("refused\t{fields}\n").into_bytes(), Some(line)),
     }
 }

@@ -903,6 +903,25 @@ fn removal_ends(t: &mut Tally) {
     t.ok(remove(b"a", 9, &mut buffer, size) == Ok((size + 2, 10)), "remove: to the buffer's end");
 }
 
+/// Marks of the check places, and that a recovery by them encodes.
+fn check_places(t: &mut Tally, random: &mut Random) {
+    let mut marks = vec![7; 6];
+    t.ok(check_marks(2, 3, 1, &mut marks) == 0 && marks == [0, 0, 1, 1, 1, 1], "check marks of 2, 3, 1");
+    let mut marks = vec![7; 10];
+    t.ok(check_marks(2, 5, 2, &mut marks) == 0 && marks == [0, 0, 0, 1, 1, 0, 1, 1, 1, 1], "check marks of 2, 5, 2");
+    let mut marks = vec![7; 12];
+    for ((m, w, c), number) in [((0, 4, 1), 1), ((3, 4, 0), 2), ((3, 2, 1), 3), ((1, 3, 1), 4), ((2, 6, 4), 29), ((2, 7, 4), 29), ((2, 5, 2), 5)] {
+        t.ok(check_marks(m, w, c, &mut marks) == number && marks == [7; 12], "check marks refused");
+    }
+    for (m, w, c) in [(1, 4, 1), (3, 6, 2), (15, 16, 3)] {
+        let whole = random_codeword(random, m, w, c);
+        let (mut word, mut marks) = (whole.clone(), vec![0; whole.len()]);
+        check_marks(m, w, c, &mut marks);
+        word.iter_mut().zip(&marks).for_each(|(byte, &mark)| *byte ^= mark);
+        t.ok(word != whole && recover(m, w, c, &mut word, &mut marks) == (0, 0) && word == whole, "a recovery by check marks encodes");
+    }
+}
+
 fn main() -> ExitCode {
     let t = &mut Tally { passed: 0, failed: 0 };
     let random = &mut Random(0x9E3779B97F4A7C15);
@@ -929,6 +948,7 @@ fn main() -> ExitCode {
     profiles(t, random);
     gathers(t);
     edits(t, random);
+    check_places(t, random);
     catalogues(t);
     removals(t);
     removal_ends(t);

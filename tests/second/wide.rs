@@ -195,6 +195,22 @@ pub fn is_check(s: Shape, p: usize) -> bool {
     j >= s.w - s.c || (g == s.m - 1 && j >= s.w - s.c - 2)
 }
 
+/// Check marks: 1 at every check place and 0 at every other: 0, or 1 to 4, 26, 29, 5.
+pub fn check_marks(m: usize, w: usize, c: usize, marks: &mut [u8]) -> u8 {
+    let number = refusal(m, w, c);
+    if number != 0 {
+        return number;
+    }
+    if c == 4 {
+        return 29;
+    }
+    if marks.len() != m * w {
+        return 5;
+    }
+    marks.iter_mut().enumerate().for_each(|(p, mark)| *mark = is_check(Shape { m, w, c }, p) as u8);
+    0
+}
+
 /// The codeword that carries the data.
 pub fn encode(f: &Field, s: Shape, data: &[u16]) -> Vec<u16> {
     let mut next = data.iter();

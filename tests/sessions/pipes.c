@@ -1,11 +1,13 @@
-// pipes reader|writer|broken PROGRAM: runs the program on standard input, and hands on what it writes.
+// pipes reader|writer|idle|broken PROGRAM: runs the program on standard input, and hands on what it writes.
 // reader: its output is a pipe that says "not now" when full, and is read slowly.
 // writer: its input is a pipe that says "not now" when empty, and is written slowly.
+// idle: the same, but nothing comes for a second; if the program takes more than 200 ms of processor time, the status is 4.
 // broken: its input is a terminal that goes away after the last byte, so that a read fails.
 #define _GNU_SOURCE
 #include <fcntl.h>
 #include <stdlib.h>
 #include <string.h>
+#include <sys/resource.h>
 #include <sys/wait.h>
 #include <termios.h>
 #include <time.h>
@@ -32,7 +34,7 @@ static void copy(int from, int to, size_t most, long pause) {
 
 int main(int count, char **words) {
   if (count != 3) return 2;
-  int reader = !strcmp(words[1], "reader"), broken = !strcmp(words[1], "broken");
+  int reader = !strcmp(words[1], "reader"), broken = !strcmp(words[1], "broken"), idle = !strcmp(words[1], "idle");
   int ends[2];
   if (broken) {
     struct termios raw;
@@ -57,9 +59,13 @@ int main(int count, char **words) {
     _exit(2);
   }
   close(reader ? ends[1] : ends[0]);
+  if (idle) rest(999999999);
   if (reader) copy(ends[0], 1, 512, 1000000);
   else copy(0, ends[1], broken ? 512 : 7, broken ? 0 : 1000000);
   close(reader ? ends[0] : ends[1]);
   int status;
-  return waitpid(child, &status, 0) == child && WIFEXITED(status) ? WEXITSTATUS(status) : 3;
+  struct rusage used;
+  if (wait4(child, &status, 0, &used) != child || !WIFEXITED(status)) return 3;
+  long busy = (used.ru_utime.tv_sec + used.ru_stime.tv_sec) * 1000 + (used.ru_utime.tv_usec + used.ru_stime.tv_usec) / 1000;
+  return idle && busy > 200 ? 4 : WEXITSTATUS(status);
 }

@@ -16,6 +16,7 @@ extern "C" {
     fn axlebloom_wide_encode(m: usize, w: usize, c: usize, data: *const u16, k: usize, word: *mut u16, n: usize) -> u8;
     fn axlebloom_wide_extract(m: usize, w: usize, c: usize, word: *const u16, n: usize, data: *mut u16, k: usize) -> u8;
     fn axlebloom_wide_check(m: usize, w: usize, c: usize, word: *const u16, n: usize) -> Answer;
+    fn axlebloom_wide_check_marks(m: usize, w: usize, c: usize, marks: *mut u8, n: usize) -> u8;
     fn axlebloom_wide_judge(m: usize, w: usize, c: usize, marks: *const u8, n: usize) -> u8;
     fn axlebloom_wide_repair(m: usize, w: usize, c: usize, g: usize, word: *mut u16, n: usize, marks: *mut u8, n2: usize) -> Answer;
     fn axlebloom_wide_recover(m: usize, w: usize, c: usize, word: *mut u16, n: usize, marks: *mut u8, n2: usize) -> Answer;
@@ -55,6 +56,14 @@ fn compare(f: &Field, s: Shape, word: &[u16], marks: &[u8], r: &mut Random) {
     assert_eq!((a.number, a.group), (number, group), "check {m}x{w} c {c}");
 }
 
+/// Check marks into marks of any length, good and refused, by both.
+fn check_marks(m: usize, w: usize, c: usize, length: usize) {
+    let (mut ours, mut theirs) = (vec![7; length], vec![7; length]);
+    let number = unsafe { axlebloom_wide_check_marks(m, w, c, ours.as_mut_ptr(), length) };
+    assert_eq!(number, second::check_marks(m, w, c, &mut theirs), "check marks {m}x{w} c {c}, {length} marks");
+    assert_eq!(ours, theirs, "check marks {m}x{w} c {c}, {length} marks");
+}
+
 /// A codeword of random data, by both; c 4 is out of sale.
 fn codeword(f: &Field, s: Shape, r: &mut Random) -> Vec<u16> {
     let Shape { m, w, c } = s;
@@ -68,6 +77,7 @@ fn codeword(f: &Field, s: Shape, r: &mut Random) -> Vec<u16> {
     let mut back = vec![0; k];
     assert_eq!(unsafe { axlebloom_wide_extract(m, w, c, word.as_ptr(), m * w, back.as_mut_ptr(), k) }, 0);
     assert_eq!(back, data);
+    [0, 1, m * w - 1, m * w, m * w + 1].into_iter().for_each(|length| check_marks(m, w, c, length));
     word
 }
 
@@ -135,6 +145,7 @@ fn main() {
     let mut r = Random(88172645463325252);
     for (m, w, c) in (0..600).flat_map(|m| [0, 1, 2, 3, 4, 5, 6, 16, 17, 255, 256, 257, 300, 65536 + 20].map(|w| (m, w))).flat_map(|(m, w)| (0..7).map(move |c| (m, w, c))) {
         assert_eq!(unsafe { axlebloom_wide_describe(m, w, c) }, second::refusal(m, w, c), "describe {m} {w} {c}");
+        check_marks(m, w, c, 12);
     }
     let mut cases = 0;
     for (m, w, c) in [(1, 4, 1), (2, 3, 1), (3, 3, 1), (2, 4, 2), (2, 5, 3), (2, 6, 4), (3, 4, 1)] {

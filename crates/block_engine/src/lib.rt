@@ -44,7 +44,7 @@ fn first_row(i: usize) -> [u8; 16]
     r
 }
 
-// Those of the second, without the factor of the group.
+// The coefficients of the second sum across for c = i + 1, without the group's factor.
 fn second_row(i: usize) -> [u8; 16]
     requires { ⌜ i < 4 ⌝ }
     ensures { λ r. ⌜ ((j : ℕ) → j < 16 → getD r j 0 ≡ raised byteEdition (coefficient byteEdition (suc i) j) 16) ⌝ }

@@ -39,11 +39,12 @@ pub record Mixed (n start f h : ℕ) (rows before after : List ℕ) : Type 0 whe
   pub other : (k : ℕ) → (k < start) ⊎ (start + n ≤ k) → getD after k 0 ≡ getD before k 0
 
 module _ (p : ℕ) (a b : ℕ → ℕ) where
-  -- the constants of the test that is left with the one free place p, once the first row has given its symbol
+  -- the constants of the test that is left with the one free place p, once the first row has given its symbol; of two rows across a p is
+  -- never 0 (`block_engine/FreeLaws: one-some`)
   abbrev pub oneTest : ℕ → ℕ
   oneTest q = mixed (times byteEdition (b p) (inverse 8 285 (a p))) 1 (withAt p 0 a) (withAt p 0 b) q
 
-  -- those of its symbol
+  -- the constants of the symbol at p
   abbrev pub oneValue : ℕ → ℕ
   oneValue q = mixed (inverse 8 285 (a p)) 0 (withAt p 0 a) (withAt p 0 b) q
 

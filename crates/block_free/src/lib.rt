@@ -46,7 +46,7 @@ pub fn test_row(n: usize, p: usize, across: [u8; 480]) -> [u8; 480]
     mix(n, 0, rows, f, 1, zero)
 }
 
-// Those of its symbol.
+// The constants of the symbol at the one free place p; the rows as they are if n or p is out of range.
 pub fn value_row(n: usize, p: usize, across: [u8; 480]) -> [u8; 480]
     ensures { λ r. ⌜ (n ≤ 240 → p < n → OneRow n (oneValue p (firstOf across) (secondOf n across)) r) ⌝ }
     ensures { λ r. ⌜ ((n ≤ 240 → p < n → ⊥) → r ≡ across) ⌝ }

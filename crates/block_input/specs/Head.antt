@@ -57,6 +57,16 @@ headRefusal ended input =
 abbrev pub inputShape : List ℕ → ShapeLine
 inputShape input = shapeLineOf (firstLine input)
 
+-- which of the lines from the marks line on is refused first: 2 for that one, 3 if it is not refused
+unfoldable pub laterLine : ℕ → ℕ → ℕ → List ℕ → ℕ
+laterLine m w c rest = cond (eqb (marksLineRefusal m w c (firstLine rest)) 0) 3 2
+
+-- and of all three: 1 for the shape line
+unfoldable pub lineRefused : List ℕ → ℕ
+lineRefused input =
+    cond (eqb ((inputShape input) .refusal) 0)
+    (laterLine ((inputShape input) .m) ((inputShape input) .w) ((inputShape input) .c) (afterLine input)) 1
+
 -- its marks
 abbrev pub inputMarks : List ℕ → List ℕ
 inputMarks input = lineBytes (firstLine (afterLine input))

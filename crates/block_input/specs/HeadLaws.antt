@@ -2,10 +2,10 @@
 use mathlib.Core.Path.{_≡_, refl, sym, ap, ap₂, _∙_, subst}
 use mathlib.Core.Bool.{Bool, true, false, cond, _||_}
 use mathlib.Core.List.{List}
-use Prim.Native.Nat.{ℕ, _+_, _-_, _≤_}
+use Prim.Native.Nat.{ℕ, zero, suc, _+_, _-_, _≤_}
 use native.Mathlib.Omega.{arith}
 use borrow.Author.Tests.{ne-eqb}
-use lib.Dec.{ltb}
+use lib.Dec.{eqb, ltb}
 use lib.ListN.{length, getD, take, drop, length-drop}
 use lib.Seq.{take-at, take-all, drop-drop}
 use Rattle.shape.specs.Refusals.{refuse, _orElse_}
@@ -27,6 +27,7 @@ use Rattle.block_input.specs.Lines.{firstLine, afterLine, settled}
 use Rattle.block_input.specs.LinesLaws.{take-line, nextStart, drop-line, start-most, settled-is}
 use Rattle.block_input.specs.Length.{lengthOf}
 use Rattle.block_input.specs.Head.{shapeLineOf, marksName, marksLineRefusal, lengthLineRefusal, lengthPart, marksPart, headRefusal}
+use Rattle.block_input.specs.Head.{inputShape, laterLine, lineRefused}
 use Rattle.block_input.specs.Parts.{Back, ReadMarks, ReadsLength, ReadsMarks, ReadsHead}
 
 -- ---- a shape line
@@ -75,6 +76,16 @@ module _ (line : List ℕ) (m w c : ℕ) (numbers : Numbers) (is : numbers .read
 module _ (rest : List ℕ) (end : ℕ) (is : end ≡ length (firstLine rest)) where
   pub line-is : take end rest ≡ firstLine rest
   line-is = ap (λ e. take e rest) is ∙ take-line rest
+
+  -- which line is refused, as it is found
+  pub later-read : (m w c : ℕ) (r : MarksLine) → ReadMarks (take end rest) m w c r → cond (eqb (r .refusal) 0) 3 2 ≡ laterLine m w c rest
+  unfolding laterLine
+  later-read m w c r R = ap (λ x. cond (eqb x 0) 3 2) (R .refusal ∙ ap (marksLineRefusal m w c) line-is)
+
+  pub first-read : (s : ShapeLine) → s ≡ shapeLineOf (take end rest)
+      → cond (eqb (s .refusal) 0) (laterLine (s .m) (s .w) (s .c) (afterLine rest)) 1 ≡ lineRefused rest
+  unfolding lineRefused
+  first-read s e = ap (λ x. cond (eqb (x .refusal) 0) (laterLine (x .m) (x .w) (x .c) (afterLine rest)) 1) (e ∙ ap shapeLineOf line-is)
 
   module _ (start : ℕ) (next : start ≡ nextStart end (length rest)) where
     at-next : start ≡ nextStart (length (firstLine rest)) (length rest)
@@ -171,3 +182,25 @@ module _ (rest : List ℕ) (end : ℕ) (is : end ≡ length (firstLine rest)) wh
             size = A′ .size;
             blocks = further (after .start) _ (A′ .blocks);
           }
+
+-- ---- the line that is named is the one whose refusal is given
+-- the refusal of line 1, 2 or 3
+abbrev pub refusalAt : ℕ → List ℕ → ℕ
+refusalAt zero input = 0
+refusalAt (suc zero) input = (inputShape input) .refusal
+refusalAt (suc (suc zero)) input = marksLineRefusal ((inputShape input) .m) ((inputShape input) .w) ((inputShape input) .c) (firstLine (afterLine input))
+refusalAt (suc (suc (suc n))) input = lengthLineRefusal (firstLine (afterLine (afterLine input)))
+
+pub line-named : (ended : Bool) (input : List ℕ) (r : ℕ) → headRefusal ended input ≡ suc r → refusalAt (lineRefused input) input ≡ suc r
+unfolding headRefusal marksPart lengthPart laterLine lineRefused
+line-named ended input r =
+    go (settled ended input) (settled ended (afterLine input)) (settled ended (afterLine (afterLine input))) (refusalAt 1 input) (refusalAt 2 input) refl refl
+  where
+    go : (p q s : Bool) (a b : ℕ) → a ≡ refusalAt 1 input → b ≡ refusalAt 2 input
+        → cond p (a orElse cond q (b orElse cond s (refusalAt 3 input) 0) 0) 0 ≡ suc r → refusalAt (cond (eqb a 0) (cond (eqb b 0) 3 2) 1) input ≡ suc r
+    go true q s (suc a) b e f h = rw (ne-eqb (suc a) 0 (λ z. omega arith)) (sym e ∙ h)
+    go true true s zero (suc b) e f h = rw (ne-eqb (suc b) 0 (λ z. omega arith)) (sym f ∙ h)
+    go true true true zero zero e f h = h
+    go true true false zero zero e f h = let z : _≡_ {A = ℕ} 0 (suc r) = h in absurd (omega arith)
+    go true false s zero b e f h = let z : _≡_ {A = ℕ} 0 (suc r) = h in absurd (omega arith)
+    go false q s a b e f h = let z : _≡_ {A = ℕ} 0 (suc r) = h in absurd (omega arith)

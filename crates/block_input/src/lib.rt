@@ -11,7 +11,7 @@ ghost use Rattle.print.specs.Holds.{Holds};
 ghost use Rattle.block_input.specs.Lines.{firstLine};
 ghost use Rattle.block_input.specs.LinesLaws.{nextStart};
 ghost use Rattle.block_input.specs.Length.{lengthOf};
-ghost use Rattle.block_input.specs.Head.{shapeLineOf, marksLineRefusal, headRefusal};
+ghost use Rattle.block_input.specs.Head.{shapeLineOf, marksLineRefusal, headRefusal, laterLine, lineRefused};
 ghost use Rattle.block_input.specs.Parts.{ReadMarks, ReadsLength, ReadsMarks, ReadsHead};
 ghost use Rattle.block_input.specs.Output.{verdictOf, heldOf};
 
@@ -226,6 +226,28 @@ pub fn refusal_so_far(input: &[u8]) -> u8
 {
     let head = read_head(false, input);
     head.refusal
+}
+
+// Which of the lines from the marks line on is refused first: 2 for that one, 3 if it is not refused.
+fn later_line(rest: &[u8], m: usize, w: usize, c: usize) -> u8
+    ensures { λ r. ⌜ r ≡ laterLine m w c (now (rest .entry)) ⌝ }
+{
+    let end = line_end(rest);
+    let line = read_marks(&rest[..end], m, w, c);
+    if line.refusal == 0 { 3 } else { 2 }
+}
+
+// Which of the three lines of an input that is refused for one of them this is: 1 for the shape line, 2 for the marks line, 3 for the length line.
+pub fn line_refused(input: &[u8]) -> u8
+    ensures { λ r. ⌜ r ≡ lineRefused (now (input .entry)) ⌝ }
+{
+    let end = line_end(input);
+    let line = read_shape(&input[..end]);
+    if line.refusal != 0 {
+        return 1;
+    }
+    let start = next_start(end, input.len());
+    later_line(&input[start..], line.m, line.w, line.c)
 }
 
 // The verdict on a whole input; its blocks are mended in place.

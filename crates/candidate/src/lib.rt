@@ -219,7 +219,7 @@ fn mend(m: usize, w: usize, c: usize, marks: &[u8], bound: &[u8], word: &mut [u8
     s
 }
 
-// The candidate of a good shape, and its sums across; bound comes to hold the marks of the places that the groups keep.
+// The candidate of a good shape, and its sums across; bound is working space.
 fn rebuild(
     m: usize,
     w: usize,

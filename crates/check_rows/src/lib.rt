@@ -293,7 +293,7 @@ pub fn first_sum(part: &[u8], i: usize) -> u8
     }
 }
 
-// The same with the sixteenth powers of those coefficients.
+// The inner product of a part with the coefficients of the second sum across, the sixteenth powers of the first sum's; i is c - 1.
 pub fn second_sum(part: &[u8], i: usize) -> u8
     ensures { λ r. ⌜ r ≡ innerProduct 8 285 (length (now (part .entry))) (now (part .entry)) (getD secondRows i noRow) ⌝ }
 {

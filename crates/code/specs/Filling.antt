@@ -1,6 +1,6 @@
--- The first filling of the lost places that passes a test. It says what is wanted and not how to find it: the places are gone through in
--- word order, a present place keeps its symbol, a lost one tries every symbol, the smallest first. Nobody computes it; its laws say that
--- what is found fills and passes, and that where nothing is found no filling passes.
+-- The first filling of the lost places that passes a test. It specifies the result, not how to find it: going through the places in
+-- word order, a present place keeps its symbol and a lost place tries every symbol, smallest first. It is never run; its laws say that
+-- what is found fills and passes, and that if nothing is found, no filling passes.
 use mathlib.Core.Path.{_≡_}
 use mathlib.Core.Bool.{Bool, true, false, cond}
 use mathlib.Core.List.{List, [], _∷_}

@@ -105,15 +105,15 @@ pub fn lose(desk: Desk, handle: u64, place: usize) -> AfterChange
         };
     }
     let s = (handle % 8) as usize;
-    let job = desk.jobs[s];
+    let mut d = desk;
+    let job = d.jobs[s];
     let then = with_lost(job, place);
     if 2 < then.excess {
         return AfterChange {
-            desk: desk,
+            desk: d,
             answer: Answer::Refused(8),
         };
     }
-    let mut d = desk;
     d.jobs[s] = then;
     AfterChange {
         desk: d,
@@ -133,9 +133,9 @@ pub fn find(desk: Desk, handle: u64, place: usize) -> AfterChange
         };
     }
     let s = (handle % 8) as usize;
-    let job = desk.jobs[s];
-    let then = with_found(job, place);
     let mut d = desk;
+    let job = d.jobs[s];
+    let then = with_found(job, place);
     d.jobs[s] = then;
     AfterChange {
         desk: d,

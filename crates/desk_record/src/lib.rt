@@ -1,9 +1,14 @@
 // The record of a desk of eight recovery jobs: Fresh, whether a desk is sound, and whether a handle is open.
 use desk_job::Job;
 ghost use mathlib.Core.Path.{_≡_};
+ghost use mathlib.Core.Bool.{cond, not, _&&_};
 ghost use Prim.Native.Nat.{_<_};
-ghost use Rattle.desk_record.specs.Desks.{freshDesk, isIssued, isSoundSlot, hasIssue, isTwice, isSound, isOpen};
-ghost use Rattle.desk_record.specs.Refusal.{handleRefusal};
+ghost use lib.Dec.{eqb};
+ghost use lib.ListN.{getD};
+ghost use Rattle.counting.specs.Test.{anyBelow};
+ghost use Rattle.desk_job.specs.Jobs.{isTaken};
+ghost use Rattle.desk_record.specs.Desks.{freshDesk, issueOf, isIssued, isSoundSlot, isSound, isOpen};
+ghost use Rattle.desk_record.specs.Refusal.{soundRefusal, handleRefusal};
 
 // Eight jobs in a fixed row, and the count t of handles issued.
 #[repr(C)]
@@ -51,30 +56,28 @@ fn is_sound_slot(t: u64, s: usize, job: Job) -> bool
     is_issued(t, job.handle / 8)
 }
 
-// Whether a job is taken under the issue number u.
-fn has_issue(u: u64, job: Job) -> bool
-    ensures { λ r. ⌜ r ≡ hasIssue u job ⌝ }
+// The issue number under which a slot is taken; 0 if it is not taken.
+fn issue_in(job: Job) -> u64
+    ensures { λ r. ⌜ r ≡ cond (isTaken job) (issueOf (job .handle)) 0 ⌝ }
 {
     if job.taken != 1 {
-        return false;
+        return 0;
     }
-    job.handle / 8 == u
+    job.handle / 8
 }
 
-// Whether the issue number of slot s stands in a lower slot too.
-fn is_twice(desk: Desk, s: usize) -> bool
+// Whether the issue number of slot s is not 0 and stands in a lower slot too.
+fn is_twice(issues: [u64; 8], s: usize) -> bool
     requires { ⌜ s < 8 ⌝ }
-    ensures { λ r. ⌜ r ≡ isTwice desk s ⌝ }
+    ensures { λ r. ⌜ r ≡ not (eqb (getD issues s 0) 0) && anyBelow s (λ k. eqb (getD issues k 0) (getD issues s 0)) ⌝ }
 {
-    let job = desk.jobs[s];
-    if job.taken != 1 {
+    let u = issues[s];
+    if u == 0 {
         return false;
     }
-    let u = job.handle / 8;
     let mut r: usize = 0;
     while r < s {
-        let other = desk.jobs[r];
-        if has_issue(u, other) {
+        if issues[r] == u {
             return true;
         }
         r += 1;
@@ -82,7 +85,7 @@ fn is_twice(desk: Desk, s: usize) -> bool
     false
 }
 
-// Whether a desk is sound.
+// Whether a desk is sound. Slot 0, which has no lower one, is tested before the loop.
 pub fn is_sound(desk: Desk) -> bool
     ensures { λ r. ⌜ r ≡ isSound desk ⌝ }
 {
@@ -90,13 +93,20 @@ pub fn is_sound(desk: Desk) -> bool
     if 65535 < t {
         return false;
     }
-    let mut s: usize = 0;
+    let first = desk.jobs[0];
+    if !is_sound_slot(t, 0, first) {
+        return false;
+    }
+    let mut issues = [0u64; 8];
+    issues[0] = issue_in(first);
+    let mut s: usize = 1;
     while s < 8 {
         let job = desk.jobs[s];
         if !is_sound_slot(t, s, job) {
             return false;
         }
-        if is_twice(desk, s) {
+        issues[s] = issue_in(job);
+        if is_twice(issues, s) {
             return false;
         }
         s += 1;
@@ -119,11 +129,18 @@ fn is_open(desk: Desk, handle: u64) -> bool
     job.handle == handle
 }
 
+// 31 if a desk is not sound; 0 if it is.
+fn sound_refusal(desk: Desk) -> u8
+    ensures { λ r. ⌜ r ≡ soundRefusal desk ⌝ }
+{
+    if is_sound(desk) { 0 } else { 31 }
+}
+
 // 31 or 12, the refusals of a call with a handle; 0 if there is none.
 pub fn handle_refusal(desk: Desk, handle: u64) -> u8
     ensures { λ r. ⌜ r ≡ handleRefusal handle desk ⌝ }
 {
-    let sound = is_sound(desk);
     let open = is_open(desk, handle);
-    if sound { if open { 0 } else { 12 } } else { 31 }
+    let r = sound_refusal(desk);
+    if r == 0 { if open { 0 } else { 12 } } else { r }
 }

@@ -67,19 +67,19 @@ pub fn serve(desk: Desk, handle: u64, word: &mut [u8]) -> AfterServe
         };
     }
     let s = (handle % 8) as usize;
-    let job = desk.jobs[s];
+    let mut d = desk;
+    let job = d.jobs[s];
     match serve_job(job, word) {
         Mending::Refused(r) => AfterServe {
-            desk: desk,
+            desk: d,
             answer: Mending::Refused(r),
         },
         Mending::Contradictory(group) => AfterServe {
-            desk: desk,
+            desk: d,
             answer: Mending::Contradictory(group),
         },
         Mending::Done => {
             let raised = served_once(job);
-            let mut d = desk;
             d.jobs[s] = raised;
             AfterServe {
                 desk: d,

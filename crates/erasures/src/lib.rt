@@ -98,7 +98,7 @@ fn all_bound(marks: &[u8], bound: &[u8]) -> bool
     same
 }
 
-// A number of places from the first on none of which is free, sixteen at a time.
+// A number r such that none of the first r places is free; places are examined sixteen at a time.
 fn none_free(marks: &[u8], bound: &[u8]) -> usize
     ensures { λ r. ⌜ ((p : ℕ) → p < r → free (now (marks .entry)) (now (bound .entry)) p ≡ false) ⌝ }
 {

@@ -8,7 +8,7 @@ ghost use Rattle.shape.specs.Shapes.{shapeRefusal, bufferRefusal, figuresOf};
 ghost use Rattle.word_check.specs.Checked.{checkedOf};
 ghost use Rattle.c_answers.specs.Mends.{outcomeMended};
 ghost use Rattle.c_figures.specs.Numbers.{checkedMended};
-ghost use Rattle.places.specs.Places.{extractedData};
+ghost use Rattle.places.specs.Places.{extractedData, checkMarksRefusal, checkMarksBuffer};
 ghost use Rattle.judge.specs.Judgement.{judgedNumberOf};
 ghost use Rattle.profile.specs.Profiled.{profiledOf};
 ghost use Rattle.exports.specs.Profiles.{profileAnswer};
@@ -77,6 +77,14 @@ pub extern "C" fn axlebloom_extract(
     ensures buffer { λ _. ⌜ now (bytes .exit) ≡ extractedData m w c (now (word .entry)) (now (bytes .entry)) ⌝ }
 {
     c_answers::number(places::extract(m, w, c, word, bytes))
+}
+
+#[no_mangle]
+pub extern "C" fn axlebloom_check_marks(m: usize, w: usize, c: usize, marks: &mut [u8]) -> u8
+    ensures number { λ r. ⌜ r ≡ checkMarksRefusal m w c (length (now (marks .entry))) ⌝ }
+    ensures marks { λ _. ⌜ now (marks .exit) ≡ checkMarksBuffer m w c (now (marks .entry)) ⌝ }
+{
+    c_answers::number(places::check_marks(m, w, c, marks))
 }
 
 #[no_mangle]

@@ -6,7 +6,7 @@ ghost use lib.ListN.{length, getD};
 ghost use Rattle.shape.specs.Shapes.{shapeRefusalIn, bufferRefusalIn};
 ghost use Rattle.shape.specs.Answers.{mendingAt};
 ghost use Rattle.word_check.specs.Checked.{checkedIn};
-ghost use Rattle.places.specs.Places.{extractedDataIn};
+ghost use Rattle.places.specs.Places.{extractedDataIn, checkMarksRefusalIn, checkMarksBufferIn};
 ghost use Rattle.judge.specs.Judgement.{judgedNumberIn};
 ghost use Rattle.recover.specs.Recover.{recoverIn};
 ghost use Rattle.repair.specs.Repair.{repairIn};
@@ -77,6 +77,14 @@ pub extern "C" fn axlebloom_wide_extract(
     ensures buffer { λ _. ⌜ now (symbols .exit) ≡ extractedDataIn wideLimits m w c (now (word .entry)) (now (symbols .entry)) ⌝ }
 {
     c_answers::number(wide_places::extract(m, w, c, word, symbols))
+}
+
+#[no_mangle]
+pub extern "C" fn axlebloom_wide_check_marks(m: usize, w: usize, c: usize, marks: &mut [u8]) -> u8
+    ensures number { λ r. ⌜ r ≡ checkMarksRefusalIn wideLimits m w c (length (now (marks .entry))) ⌝ }
+    ensures marks { λ _. ⌜ now (marks .exit) ≡ checkMarksBufferIn wideLimits m w c (now (marks .entry)) ⌝ }
+{
+    c_answers::number(wide_places::check_marks(m, w, c, marks))
 }
 
 #[no_mangle]

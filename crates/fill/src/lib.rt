@@ -1,4 +1,4 @@
-// Fills the lost places of one group from the group's own local equations, of which t lost places take the first t.
+// Fills the lost places of one group from its local equations; if t places are lost, the first t equations are used.
 ghost use mathlib.Core.Path.{_≡_};
 ghost use Prim.Native.Nat.{_≤_, _<_};
 ghost use lib.ListN.{length};

@@ -6,7 +6,7 @@ ghost use Rattle.shape.specs.Shapes.{Good};
 ghost use Rattle.code.specs.Marks.{lostIn, excess};
 ghost use Rattle.marks.specs.Refusal.{areMarks, marksRefusal};
 
-// Whether every mark is 0 or 1. The largest is sought over all of them: a loop without a way out is fast.
+// Whether every mark is 0 or 1. Computes the largest of all marks: a loop without an early exit is fast.
 pub fn are_marks(marks: &[u8]) -> bool
     ensures { λ r. ⌜ r ≡ areMarks (now (marks .entry)) ⌝ }
 {

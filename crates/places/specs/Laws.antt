@@ -9,10 +9,11 @@ use native.Mathlib.Omega.{arith}
 use lib.Dec.{eqb, leb}
 use lib.ListN.{length, getD, length-map, drop-of-length-le}
 use borrow.Author.Tests.{le-leb, lt-leb, eq-eqb, ne-eqb}
-use Rattle.shape.specs.Shapes.{Limits, GoodIn, placeCount, dataCount}
-use Rattle.shape.specs.Laws.{data-and-checks, word-of-good, buffers-of-good}
+use Rattle.shape.specs.RefusalsLaws.{orElse-zero}
+use Rattle.shape.specs.Shapes.{Limits, GoodIn, placeCount, dataCount, saleRefusalIn, wordRefusalIn}
+use Rattle.shape.specs.Laws.{data-and-checks, good-of-word, word-of-good, buffers-of-good}
 use Rattle.places.specs.Places.{isCheck, othersFrom, dataPlaces, bytesAt, extractOf, placedOf, mark, checkMarks, extractedDataIn, placedWordIn}
-use Rattle.places.specs.Places.{marksFrom, markedChecksIn}
+use Rattle.places.specs.Places.{marksFrom, markedChecksIn, checkMarksRefusalIn}
 use Rattle.places.specs.Runs.{withChecks}
 use Rattle.marks.specs.CountsLaws.{groups-whole}
 use Rattle.counting.specs.Count.{totalBelow, countBelow, one}
@@ -139,6 +140,11 @@ module _ (m w c : ℕ) where
   unfolding extractOf dataPlaces bytesAt
   agree-extract x y h p l e =
       FromLaws.ext-others (isCheck m w c) (λ p. getD x p 0) (λ p. getD y p 0) 0 (placeCount m w) h p (omega arith) (omega arith) e
+
+-- a call of Check marks that is not refused has a good shape and marks of n
+pub good-of-check-marks : {L : Limits} (m w c n : ℕ) → checkMarksRefusalIn L m w c n ≡ 0 → GoodIn L m w c × (n ≡ placeCount m w)
+unfolding checkMarksRefusalIn
+good-of-check-marks {L} m w c n e = good-of-word m w c n (orElse-zero (saleRefusalIn L m w c) (wordRefusalIn L m w c n) e .1)
 
 -- marks of m·w places with the checks of all their groups lost
 pub checks-whole : (m w c : ℕ) (marks : List ℕ) → 0 < w → length marks ≡ m * w → withChecks w c marks ≡ checkMarks m w c

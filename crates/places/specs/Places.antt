@@ -4,8 +4,8 @@ use mathlib.Core.List.{List, [], _∷_, map}
 use Prim.Native.Nat.{ℕ, zero, suc, _+_, _/_, _%_}
 use lib.Dec.{eqb, leb}
 use lib.ListN.{length, getD, drop}
-use Rattle.shape.specs.Refusals.{unlessRefused}
-use Rattle.shape.specs.Shapes.{Limits, byteLimits, placeCount, wordRefusalIn, bufferRefusalIn}
+use Rattle.shape.specs.Refusals.{_orElse_, unlessRefused}
+use Rattle.shape.specs.Shapes.{Limits, byteLimits, placeCount, saleRefusalIn, wordRefusalIn, bufferRefusalIn}
 use Rattle.shape.specs.declared.Answer.{Answer}
 use Rattle.shape.specs.Answers.{answerAt}
 
@@ -71,6 +71,18 @@ placedWordIn L m w c bytes word = unlessRefused (bufferRefusalIn L m w c (length
 unfoldable pub markedChecksIn : Limits → ℕ → ℕ → ℕ → List ℕ → List ℕ
 markedChecksIn L m w c marks = unlessRefused (wordRefusalIn L m w c (length marks)) (checkMarks m w c) marks
 
+-- The service Check marks, for encoding by a rebuild: refused with 1 to 4, 26, 29 and then 5, as Encode is
+unfoldable pub checkMarksRefusalIn : Limits → ℕ → ℕ → ℕ → ℕ → ℕ
+checkMarksRefusalIn L m w c lent = saleRefusalIn L m w c orElse wordRefusalIn L m w c lent
+
+-- what it answers
+unfoldable pub checkMarksAnswerIn : Limits → ℕ → ℕ → ℕ → List ℕ → Answer
+checkMarksAnswerIn L m w c marks = answerAt (checkMarksRefusalIn L m w c (length marks))
+
+-- the marks at the end
+unfoldable pub checkMarksBufferIn : Limits → ℕ → ℕ → ℕ → List ℕ → List ℕ
+checkMarksBufferIn L m w c marks = unlessRefused (checkMarksRefusalIn L m w c (length marks)) (checkMarks m w c) marks
+
 -- Extract in the edition of bytes: its answer
 abbrev pub extractedOf : ℕ → ℕ → ℕ → List ℕ → List ℕ → Answer
 extractedOf = extractedIn byteLimits
@@ -86,3 +98,15 @@ placedWord = placedWordIn byteLimits
 -- and the marks after mark_checks
 abbrev pub markedChecks : ℕ → ℕ → ℕ → List ℕ → List ℕ
 markedChecks = markedChecksIn byteLimits
+
+-- Check marks in the edition of bytes: its refusals
+abbrev pub checkMarksRefusal : ℕ → ℕ → ℕ → ℕ → ℕ
+checkMarksRefusal = checkMarksRefusalIn byteLimits
+
+-- its answer
+abbrev pub checkMarksAnswer : ℕ → ℕ → ℕ → List ℕ → Answer
+checkMarksAnswer = checkMarksAnswerIn byteLimits
+
+-- and the marks at the end
+abbrev pub checkMarksBuffer : ℕ → ℕ → ℕ → List ℕ → List ℕ
+checkMarksBuffer = checkMarksBufferIn byteLimits

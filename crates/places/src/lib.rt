@@ -7,6 +7,7 @@ ghost use lib.ListN.{length, replicate};
 ghost use Rattle.shape.specs.Shapes.{Good, placeCount, dataCount, bufferRefusal};
 ghost use Rattle.shape.specs.Answers.{answerNumber};
 ghost use Rattle.places.specs.Places.{extractOf, placedOf, extractedOf, extractedData, placedWord, markedChecks};
+ghost use Rattle.places.specs.Places.{checkMarksRefusal, checkMarksAnswer, checkMarksBuffer};
 ghost use Rattle.places.specs.Runs.{dataOf, dataIn, withChecks};
 
 // How many places of a group carry data, in the last group and in another; none where its checks are too many.
@@ -109,7 +110,7 @@ fn mark_part(d: usize, part: &mut [u8])
     buffers::set_all(&mut part[d..], 1);
 }
 
-// Marks the check places of every group of w places, and clears its other marks. Groups that are whole count: places after them stay as they are,
+// Marks the check places of every group of w places, and clears its other marks. Only complete groups are treated: places after the last one stay as they are,
 // and a width of 0 has no group.
 pub fn mark_groups(w: usize, c: usize, marks: &mut [u8])
     ensures { λ _. ⌜ now (marks .exit) ≡ withChecks w c (now (marks .entry)) ⌝ }
@@ -134,4 +135,27 @@ pub fn mark_checks(m: usize, w: usize, c: usize, marks: &mut [u8])
         return;
     }
     mark_groups(w, c, marks);
+}
+
+// The refusal of Check marks by the shape and the length of the marks: 1 to 4, 29, then 5; 0 if there is none.
+fn check_marks_refusal(m: usize, w: usize, c: usize, marks: usize) -> u8
+    ensures { λ r. ⌜ r ≡ checkMarksRefusal m w c marks ⌝ }
+{
+    let unsold = shape::sale_refusal(m, w, c);
+    let lengths = shape::word_refusal(m, w, c, marks);
+    shape::or_else(unsold, lengths)
+}
+
+// The service Check marks: 1 at each check place and 0 at each other.
+pub fn check_marks(m: usize, w: usize, c: usize, marks: &mut [u8]) -> Answer
+    ensures answer { λ r. ⌜ r ≡ checkMarksAnswer m w c (now (marks .entry)) ⌝ }
+    ensures number { λ r. ⌜ answerNumber r ≡ checkMarksRefusal m w c (length (now (marks .entry))) ⌝ }
+    ensures marks { λ _. ⌜ now (marks .exit) ≡ checkMarksBuffer m w c (now (marks .entry)) ⌝ }
+{
+    let refused = check_marks_refusal(m, w, c, marks.len());
+    if refused != 0 {
+        return Answer::Refused(refused);
+    }
+    mark_groups(w, c, marks);
+    Answer::Done
 }

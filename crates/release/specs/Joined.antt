@@ -18,8 +18,8 @@ joined = endToEnd texts
 -- where each starts, and where the last one ends
 unfoldable pub starts : List ℕ
 starts =
-    0 ∷ 4 ∷ 40 ∷ 82 ∷ 113 ∷ 143 ∷ 176 ∷ 201 ∷ 223 ∷ 247 ∷ 280 ∷ 315 ∷ 352 ∷ 379 ∷ 427 ∷ 450 ∷ 477 ∷ 516 ∷ 534 ∷ 564
-    ∷ 600 ∷ 626 ∷ 647 ∷ 669 ∷ 701 ∷ 735 ∷ 761 ∷ 796 ∷ 834 ∷ 868 ∷ 901 ∷ 930 ∷ 951 ∷ 979 ∷ []
+    0 ∷ 4 ∷ 40 ∷ 82 ∷ 113 ∷ 143 ∷ 205 ∷ 258 ∷ 280 ∷ 304 ∷ 337 ∷ 372 ∷ 409 ∷ 436 ∷ 484 ∷ 529 ∷ 561 ∷ 615 ∷ 673 ∷ 718
+    ∷ 765 ∷ 803 ∷ 863 ∷ 885 ∷ 917 ∷ 959 ∷ 985 ∷ 1020 ∷ 1074 ∷ 1128 ∷ 1169 ∷ 1198 ∷ 1219 ∷ 1247 ∷ []
 
 -- the row of a number: its own, or the last one
 unfoldable pub rowOf : ℕ → ℕ

@@ -4,9 +4,9 @@ use mathlib.Core.Bool.{Bool, true, false, _&&_}
 use Prim.Native.Nat.{ℕ, _+_, _-_, _≤_, _<_}
 use native.Mathlib.Decide.{decLt}
 use native.Mathlib.Omega.{arith}
-use lib.Dec.{T, eqb, leb, eqb→eq, leb→le}
+use lib.Dec.{T, eqb, ltb, leb, eqb→eq, leb→le}
 use lib.ListN.{length, take, drop, getD, List·getD-eq-default}
-use borrow.Author.Tests.{lt-ltb, le-ltb}
+use borrow.Author.Tests.{lt-ltb, le-ltb, ltb-true}
 use Rattle.counting.specs.Test.{allBelow}
 use Rattle.counting.specs.TestLaws.{and-l, and-r, all-at}
 use Rattle.text.specs.Fields.{same}
@@ -20,7 +20,7 @@ is-true false t = absurd t
 
 -- a row ends after it starts and within what is joined, holds its text and is as long as that
 inOrder : ℕ → Bool
-inOrder i = leb (getD starts i 0) (getD starts (i + 1) 0) && leb (getD starts (i + 1) 0) 979
+inOrder i = leb (getD starts i 0) (getD starts (i + 1) 0) && leb (getD starts (i + 1) 0) 1247
 
 holdsText : ℕ → Bool
 holdsText i = eqb (getD starts (i + 1) 0 - getD starts i 0) (length (textOf i)) && same (rowText i) (textOf i)
@@ -50,7 +50,7 @@ row-text number = elim (decLt number 32) [
 -- what stands from a to e is the text of a number
 pub record Row (number a e : ℕ) : Type 0 where
   pub order : a ≤ e
-  pub most : e ≤ 979
+  pub most : e ≤ 1247
   pub size : e - a ≡ length (textOf number)
   pub text : take (e - a) (drop a joined) ≡ textOf number
 
@@ -72,3 +72,17 @@ pub row-at : (number i a e : ℕ) → i ≡ rowOf number → a ≡ getD starts i
 row-at number i a e ei ea ee =
     subst (λ x. Row number x e) (sym (ea ∙ ap (λ x. getD starts x 0) ei))
     (subst (λ x. Row number (getD starts (rowOf number) 0) x) (sym (ee ∙ ap (λ x. getD starts (x + 1) 0) ei)) (row-of number))
+
+-- every text fits in 64 bytes with a zero byte after it
+shortText : ℕ → Bool
+shortText i = ltb (length (textOf i)) 64
+
+short-rule : T (allBelow 33 shortText)
+unfolding shortText textOf texts
+short-rule = tt
+
+pub text-short : (number : ℕ) → length (textOf number) < 64
+unfolding shortText
+text-short number =
+    let t = is-true _ (all-at 33 shortText short-rule (rowOf number) (row-below number)) in
+    subst (λ x. length x < 64) (row-text number) (ltb-true (length (textOf (rowOf number))) 64 t)

@@ -7,14 +7,14 @@ ghost use Rattle.release.specs.Texts.{textOf, lentText};
 ghost use Rattle.release.specs.Joined.{joined, starts, rowOf};
 
 // The texts of 0 to 31, and that of any other number, end to end.
-const ALL: [u8; 979] = *b"\
+const ALL: [u8; 1247] = *b"\
     done\
     the number of groups is out of range\
     the number of local checks is out of range\
     the group width is out of range\
     the shape has no room for data\
-    a length does not match the shape\
-    a mark is neither 0 nor 1\
+    the number of bytes, symbols or marks does not match the shape\
+    a mark or a gather's finished byte is neither 0 nor 1\
     there is no such group\
     too many places are lost\
     the present bytes fit no codeword\
@@ -22,22 +22,22 @@ const ALL: [u8; 979] = *b"\
     the desk is full: eight jobs are open\
     no open job has this handle\
     the job has served as many words as it can count\
-    the line cannot be read\
-    no shape has been given yet\
-    the catalogue's text is not of its form\
-    this is not a name\
-    the catalogue has no such name\
-    the revision is not the expected one\
-    the revision is at its end\
-    the catalogue is full\
+    a line is unreadable, missing or out of order\
+    no good shape has been given yet\
+    the catalogue text is malformed or its length is wrong\
+    not a valid name: use 1 to 16 of a to z, 0 to 9 and hyphen\
+    the catalogue has no such name, or it is gone\
+    the name's revision is not the one you expected\
+    no revision is left: 65535 is the last\
+    the new catalogue text would exceed its buffer or 4096 bytes\
     the gather is finished\
     the stretch ends beyond the word\
-    a place of the stretch came before\
+    a place in the stretch has already arrived\
     the word has no such place\
     the shape has more than 4096 places\
-    the blocks are not of the length given\
-    the losses are outside the profile\
-    four local checks are out of sale\
+    the blocks' total length is wrong, zero or above 65536\
+    outside the profile; the word may still be recoverable\
+    shapes with four local checks are retired\
     there is no such byte of data\
     the desk is not sound\
     not a number of this library";
@@ -50,34 +50,34 @@ const STARTS: [usize; 34] = [
     82,
     113,
     143,
-    176,
-    201,
-    223,
-    247,
+    205,
+    258,
     280,
-    315,
-    352,
-    379,
-    427,
-    450,
-    477,
-    516,
-    534,
-    564,
-    600,
-    626,
-    647,
-    669,
-    701,
-    735,
-    761,
-    796,
-    834,
-    868,
-    901,
-    930,
-    951,
-    979,
+    304,
+    337,
+    372,
+    409,
+    436,
+    484,
+    529,
+    561,
+    615,
+    673,
+    718,
+    765,
+    803,
+    863,
+    885,
+    917,
+    959,
+    985,
+    1020,
+    1074,
+    1128,
+    1169,
+    1198,
+    1219,
+    1247,
 ];
 
 // The version, as 10,000 times the first figure, 100 times the second, and the third.
@@ -136,7 +136,7 @@ fn lend(text: &[u8], out: &mut [u8])
 
 // The same with a part of the texts.
 fn lend_part(a: usize, e: usize, out: &mut [u8])
-    requires { ⌜ (a ≤ e) × (e ≤ 979) ⌝ }
+    requires { ⌜ (a ≤ e) × (e ≤ 1247) ⌝ }
     ensures { λ _. ⌜ now (out .exit) ≡ lentText (take (e - a) (drop a joined)) (now (out .entry)) ⌝ }
 {
     lend(&ALL[a..e], out);

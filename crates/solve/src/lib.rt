@@ -118,7 +118,7 @@ fn clear_row(x: &mut [u8], b: &[u8], j: usize, i: usize)
     add(&mut x[a..e], b, f);
 }
 
-// Each row below t but j so cleared.
+// Clears column j in every row below t except row j.
 fn clear(x: &mut [u8], j: usize, t: usize)
     requires { ⌜ (length (now x) ≡ 64) × (j < 4) × (t ≤ 4) ⌝ }
     ensures { λ _. ⌜ rowsOf (now (x .exit)) ≡ cleared 8 285 (rowsOf (now (x .entry))) j t ⌝ }
@@ -207,7 +207,7 @@ fn at_most_4(t: usize) -> usize
     if t < 4 { t } else { 4 }
 }
 
-// The first t rows and columns made the identity, as far as there are pivots; t above 4 counts as 4. One equation whose coefficient is 1 is solved.
+// Reduces the first t rows and columns to the identity, in every column that has a pivot; t above 4 is taken as 4. A single equation whose coefficient is 1 is already solved.
 pub fn eliminate(rows: [[u8; 16]; 4], t: usize) -> [[u8; 16]; 4]
     ensures { λ r. ⌜ r ≡ eliminated 8 285 rows (min t 4) ⌝ }
 {

@@ -93,7 +93,7 @@ fn take_byte(line: &mut [u8], byte: u8, at: Place, out: &mut [u8]) -> Place
     at
 }
 
-// Takes the first bytes of some, in order, with an empty output before them.
+// Takes the first bytes of the input in order, starting with an empty output.
 fn take_all(line: &mut [u8], bytes: &[u8], count: usize, first: Place, out: &mut [u8]) -> Place
     requires { ⌜ (length (now line) ≡ 1025) × (first .length ≤ 1025) × (first .used ≡ 0) × (count ≤ length (now bytes)) ⌝ }
     requires { ⌜ 12 * (first .length + count) ≤ length (now out) ⌝ }

@@ -174,7 +174,7 @@ const COEFFICIENTS: [u16; 128] = [
     4303,
 ];
 
-// The row of those.
+// The row of the 128 coefficients.
 fn coefficients() -> [u16; 128]
     ensures { λ r. ⌜ AllCoefficients r ⌝ }
 {

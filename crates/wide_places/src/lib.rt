@@ -8,6 +8,7 @@ ghost use Rattle.shape.specs.Shapes.{GoodIn, placeCount, dataCount, bufferRefus
 ghost use Rattle.wide_edition.specs.Edition.{wideLimits};
 ghost use Rattle.shape.specs.Answers.{answerNumber};
 ghost use Rattle.places.specs.Places.{extractOf, placedOf, extractedIn, extractedDataIn, placedWordIn, markedChecksIn};
+ghost use Rattle.places.specs.Places.{checkMarksRefusalIn, checkMarksAnswerIn, checkMarksBufferIn};
 
 // Copies the data symbols of word, in word order, group by group.
 fn copy_data(m: usize, w: usize, c: usize, word: &[u16], symbols: &mut [u16])
@@ -90,4 +91,27 @@ pub fn mark_checks(m: usize, w: usize, c: usize, marks: &mut [u8])
         return;
     }
     places::mark_groups(w, c, marks);
+}
+
+// The refusal of Check marks by the shape and the length of the marks: 1 to 4, 26, 29, then 5; 0 if there is none.
+fn check_marks_refusal(m: usize, w: usize, c: usize, marks: usize) -> u8
+    ensures { λ r. ⌜ r ≡ checkMarksRefusalIn wideLimits m w c marks ⌝ }
+{
+    let unsold = wide_shape::sale_refusal(m, w, c);
+    let lengths = wide_shape::word_refusal(m, w, c, marks);
+    shape::or_else(unsold, lengths)
+}
+
+// The service Check marks: 1 at each check place and 0 at each other.
+pub fn check_marks(m: usize, w: usize, c: usize, marks: &mut [u8]) -> Answer
+    ensures answer { λ r. ⌜ r ≡ checkMarksAnswerIn wideLimits m w c (now (marks .entry)) ⌝ }
+    ensures number { λ r. ⌜ answerNumber r ≡ checkMarksRefusalIn wideLimits m w c (length (now (marks .entry))) ⌝ }
+    ensures marks { λ _. ⌜ now (marks .exit) ≡ checkMarksBufferIn wideLimits m w c (now (marks .entry)) ⌝ }
+{
+    let refused = check_marks_refusal(m, w, c, marks.len());
+    if refused != 0 {
+        return Answer::Refused(refused);
+    }
+    places::mark_groups(w, c, marks);
+    Answer::Done
 }

@@ -27,8 +27,8 @@ pub fn refusal(m: usize, w: usize, c: usize, word: &[u16], marks: &[u8]) -> u8
     wide_marks::marks_refusal(m, w, c, marks)
 }
 
-// Whether the first c local sums of one group's stretch are zero, if its filling with these marks has made as many of them zero as places are
-// lost: with c or more of them nothing is left to test.
+// Whether the first c local sums of one group's stretch are zero, given that filling it with these marks has already made as many of them zero as
+// there are lost places. If c or more places are lost, nothing remains to be tested.
 pub fn filled_zero(marks: &[u8], part: &[u16], c: usize) -> bool
     ensures few { λ r. ⌜ (lostIn (length (now (marks .entry))) (now (marks .entry)) 0 < c → length (now (part .entry)) ≤ 256 → c ≤ 4 → r ≡ isLocal wideEdition (length (now (part .entry))) c (now (part .entry)) 0) ⌝ }
     ensures many { λ r. ⌜ (c ≤ lostIn (length (now (marks .entry))) (now (marks .entry)) 0 → r ≡ true) ⌝ }

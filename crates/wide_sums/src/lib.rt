@@ -79,7 +79,7 @@ const SHORT_LOCATORS: [u16; 16] = [
     19832,
 ];
 
-// The row of those.
+// The row of the first sixteen locators.
 fn short_locators() -> [u16; 16]
     ensures { λ r. ⌜ (length r ≡ 16) × IsRow 16 r ⌝ }
 {

@@ -28,11 +28,11 @@ array-share-prefix-out c =
     let e = c .finish .ensures in
     rw (e .0, e .1) (written-holds _ 0 _)
 
-slice-aggregate-write-out : tie.Need-slice-aggregate-write-out
-slice-aggregate-write-out c = sym (length-take-le _ _ (array-share-prefix-out (c .before)))
+slice-aggregate-put : tie.Need-slice-aggregate-put
+slice-aggregate-put c = sym (length-take-le _ _ (array-share-prefix-out (c .before)))
 
-write-out-requires : tie.Need-write-out-requires
-write-out-requires c κs = search needs
+put-requires : tie.Need-put-requires
+put-requires c κs = search needs
 
 returns-2 : tie.Need-returns-2
 returns-2 c = search needs
@@ -51,11 +51,11 @@ array-share-prefix-out-2 c =
     let e = c .take .ensures .1 in
     rw (e .0, e .1 .0) (written-holds _ 0 _)
 
-slice-aggregate-write-out-2 : tie.Need-slice-aggregate-write-out-2
-slice-aggregate-write-out-2 c = sym (length-take-le _ _ (array-share-prefix-out-2 (c .before)))
+slice-aggregate-put-2 : tie.Need-slice-aggregate-put-2
+slice-aggregate-put-2 c = sym (length-take-le _ _ (array-share-prefix-out-2 (c .before)))
 
-write-out-requires-2 : tie.Need-write-out-requires-2
-write-out-requires-2 c κs = search needs
+put-requires-2 : tie.Need-put-requires-2
+put-requires-2 c κs = search needs
 
 returns-3 : tie.Need-returns-3
 returns-3 c = search needs
@@ -71,13 +71,13 @@ turn-spec =
     returns
     finish-requires
     array-share-prefix-out
-    slice-aggregate-write-out
-    write-out-requires
+    slice-aggregate-put
+    put-requires
     returns-2
     slice-aggregate-count
     count-requires
     take-requires
     array-share-prefix-out-2
-    slice-aggregate-write-out-2
-    write-out-requires-2
+    slice-aggregate-put-2
+    put-requires-2
     returns-3)

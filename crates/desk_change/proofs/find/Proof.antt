@@ -17,7 +17,7 @@ place-refusal-requires c κs = search needs
 returns : tie.Need-returns
 returns c =
     let a = c .before .before .args in
-    gives-refused 0 (a .handle) (a .place) (a .t1) (c .before .place-refusal .result) (c .if1 .taken) (sym (c .before .place-refusal .ensures))
+    gives-refused 0 (a .handle) (a .place) (a .desk) (c .before .place-refusal .result) (c .if1 .taken) (sym (c .before .place-refusal .ensures))
 
 mul-job : tie.Need-mul-job
 mul-job c = search needs
@@ -27,18 +27,19 @@ element-copy-out-job c = search needs
 
 -- no refusal: the handle is open, and the place is below n
 parts : (c : tie.Else1)
-    → (handleRefusal (c .before .before .args .handle) (c .before .before .args .t1) ≡ 0)
-    × (c .before .before .args .place < jobAt (c .before .before .args .t1) (slotOf (c .before .before .args .handle)) .m * jobAt (c .before .before .args .t1)
-    (slotOf (c .before .before .args .handle)) .w)
+    → (handleRefusal (c .before .before .args .handle) (c .before .before .args .desk) ≡ 0)
+    × (c .before .before .args .place
+    < jobAt (c .before .before .args .desk) (slotOf (c .before .before .args .handle)) .m
+    * jobAt (c .before .before .args .desk) (slotOf (c .before .before .args .handle)) .w)
 parts c =
     let a = c .before .before .args in
-    refusal-parts (a .handle) (a .place) (a .t1) (sym (c .before .place-refusal .ensures) ∙ c .if1 .left)
+    refusal-parts (a .handle) (a .place) (a .desk) (sym (c .before .place-refusal .ensures) ∙ c .if1 .left)
 
 with-found-requires : tie.Need-with-found-requires
 with-found-requires c κs =
     let a = c .before .before .before .args in
     let P = parts (c .before) in
-    (open-sound 0 (a .handle) (a .place) (a .t1) (P .0), P .1)
+    (open-sound 0 (a .handle) (a .place) (a .desk) (P .0), P .1)
 
 mul-then : tie.Need-mul-then
 mul-then c = search needs
@@ -51,11 +52,11 @@ returns-2 c =
     let i = c .before .before in
     let P = parts i in
     let a = i .before .before .args in
-    let j = jobAt (a .t1) (slotOf (a .handle)) in
-    let s = open-sound 0 (a .handle) (a .place) (a .t1) (P .0) in
-    subst (λ (x : Job). ChangeGives (changeOf 0 (a .handle) (a .place) (a .t1)) (withJob (a .t1) (slotOf (a .handle)) x) Answer.Done)
+    let j = jobAt (a .desk) (slotOf (a .handle)) in
+    let s = open-sound 0 (a .handle) (a .place) (a .desk) (P .0) in
+    subst (λ (x : Job). ChangeGives (changeOf 0 (a .handle) (a .place) (a .desk)) (withJob (a .desk) (slotOf (a .handle)) x) Answer.Done)
     (sym (c .with-found .ensures))
-    (gives-done 0 (a .handle) (a .place) (a .t1) (P .0) (place-done 0 (a .place) j (P .1)
+    (gives-done 0 (a .handle) (a .place) (a .desk) (P .0) (place-done 0 (a .place) j (P .1)
     (le-trans (found-few j s (a .place) (P .1)) (few j s (a .place) (P .1)))))
 
 pub find-spec : {M : Type 1} → statement M

@@ -17,7 +17,7 @@ place-refusal-requires c κs = search needs
 returns : tie.Need-returns
 returns c =
     let a = c .before .before .args in
-    gives-refused 1 (a .handle) (a .place) (a .t1) (c .before .place-refusal .result) (c .if1 .taken) (sym (c .before .place-refusal .ensures))
+    gives-refused 1 (a .handle) (a .place) (a .desk) (c .before .place-refusal .result) (c .if1 .taken) (sym (c .before .place-refusal .ensures))
 
 mul-job : tie.Need-mul-job
 mul-job c = search needs
@@ -27,26 +27,27 @@ element-copy-out-job c = search needs
 
 -- no refusal: the handle is open, and the place is below n
 parts : (c : tie.Else1)
-    → (handleRefusal (c .before .before .args .handle) (c .before .before .args .t1) ≡ 0)
-    × (c .before .before .args .place < jobAt (c .before .before .args .t1) (slotOf (c .before .before .args .handle)) .m * jobAt (c .before .before .args .t1)
-    (slotOf (c .before .before .args .handle)) .w)
+    → (handleRefusal (c .before .before .args .handle) (c .before .before .args .desk) ≡ 0)
+    × (c .before .before .args .place
+    < jobAt (c .before .before .args .desk) (slotOf (c .before .before .args .handle)) .m
+    * jobAt (c .before .before .args .desk) (slotOf (c .before .before .args .handle)) .w)
 parts c =
     let a = c .before .before .args in
-    refusal-parts (a .handle) (a .place) (a .t1) (sym (c .before .place-refusal .ensures) ∙ c .if1 .left)
+    refusal-parts (a .handle) (a .place) (a .desk) (sym (c .before .place-refusal .ensures) ∙ c .if1 .left)
 
 with-lost-requires : tie.Need-with-lost-requires
 with-lost-requires c κs =
     let a = c .before .before .before .args in
     let P = parts (c .before) in
-    (open-sound 1 (a .handle) (a .place) (a .t1) (P .0), P .1)
+    (open-sound 1 (a .handle) (a .place) (a .desk) (P .0), P .1)
 
 returns-2 : tie.Need-returns-2
 returns-2 c =
     let k = c .before .before in
     let P = parts (k .before .before) in
     let a = k .before .before .before .before .args in
-    let j = jobAt (a .t1) (slotOf (a .handle)) in
-    gives-place 1 (a .handle) (a .place) (a .t1) (P .0) 8 (λ z. omega arith)
+    let j = jobAt (a .desk) (slotOf (a .handle)) in
+    gives-place 1 (a .handle) (a .place) (a .desk) (P .0) 8 (λ z. omega arith)
     (place-eight 1 (a .place) j (P .1) (subst (λ (x : Job). 2 < x .excess) (k .with-lost .ensures) (c .if2 .taken)))
 
 mul-then : tie.Need-mul-then
@@ -60,10 +61,10 @@ returns-3 c =
     let k = c .before .before in
     let P = parts (k .before .before) in
     let a = k .before .before .before .before .args in
-    let j = jobAt (a .t1) (slotOf (a .handle)) in
-    subst (λ (x : Job). ChangeGives (changeOf 1 (a .handle) (a .place) (a .t1)) (withJob (a .t1) (slotOf (a .handle)) x) Answer.Done)
+    let j = jobAt (a .desk) (slotOf (a .handle)) in
+    subst (λ (x : Job). ChangeGives (changeOf 1 (a .handle) (a .place) (a .desk)) (withJob (a .desk) (slotOf (a .handle)) x) Answer.Done)
     (sym (k .with-lost .ensures))
-    (gives-done 1 (a .handle) (a .place) (a .t1) (P .0)
+    (gives-done 1 (a .handle) (a .place) (a .desk) (P .0)
     (place-done 1 (a .place) j (P .1) (subst (λ (x : Job). x .excess ≤ 2) (k .with-lost .ensures) (c .if2 .left))))
 
 pub lose-spec : {M : Type 1} → statement M

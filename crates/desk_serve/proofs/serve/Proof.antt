@@ -18,7 +18,7 @@ handle-refusal-requires c κs = search needs
 returns : tie.Need-returns
 returns c =
     let a = c .before .before .before .args in
-    gives-handle (a .handle) (a .word .now) (a .t1) (c .before .handle-refusal .result) (c .if1 .taken) (sym (c .before .handle-refusal .ensures))
+    gives-handle (a .handle) (a .word .now) (a .desk) (c .before .handle-refusal .result) (c .if1 .taken) (sym (c .before .handle-refusal .ensures))
 
 mul-job : tie.Need-mul-job
 mul-job c = search needs
@@ -30,7 +30,7 @@ serve-job-requires : tie.Need-serve-job-requires
 serve-job-requires c κs =
     let e₁ = c .before .before in
     let a = e₁ .before .before .before .args in
-    open-good (a .handle) (a .t1) (sym (e₁ .before .handle-refusal .ensures) ∙ e₁ .if1 .left)
+    open-good (a .handle) (a .desk) (sym (e₁ .before .handle-refusal .ensures) ∙ e₁ .if1 .left)
 
 enum-known-r : tie.Need-enum-known-r
 enum-known-r c = search needs
@@ -45,7 +45,7 @@ served-once-requires : tie.Need-served-once-requires
 served-once-requires c κs =
     let k = c .before .before .before .before in
     let a = k .before .before .before .before .before .before .args in
-    let j = jobAt (a .t1) (slotOf (a .handle)) in
+    let j = jobAt (a .desk) (slotOf (a .handle)) in
     let z : jobNumber j (a .word .now) ≡ 0
     = mending-is (jobNumber j (a .word .now)) ((recoveryOf j (a .word .now)) .group) (sym (c .enum-told .given .1) ∙ k .serve-job .ensures .0) in
     job-room j (a .word .now) z
@@ -64,12 +64,12 @@ returns-2 c =
     let k = c .before .before .before .before .before in
     let e₁ = k .before .before .before in
     let a = e₁ .before .before .before .args in
-    let j = jobAt (a .t1) (slotOf (a .handle)) in
+    let j = jobAt (a .desk) (slotOf (a .handle)) in
     let n = jobNumber j (a .word .now) in
     let g = (recoveryOf j (a .word .now)) .group in
     let r = c .before .r .given .0 .0 in
     let q : Mending.Refused r ≡ mendingAt n g = sym (c .before .r .given .1) ∙ k .serve-job .ensures .0 in
-    gives-job (a .handle) (a .word .now) (a .t1) (sym (e₁ .before .handle-refusal .ensures) ∙ e₁ .if1 .left) (mending-some n g r q) _
+    gives-job (a .handle) (a .word .now) (a .desk) (sym (e₁ .before .handle-refusal .ensures) ∙ e₁ .if1 .left) (mending-some n g r q) _
     (k .serve-job .ensures .1) (Mending.Refused r) q
 
 same-length-2 : tie.Need-same-length-2
@@ -80,13 +80,13 @@ returns-3 c =
     let k = c .before .before .before .before .before in
     let e₁ = k .before .before .before in
     let a = e₁ .before .before .before .args in
-    let j = jobAt (a .t1) (slotOf (a .handle)) in
+    let j = jobAt (a .desk) (slotOf (a .handle)) in
     let n = jobNumber j (a .word .now) in
     let g = (recoveryOf j (a .word .now)) .group in
     let r = c .before .group .given .0 .0 in
     let q : Mending.Contradictory r ≡ mendingAt n g = sym (c .before .group .given .1) ∙ k .serve-job .ensures .0 in
     let some : n ≡ 0 → ⊥ = λ z. let e : n ≡ 9 = mending-is n g q in omega arith in
-    gives-job (a .handle) (a .word .now) (a .t1) (sym (e₁ .before .handle-refusal .ensures) ∙ e₁ .if1 .left) some _
+    gives-job (a .handle) (a .word .now) (a .desk) (sym (e₁ .before .handle-refusal .ensures) ∙ e₁ .if1 .left) some _
     (k .serve-job .ensures .1) (Mending.Contradictory r) q
 
 same-length-3 : tie.Need-same-length-3
@@ -97,16 +97,16 @@ returns-4 c =
     let k = c .before .before .before .before .before in
     let e₁ = k .before .before .before in
     let a = e₁ .before .before .before .args in
-    let j = jobAt (a .t1) (slotOf (a .handle)) in
+    let j = jobAt (a .desk) (slotOf (a .handle)) in
     let z : jobNumber j (a .word .now) ≡ 0
     = mending-is (jobNumber j (a .word .now)) ((recoveryOf j (a .word .now)) .group) (sym (c .before .enum-told .given .1) ∙ k .serve-job .ensures .0) in
-    let e : serveOf (a .handle) (a .word .now) (a .t1) ≡ serveBy 0 (a .handle) (a .word .now) (a .t1)
-    = serve-job (a .handle) (a .word .now) (a .t1) (sym (e₁ .before .handle-refusal .ensures) ∙ e₁ .if1 .left)
-    ∙ ap (λ n. serveBy n (a .handle) (a .word .now) (a .t1)) z in
+    let e : serveOf (a .handle) (a .word .now) (a .desk) ≡ serveBy 0 (a .handle) (a .word .now) (a .desk)
+    = serve-job (a .handle) (a .word .now) (a .desk) (sym (e₁ .before .handle-refusal .ensures) ∙ e₁ .if1 .left)
+    ∙ ap (λ n. serveBy n (a .handle) (a .word .now) (a .desk)) z in
     rw e
     (record {
       word-is = k .serve-job .ensures .1 ∙ ap (λ n. unlessRefused n ((recoveryOf j (a .word .now)) .word) (a .word .now)) z;
-      desk-is = ap (withJob (a .t1) (slotOf (a .handle))) (c .served-once .ensures);
+      desk-is = ap (withJob (a .desk) (slotOf (a .handle))) (c .served-once .ensures);
       answer-is = refl;
       number-is = refl;
       group-is = refl;

@@ -4,11 +4,11 @@ use borrow.Author.Needs.{needs}
 use Rattle.rebuild.proofs.say.Statement.{statement}
 use Rattle.rebuild.proofs.say.Tie as tie
 
-slice-aggregate-write-out : tie.Need-slice-aggregate-write-out
-slice-aggregate-write-out c = simp length-take (omega arith)
+slice-aggregate-put : tie.Need-slice-aggregate-put
+slice-aggregate-put c = simp length-take (omega arith)
 
-write-out-requires : tie.Need-write-out-requires
-write-out-requires c κs = search needs
+put-requires : tie.Need-put-requires
+put-requires c κs = search needs
 
 say-error-requires : tie.Need-say-error-requires
 say-error-requires c κs = search needs
@@ -18,4 +18,4 @@ returns c = search needs
 
 pub say-spec : {M : Type 1} → statement M
 say-spec =
-    tie.close (tie.spec slice-aggregate-write-out write-out-requires say-error-requires returns)
+    tie.close (tie.spec slice-aggregate-put put-requires say-error-requires returns)

@@ -4,99 +4,84 @@ use borrow.Author.Needs.{needs}
 use Rattle.rebuild.proofs.turn.Statement.{statement}
 use Rattle.rebuild.proofs.turn.Tie as tie
 
--- src/main.rt:43:38
 sub-read-some : tie.Need-sub-read-some
 sub-read-some c = search needs
 
--- src/main.rt:43:38
 part-read-some-start : tie.Need-part-read-some-start
 part-read-some-start c = search needs
 
--- src/main.rt:43:38
 part-read-some-end : tie.Need-part-read-some-end
 part-read-some-end c = search needs
 
--- src/main.rt:43:9
 read-some-requires : tie.Need-read-some-requires
 read-some-requires c κs = search needs
 
--- src/main.rt:45:18
 slice-aggregate-fail : tie.Need-slice-aggregate-fail
 slice-aggregate-fail c = search needs
 
--- src/main.rt:45:9
 fail-requires : tie.Need-fail-requires
 fail-requires c κs = search needs
 
--- src/main.rt:46:9
 same-length : tie.Need-same-length
 same-length c = search needs
 
--- src/main.rt:46:9
 returns : tie.Need-returns
 returns c = search needs
 
--- src/main.rt:53:9
 same-length-2 : tie.Need-same-length-2
 same-length-2 c = search needs
 
--- src/main.rt:53:9
 returns-2 : tie.Need-returns-2
 returns-2 c = search needs
 
--- src/main.rt:59:37
 sub-count : tie.Need-sub-count
 sub-count c = search needs
 
--- src/main.rt:59:37
 part-count-start : tie.Need-part-count-start
 part-count-start c = search needs
 
--- src/main.rt:59:37
 part-count-end : tie.Need-part-count-end
 part-count-end c = search needs
 
--- src/main.rt:59:22
 count-requires : tie.Need-count-requires
 count-requires c κs = search needs
 
--- src/main.rt:59:15
 add-all : tie.Need-add-all
 add-all c = search needs
 
--- src/main.rt:60:41
 slice-reshare-prefix-refusal-so-far : tie.Need-slice-reshare-prefix-refusal-so-far
 slice-reshare-prefix-refusal-so-far c = search needs
 
--- src/main.rt:60:41
 slice-aggregate-refusal-so-far : tie.Need-slice-aggregate-refusal-so-far
 slice-aggregate-refusal-so-far c = sym (length-take-le _ _ (slice-reshare-prefix-refusal-so-far (c .before)))
 
--- src/main.rt:60:9
 refusal-so-far-requires : tie.Need-refusal-so-far-requires
 refusal-so-far-requires c κs = search needs
 
--- src/main.rt:62:16
 refused-requires : tie.Need-refused-requires
 refused-requires c κs = search needs
 
--- src/main.rt:62:9
+slice-reshare-prefix-line-refused : tie.Need-slice-reshare-prefix-line-refused
+slice-reshare-prefix-line-refused c = search needs
+
+slice-aggregate-line-refused : tie.Need-slice-aggregate-line-refused
+slice-aggregate-line-refused c = sym (length-take-le _ _ (slice-reshare-prefix-line-refused (c .before)))
+
+line-refused-requires : tie.Need-line-refused-requires
+line-refused-requires c κs = search needs
+
 refuse-requires : tie.Need-refuse-requires
 refuse-requires c κs = search needs
 
--- src/main.rt:63:9
 same-length-3 : tie.Need-same-length-3
 same-length-3 c = search needs
 
--- src/main.rt:63:9
 returns-3 : tie.Need-returns-3
 returns-3 c = search needs
 
--- src/main.rt:39:1
 same-length-4 : tie.Need-same-length-4
 same-length-4 c = search needs
 
--- src/main.rt:39:1
 returns-4 : tie.Need-returns-4
 returns-4 c = search needs
 
@@ -123,6 +108,9 @@ turn-spec =
     slice-aggregate-refusal-so-far
     refusal-so-far-requires
     refused-requires
+    slice-reshare-prefix-line-refused
+    slice-aggregate-line-refused
+    line-refused-requires
     refuse-requires
     same-length-3
     returns-3

@@ -5,10 +5,10 @@ use Rattle.standard_io.proofs.write_out.Statement.{statement}
 use Rattle.standard_io.proofs.write_out.Tie as tie
 
 abbrev Inv-loop : tie.InvT-loop
-Inv-loop bytes done₀ t5 done = done ≤ length bytes
+Inv-loop bytes failed done₀ done = done ≤ length bytes
 
 abbrev μ-loop : tie.MeasureT-loop
-μ-loop bytes done₀ t5 done = length bytes - done
+μ-loop bytes failed done₀ done = length bytes - done
 
 loop-holds : tie.Need-loop-holds Inv-loop μ-loop
 loop-holds c = search needs
@@ -27,9 +27,6 @@ write-some-requires c κs = search needs
 
 count-requires : tie.Need-count-requires Inv-loop μ-loop
 count-requires c κs = search needs
-
-slice-aggregate-fail : tie.Need-slice-aggregate-fail Inv-loop μ-loop
-slice-aggregate-fail c = search needs
 
 fail-requires : tie.Need-fail-requires Inv-loop μ-loop
 fail-requires c κs = search needs
@@ -61,7 +58,6 @@ write-out-spec =
     part-rest-end
     write-some-requires
     count-requires
-    slice-aggregate-fail
     fail-requires
     returns
     add-done
