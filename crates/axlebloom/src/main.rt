@@ -1,11 +1,11 @@
-// The program: standard input answered on standard output. `stream` defines what is written; this file only reads and writes.
-use command_line::Request;
+// The program: standard input answered on standard output. `text_stream` defines what is written; this file only reads and writes.
 use libc::STDERR_FILENO;
-use stream::State;
+use program_io::Request;
+use text_stream::State;
 
 // Writes all of the bytes to standard output, or says on standard error why not.
 fn put(bytes: &[u8]) -> bool {
-    standard_io::write_out(bytes, b"axlebloom: standard output")
+    program_io::write_out(bytes, b"axlebloom: standard output")
 }
 
 // The state of the session, and whether the run goes on.
@@ -18,18 +18,18 @@ struct Run {
 fn turn(state: State) -> Run {
     let mut input = [0u8; 1024];
     let mut out = [0u8; 24588];
-    let got = standard_io::read_some(&mut input);
+    let got = program_io::read_some(&mut input);
     if got < 0 {
         os::fail(b"axlebloom: standard input");
         return Run { state, on: false };
     }
     if got == 0 {
-        let size = stream::finish(state, &mut out);
+        let size = text_stream::finish(state, &mut out);
         put(&out[..size]);
         return Run { state, on: false };
     }
     let count = io::count(got, &input);
-    let step = stream::take(state, &input, count, &mut out);
+    let step = text_stream::take(state, &input, count, &mut out);
     let size = step.length;
     let on = put(&out[..size]);
     let after = step.state;
@@ -39,7 +39,7 @@ fn turn(state: State) -> Run {
 // A proved loop must terminate, but the input might not end, so the loop counts down from a number that no run can exhaust.
 fn run_all() {
     let mut run = Run {
-        state: stream::start(),
+        state: text_stream::start(),
         on: true,
     };
     let mut turns = u64::MAX;
@@ -73,12 +73,12 @@ A line that cannot be carried out gets: refused and a number; after 9, also a gr
 
 // An entry of the list of numbers.
 fn entry(number: u8, advice: &[u8]) -> bool {
-    command_line::entry(number, advice, b"axlebloom: standard output")
+    program_io::entry(number, advice, b"axlebloom: standard output")
 }
 
 // The same with what the number means in this program.
 fn entry_as(number: u8, meaning: &[u8], advice: &[u8]) -> bool {
-    command_line::entry_as(number, meaning, advice, b"axlebloom: standard output")
+    program_io::entry_as(number, meaning, advice, b"axlebloom: standard output")
 }
 
 // The entries of the refusals of a data line or a word line.
@@ -112,7 +112,7 @@ A line that cannot be carried out gets: refused and one of these numbers. It cha
 nothing: the shape before it stays in force.\n\
 \n",
     )
-        && command_line::shape_entries(b"axlebloom: standard output")
+        && program_io::shape_entries(b"axlebloom: standard output")
         && word_entries()
         && entry_as(
             14,
@@ -129,7 +129,7 @@ Check its name, its tabs and its numbers (0 to 255, no sign or leading zero). It
 }
 
 fn main() {
-    match command_line::asked() {
+    match program_io::asked() {
         Request::Run => run_all(),
         Request::Help => {
             write_help();
@@ -141,7 +141,7 @@ fn main() {
             write_numbers();
         }
         Request::Unknown => {
-            standard_io::write_some(STDERR_FILENO, b"axlebloom: unknown argument: try --help\n");
+            program_io::write_some(STDERR_FILENO, b"axlebloom: unknown argument: try --help\n");
         }
     }
 }

@@ -5,11 +5,11 @@ use mathlib.Core.List.{List, [], _∷_}
 use Prim.Native.Nat.{ℕ, zero, suc, _<_, _≤_}
 use native.Mathlib.Omega.{arith}
 use lib.ListN.{getD}
-use Rattle.check_rows.specs.Rows.{powerRows, noRow}
-use Rattle.check_rows.specs.RowsLaws.{power-at}
+use Rattle.byte_edition.specs.Rows.{powerRows, noRow}
+use Rattle.byte_edition.specs.RowsLaws.{power-at}
 use Rattle.code.specs.Edition.{raised}
 use Rattle.byte_edition.specs.Edition.{byteEdition}
-use Rattle.solve.specs.Elimination.{entry}
+use Rattle.code_engine.specs.Elimination.{entry}
 use Rattle.code.specs.Marks.{lost}
 use Rattle.byte_edition.specs.EditionLaws.{bytes-sound}
 use Rattle.block_constants.specs.Reduced.{ReducedTo, Pivoted}

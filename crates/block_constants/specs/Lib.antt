@@ -2,3 +2,5 @@ pub mod Reduced
 pub mod ReducedLaws
 pub mod Equations
 pub mod EquationsLaws
+pub mod FreeRows
+pub mod FreeRowsLaws

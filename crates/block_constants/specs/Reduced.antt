@@ -10,7 +10,7 @@ use Rattle.binary_field.specs.Sum.{sumBelow}
 use Rattle.binary_field.specs.Inverse.{inverse}
 use Rattle.code.specs.Edition.{Edition, times}
 use Rattle.code.specs.Marks.{lost}
-use Rattle.solve.specs.Steps.{identity}
+use Rattle.code_engine.specs.EliminationSteps.{identity}
 
 module _ (E : Edition) (w : ℕ) where
   -- the sum over w places of symbol · coefficient

@@ -29,8 +29,8 @@ use Rattle.code.specs.DeterminedLaws.{list-length, list-at, local-unique}
 use Rattle.code.specs.OneGroup.{LocalWay}
 use Rattle.code.specs.OneGroupLaws.{local-way}
 use Rattle.code.specs.StretchLaws.{own-place}
-use Rattle.solve.specs.Steps.{identity}
-use Rattle.solve.specs.StepsLaws.{identity-same, identity-other}
+use Rattle.code_engine.specs.EliminationSteps.{identity}
+use Rattle.code_engine.specs.EliminationStepsLaws.{identity-same, identity-other}
 use Rattle.block_constants.specs.Reduced.{dot, Meets, ReducedTo, Pivoted}
 
 pub count-here : (bound : List ℕ) (p : ℕ) → lost bound p ≡ true → countBelow (suc p) (lost bound) ≡ suc (countBelow p (lost bound))

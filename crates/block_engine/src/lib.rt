@@ -4,20 +4,21 @@ ghost use mathlib.Core.Bool.{true, false};
 ghost use Prim.Native.Nat.{ℕ, suc, _+_, _*_, _≤_, _<_};
 ghost use lib.ListN.{length, getD, set, replicate};
 ghost use Rattle.counting.specs.Count.{countBelow};
-ghost use Rattle.shape.specs.Shapes.{Good};
+ghost use Rattle.shape.specs.Shapes.{byteLimits};
 ghost use Rattle.code.specs.Edition.{raised};
 ghost use Rattle.code.specs.Word.{coefficient};
 ghost use Rattle.code.specs.Marks.{lost, lostIn};
 ghost use Rattle.code.specs.Stretch.{stretch};
+ghost use Rattle.code.specs.Limits.{GoodIn};
 ghost use Rattle.byte_edition.specs.Edition.{byteEdition};
-ghost use Rattle.solve.specs.Elimination.{entry};
+ghost use Rattle.code_engine.specs.Elimination.{entry};
 ghost use Rattle.block_constants.specs.Reduced.{ReducedTo};
-ghost use Rattle.block_engine.specs.Group.{checkOf, masked, Mendable, AgreesIn};
-ghost use Rattle.erasures.specs.Whole.{BoundAll};
-ghost use Rattle.block_free.specs.Rows.{firstOf, secondOf};
-ghost use Rattle.block_engine.specs.Free.{Completable};
-ghost use Rattle.block_engine.specs.Ready.{Ready, Recoverable, FreeWritten, Restored, Mended};
-ghost use Rattle.block_engine.specs.Steps.{Coefficients, Given, Limit, placeSymbol, AcrossPut, AcrossRows, GroupKept, KeptUpTo, Targets, GroupFilled, GroupsFilled};
+ghost use Rattle.block_laws.specs.Group.{checkOf, masked, Mendable, AgreesIn};
+ghost use Rattle.code_engine.specs.BoundGroups.{BoundAll};
+ghost use Rattle.block_constants.specs.FreeRows.{firstOf, secondOf};
+ghost use Rattle.block_laws.specs.Free.{Completable};
+ghost use Rattle.block_laws.specs.Ready.{Ready, Recoverable, FreeWritten, Restored, Mended};
+ghost use Rattle.block_laws.specs.Steps.{Coefficients, Given, Limit, placeSymbol, AcrossPut, AcrossRows, GroupKept, KeptUpTo, Targets, GroupFilled, GroupsFilled};
 
 // 1 at place j.
 fn unit(j: usize) -> [u8; 16]
@@ -38,7 +39,7 @@ fn first_row(i: usize) -> [u8; 16]
     let mut j: usize = 0;
     while j < 16 {
         let e = unit(j);
-        r[j] = check_rows::first_sum(&e, i);
+        r[j] = byte_edition::first_sum(&e, i);
         j += 1;
     }
     r
@@ -53,7 +54,7 @@ fn second_row(i: usize) -> [u8; 16]
     let mut j: usize = 0;
     while j < 16 {
         let e = unit(j);
-        r[j] = check_rows::second_sum(&e, i);
+        r[j] = byte_edition::second_sum(&e, i);
         j += 1;
     }
     r
@@ -198,7 +199,7 @@ fn make_rows(
     kept: &mut [u8],
     out: &mut [u8],
 )
-    requires { ⌜ Good m w c ⌝ }
+    requires { ⌜ GoodIn byteLimits m w c ⌝ }
     requires { ⌜ (length (now bound) ≡ m * w) × ((g : ℕ) → g < m → lostIn w (now bound) g ≤ c) × (length (now out) ≡ 480) × (length (now kept) ≡ 960) ⌝ }
     requires { ⌜ Coefficients c first second ⌝ }
     ensures { λ _. ⌜ KeptUpTo w c m (now (bound .entry)) (now (kept .exit)) ⌝ }
@@ -303,7 +304,7 @@ fn test_across(
         return block_sums::zero_until(blocks, size, 0, n, 2, &across, limit);
     }
     if f.count == 1 {
-        let row = block_free::test_row(n, f.first, across);
+        let row = block_constants::test_row(n, f.first, across);
         return block_sums::zero_until(blocks, size, 0, n, 1, &row, limit);
     }
     limit
@@ -331,17 +332,17 @@ fn write_across(
         return;
     }
     if f.count == 1 {
-        let row = block_free::value_row(n, f.first, across);
+        let row = block_constants::value_row(n, f.first, across);
         block_sums::write_sums(blocks, size, 0, n, 1, &row, [f.first, 0, 0, 0]);
         return;
     }
-    let rows = block_free::value_rows(n, f.first, f.second, across);
+    let rows = block_constants::value_rows(n, f.first, f.second, across);
     block_sums::write_sums(blocks, size, 0, n, 2, &rows, [f.first, f.second, 0, 0]);
 }
 
 // Copies the marks without those of the free places.
 fn bind(m: usize, w: usize, c: usize, marks: &[u8], bound: &mut [u8])
-    requires { ⌜ Good m w c ⌝ }
+    requires { ⌜ GoodIn byteLimits m w c ⌝ }
     requires { ⌜ (length (now marks) ≡ m * w) × (length (now bound) ≡ m * w) ⌝ }
     ensures { λ _. ⌜ BoundAll m w c (now (marks .entry)) (now (bound .exit)) ⌝ }
 {

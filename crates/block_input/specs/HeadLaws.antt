@@ -8,23 +8,24 @@ use borrow.Author.Tests.{ne-eqb}
 use lib.Dec.{eqb, ltb}
 use lib.ListN.{length, getD, take, drop, length-drop}
 use lib.Seq.{take-at, take-all, drop-drop}
-use Rattle.shape.specs.Refusals.{refuse, _orElse_}
-use Rattle.shape.specs.RefusalsLaws.{orElse-zero}
-use Rattle.shape.specs.Shapes.{shapeRefusal}
-use Rattle.marks.specs.Refusal.{marksRefusal}
+use Rattle.code.specs.Refusals.{refuse, _orElse_}
+use Rattle.code.specs.RefusalsLaws.{orElse-zero}
+use Rattle.shape.specs.Shapes.{byteLimits}
+use Rattle.code.specs.Limits.{shapeRefusalIn}
+use Rattle.text.specs.PaddedLaws.{padded-length}
+use Rattle.text_lines.specs.HeldLaws.{byte-at}
+use Rattle.code_services.specs.Marks.{marksRefusalIn}
 use Rattle.text.specs.Records.{lineKind, lineBytes}
-use Rattle.parse.specs.declared.Record.{Record}
-use Rattle.parse.specs.declared.Numbers.{Numbers}
-use Rattle.parse.specs.Held.{Holds}
-use Rattle.parse.specs.Numbers.{isNumbers, HoldsNumbers}
-use Rattle.session.specs.LinesLaws.{byte-at}
-use Rattle.session.specs.RepliesLaws.{padded-length}
+use Rattle.text_lines.specs.declared.Record.{Record}
+use Rattle.text_lines.specs.declared.Numbers.{Numbers}
+use Rattle.text_lines.specs.Held.{HoldsRecord}
+use Rattle.text_lines.specs.Numbers.{isNumbers, HoldsNumbers}
 use Rattle.block_input.specs.declared.ShapeLine.{ShapeLine}
 use Rattle.block_input.specs.declared.MarksLine.{MarksLine}
 use Rattle.block_input.specs.declared.LengthPart.{LengthPart}
 use Rattle.block_input.specs.declared.MarksPart.{MarksPart}
-use Rattle.block_input.specs.Lines.{firstLine, afterLine, settled}
-use Rattle.block_input.specs.LinesLaws.{take-line, nextStart, drop-line, start-most, settled-is}
+use Rattle.block_input.specs.Lines.{untilLineFeed, afterLine, settled, nextStart}
+use Rattle.block_input.specs.LinesLaws.{take-line, drop-line, start-most, settled-is}
 use Rattle.block_input.specs.Length.{lengthOf}
 use Rattle.block_input.specs.Head.{shapeLineOf, marksName, marksLineRefusal, lengthLineRefusal, lengthPart, marksPart, headRefusal}
 use Rattle.block_input.specs.Head.{inputShape, laterLine, lineRefused}
@@ -36,8 +37,8 @@ module _ (line : List ℕ) (read : Record) (k : read .kind ≡ lineKind line) wh
   unfolding shapeLineOf
   shape-unread n = rw (← k, ne-eqb (read .kind) 1 n)
 
-  pub shape-read : read .kind ≡ 1 → ((read .kind ≡ 0 → ⊥) → Holds read line)
-      → (r : ℕ) → r ≡ shapeRefusal (getD (read .bytes) 0 0) (getD (read .bytes) 1 0) (getD (read .bytes) 2 0)
+  pub shape-read : read .kind ≡ 1 → ((read .kind ≡ 0 → ⊥) → HoldsRecord read line)
+      → (r : ℕ) → r ≡ shapeRefusalIn byteLimits (getD (read .bytes) 0 0) (getD (read .bytes) 1 0) (getD (read .bytes) 2 0)
       → record { refusal = r; m = getD (read .bytes) 0 0; w = getD (read .bytes) 1 0; c = getD (read .bytes) 2 0 } ≡ shapeLineOf line
   unfolding shapeLineOf
   shape-read e held r is =
@@ -64,17 +65,17 @@ module _ (line : List ℕ) (m w c : ℕ) (numbers : Numbers) (is : numbers .read
     pub marks-front : take (numbers .count) (numbers .bytes) ≡ lineBytes line
     marks-front = rw (h .bytes) (take-at (lineBytes line) _ (numbers .count) (sym (h .count)))
 
-    pub marks-read : numbers .read ≡ true → (r : ℕ) → r ≡ marksRefusal m w c (take (numbers .count) (numbers .bytes))
+    pub marks-read : numbers .read ≡ true → (r : ℕ) → r ≡ marksRefusalIn byteLimits m w c (take (numbers .count) (numbers .bytes))
         → ReadMarks line m w c (record { refusal = r; count = numbers .count; marks = numbers .bytes })
     unfolding marksLineRefusal
     marks-read e r f = record {
-      refusal = f ∙ ap (marksRefusal m w c) marks-front ∙ rw (← is, e);
+      refusal = f ∙ ap (marksRefusalIn byteLimits m w c) marks-front ∙ rw (← is, e);
       marks = λ _. record { fits = marks-room; front = marks-front };
     }
 
 -- ---- the first line of what is left, and what comes after it
-module _ (rest : List ℕ) (end : ℕ) (is : end ≡ length (firstLine rest)) where
-  pub line-is : take end rest ≡ firstLine rest
+module _ (rest : List ℕ) (end : ℕ) (is : end ≡ length (untilLineFeed rest)) where
+  pub line-is : take end rest ≡ untilLineFeed rest
   line-is = ap (λ e. take e rest) is ∙ take-line rest
 
   -- which line is refused, as it is found
@@ -88,7 +89,7 @@ module _ (rest : List ℕ) (end : ℕ) (is : end ≡ length (firstLine rest)) wh
   first-read s e = ap (λ x. cond (eqb (x .refusal) 0) (laterLine (x .m) (x .w) (x .c) (afterLine rest)) 1) (e ∙ ap shapeLineOf line-is)
 
   module _ (start : ℕ) (next : start ≡ nextStart end (length rest)) where
-    at-next : start ≡ nextStart (length (firstLine rest)) (length rest)
+    at-next : start ≡ nextStart (length (untilLineFeed rest)) (length rest)
     at-next = next ∙ ap (λ e. nextStart e (length rest)) is
 
     pub start-fits : start ≤ length rest
@@ -121,7 +122,7 @@ module _ (rest : List ℕ) (end : ℕ) (is : end ≡ length (firstLine rest)) wh
           → ReadsLength ended rest (record { refusal = r; size = size; start = start })
       unfolding lengthPart lengthLineRefusal
       length-read size first r p q z =
-          let e : size ≡ lengthOf (firstLine rest) = p ∙ ap lengthOf line-is in
+          let e : size ≡ lengthOf (untilLineFeed rest) = p ∙ ap lengthOf line-is in
           record {
             refusal = z ∙ ap₂ (λ b f. cond b f 0) settles-is (q ∙ as-refuse (ltb 65536 size) ∙ ap (λ k. refuse 14 (ltb 65536 k)) e);
             size = e;
@@ -169,7 +170,7 @@ module _ (rest : List ℕ) (end : ℕ) (is : end ≡ length (firstLine rest)) wh
           })
       unfolding headRefusal
       head-read line after r S A z =
-          let S′ : line ≡ shapeLineOf (firstLine rest) = S ∙ ap shapeLineOf line-is in
+          let S′ : line ≡ shapeLineOf (untilLineFeed rest) = S ∙ ap shapeLineOf line-is in
           let A′ = subst (λ l. ReadsMarks ended (line .m) (line .w) (line .c) l after) part-is A in
           record {
             refusal = z ∙ ap₂ (λ b f. cond b f 0) settles-is
@@ -188,8 +189,8 @@ module _ (rest : List ℕ) (end : ℕ) (is : end ≡ length (firstLine rest)) wh
 abbrev pub refusalAt : ℕ → List ℕ → ℕ
 refusalAt zero input = 0
 refusalAt (suc zero) input = (inputShape input) .refusal
-refusalAt (suc (suc zero)) input = marksLineRefusal ((inputShape input) .m) ((inputShape input) .w) ((inputShape input) .c) (firstLine (afterLine input))
-refusalAt (suc (suc (suc n))) input = lengthLineRefusal (firstLine (afterLine (afterLine input)))
+refusalAt (suc (suc zero)) input = marksLineRefusal ((inputShape input) .m) ((inputShape input) .w) ((inputShape input) .c) (untilLineFeed (afterLine input))
+refusalAt (suc (suc (suc n))) input = lengthLineRefusal (untilLineFeed (afterLine (afterLine input)))
 
 pub line-named : (ended : Bool) (input : List ℕ) (r : ℕ) → headRefusal ended input ≡ suc r → refusalAt (lineRefused input) input ≡ suc r
 unfolding headRefusal marksPart lengthPart laterLine lineRefused

@@ -7,3 +7,7 @@ pub mod Parts
 pub mod HeadLaws
 pub mod Output
 pub mod OutputLaws
+pub mod Run
+pub mod LineLaws
+pub mod ChainLaws
+pub mod RunLaws

@@ -4,10 +4,10 @@ use mathlib.Core.List.{List, _++_}
 use Prim.Native.Nat.{ℕ, zero, suc, _-_}
 use lib.ListN.{length, drop, take}
 use Rattle.text.specs.Lines.{refusedLine}
-use Rattle.print.specs.WordLine.{contradictoryWordLine}
-use Rattle.shape.specs.Refusals.{unlessRefused}
-use Rattle.blocks.specs.declared.Rebuilt.{Rebuilt}
-use Rattle.blocks.specs.Rebuild.{RebuildOutcome, rebuildOf, outcomeRebuilt}
+use Rattle.text_lines.specs.WordLine.{contradictoryWordLine}
+use Rattle.code.specs.Refusals.{unlessRefused}
+use Rattle.block_rebuild.specs.declared.Rebuilt.{Rebuilt}
+use Rattle.block_rebuild.specs.Rebuild.{RebuildOutcome, rebuildOf, outcomeRebuilt}
 use Rattle.block_input.specs.declared.Verdict.{Verdict}
 use Rattle.block_input.specs.Head.{headRefusal, inputShape, inputMarks, inputLength, inputBlocks}
 

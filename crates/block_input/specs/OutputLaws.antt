@@ -6,9 +6,9 @@ use Prim.Native.Nat.{ℕ, zero, suc, _-_, _≤_}
 use native.Mathlib.Omega.{arith}
 use lib.ListN.{length, take, drop, length-drop, drop-of-length-le}
 use lib.Seq.{take-all}
-use Rattle.shape.specs.RefusalsLaws.{unless-refused}
-use Rattle.blocks.specs.declared.Rebuilt.{Rebuilt}
-use Rattle.blocks.specs.Rebuild.{RebuildOutcome, rebuildOf, outcomeRebuilt}
+use Rattle.code.specs.RefusalsLaws.{unless-refused}
+use Rattle.block_rebuild.specs.declared.Rebuilt.{Rebuilt}
+use Rattle.block_rebuild.specs.Rebuild.{RebuildOutcome, rebuildOf, outcomeRebuilt}
 use Rattle.block_input.specs.declared.Verdict.{Verdict}
 use Rattle.block_input.specs.declared.Head.{Head}
 use Rattle.block_input.specs.Head.{headRefusal, inputBlocks}

@@ -9,7 +9,7 @@ use Rattle.block_input.specs.declared.MarksLine.{MarksLine}
 use Rattle.block_input.specs.declared.LengthPart.{LengthPart}
 use Rattle.block_input.specs.declared.MarksPart.{MarksPart}
 use Rattle.block_input.specs.declared.Head.{Head}
-use Rattle.block_input.specs.Lines.{firstLine, afterLine}
+use Rattle.block_input.specs.Lines.{untilLineFeed, afterLine}
 use Rattle.block_input.specs.Length.{lengthOf}
 use Rattle.block_input.specs.Head.{marksLineRefusal, lengthPart, marksPart, headRefusal, inputShape, inputMarks, inputLength, inputBlocks}
 
@@ -31,14 +31,14 @@ pub record ReadMarks (line : List ℕ) (m w c : ℕ) (r : MarksLine) : Type 0 wh
 -- from the length line on
 pub record ReadsLength (ended : Bool) (rest : List ℕ) (r : LengthPart) : Type 0 where
   pub refusal : r .refusal ≡ lengthPart ended rest
-  pub size : r .size ≡ lengthOf (firstLine rest)
+  pub size : r .size ≡ lengthOf (untilLineFeed rest)
   pub blocks : Back rest (r .start) (afterLine rest)
 
 -- from the marks line on; the marks where the input has ended and nothing is refused
 pub record ReadsMarks (ended : Bool) (m w c : ℕ) (rest : List ℕ) (r : MarksPart) : Type 0 where
   pub refusal : r .refusal ≡ marksPart ended m w c rest
-  pub marks : ended ≡ true → r .refusal ≡ 0 → Front (r .marks) (r .count) (lineBytes (firstLine rest))
-  pub size : r .size ≡ lengthOf (firstLine (afterLine rest))
+  pub marks : ended ≡ true → r .refusal ≡ 0 → Front (r .marks) (r .count) (lineBytes (untilLineFeed rest))
+  pub size : r .size ≡ lengthOf (untilLineFeed (afterLine rest))
   pub blocks : Back rest (r .start) (afterLine (afterLine rest))
 
 -- the three lines

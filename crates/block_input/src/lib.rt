@@ -1,15 +1,14 @@
 // The input of the program that rebuilds blocks: three lines, then the blocks.
-use blocks::Rebuilt;
-use print::Line;
+use block_rebuild::Rebuilt;
+use text_lines::Line;
 ghost use mathlib.Core.Path.{_≡_};
 ghost use mathlib.Core.Bool.{true, false, cond, _||_};
 ghost use Prim.Native.Nat.{_+_, _≤_, _<_};
 ghost use lib.Dec.{ltb};
 ghost use lib.ListN.{length, take, drop};
 ghost use Rattle.text.specs.Records.{lineBytes};
-ghost use Rattle.print.specs.Holds.{Holds};
-ghost use Rattle.block_input.specs.Lines.{firstLine};
-ghost use Rattle.block_input.specs.LinesLaws.{nextStart};
+ghost use Rattle.text_lines.specs.Holds.{HoldsLine};
+ghost use Rattle.block_input.specs.Lines.{untilLineFeed, nextStart};
 ghost use Rattle.block_input.specs.Length.{lengthOf};
 ghost use Rattle.block_input.specs.Head.{shapeLineOf, marksLineRefusal, headRefusal, laterLine, lineRefused};
 ghost use Rattle.block_input.specs.Parts.{ReadMarks, ReadsLength, ReadsMarks, ReadsHead};
@@ -67,9 +66,9 @@ pub enum Verdict {
 
 // The length of the first line.
 fn line_end(input: &[u8]) -> usize
-    ensures { λ r. ⌜ r ≡ length (firstLine (now (input .entry))) ⌝ }
+    ensures { λ r. ⌜ r ≡ length (untilLineFeed (now (input .entry))) ⌝ }
 {
-    fields::part_end(input, 0, b'\n')
+    text::part_end(input, 0, b'\n')
 }
 
 // Where the next line starts, after one that ends at a place of an input of this length.
@@ -96,7 +95,7 @@ fn is_settled(ended: bool, end: usize, size: usize) -> bool
 fn read_shape(line: &[u8]) -> ShapeLine
     ensures { λ r. ⌜ r ≡ shapeLineOf (now (line .entry)) ⌝ }
 {
-    let record = parse::parse(line);
+    let record = text_lines::parse(line);
     if record.kind != 1 {
         return ShapeLine {
             refusal: 14,
@@ -121,7 +120,7 @@ fn read_shape(line: &[u8]) -> ShapeLine
 fn read_marks(line: &[u8], m: usize, w: usize, c: usize) -> MarksLine
     ensures { λ r. ⌜ ReadMarks (now (line .entry)) m w c r ⌝ }
 {
-    let numbers = parse::read_numbers(line, b"marks");
+    let numbers = text_lines::read_numbers(line, b"marks");
     let marks = numbers.bytes;
     let count = numbers.count;
     if !numbers.read {
@@ -148,10 +147,10 @@ fn read_length(line: &[u8]) -> usize
     if line.len() < 7 {
         return 65538;
     }
-    if !fields::is_same(&line[..7], b"length\t") {
+    if !text::is_same(&line[..7], b"length\t") {
         return 65538;
     }
-    fields::number(&line[7..], 65537)
+    text::number(&line[7..], 65537)
 }
 
 // A refusal where it applies, else 0.
@@ -186,7 +185,7 @@ fn read_marks_part(ended: bool, rest: &[u8], m: usize, w: usize, c: usize) -> Ma
     let start = next_start(end, rest.len());
     let after = read_length_part(ended, &rest[start..]);
     let settled = is_settled(ended, end, rest.len());
-    let refusal = shape::or_else(line.refusal, after.refusal);
+    let refusal = answers::or_else(line.refusal, after.refusal);
     let marks = line.marks;
     MarksPart {
         refusal: refusal_if(settled, refusal),
@@ -206,7 +205,7 @@ fn read_head(ended: bool, input: &[u8]) -> Head
     let start = next_start(end, input.len());
     let after = read_marks_part(ended, &input[start..], line.m, line.w, line.c);
     let settled = is_settled(ended, end, input.len());
-    let refusal = shape::or_else(line.refusal, after.refusal);
+    let refusal = answers::or_else(line.refusal, after.refusal);
     let marks = after.marks;
     Head {
         refusal: refusal_if(settled, refusal),
@@ -263,7 +262,7 @@ pub fn answer(input: &mut [u8]) -> Verdict
     let mut marks = head.marks;
     let count = head.count;
     let start = head.start;
-    match blocks::rebuild(
+    match block_rebuild::rebuild(
         head.m,
         head.w,
         head.c,

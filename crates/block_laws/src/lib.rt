@@ -1,1 +1,1 @@
-// What block rebuild means: its laws are in specs/.
+// What the engine over blocks owes and may rely on: definitions and laws alone.

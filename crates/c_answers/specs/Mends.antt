@@ -1,5 +1,5 @@
 -- What Repair, Recover and Serve give to C: a number, 0 for done, and the group that a 9 carries; 0 with any other number.
-use Rattle.shape.specs.declared.Mending.{Mending}
+use Rattle.answers.specs.declared.Mending.{Mending}
 use Rattle.code.specs.Outcome.{Outcome}
 use Rattle.c_answers.specs.declared.Mended.{Mended}
 

@@ -3,9 +3,9 @@ use mathlib.Core.Path.{_≡_, sym, ap, ap₂, _∙_}
 use Prim.Native.Nat.{ℕ, zero, suc}
 use native.Mathlib.Decide.{ℕ-discrete}
 use native.Mathlib.Omega.{arith}
-use Rattle.shape.specs.declared.Mending.{Mending}
-use Rattle.shape.specs.Answers.{mendingAt, mendingNumber, mendingGroup}
-use Rattle.shape.specs.AnswersLaws.{mending-refused}
+use Rattle.answers.specs.declared.Mending.{Mending}
+use Rattle.answers.specs.Answers.{mendingAt, mendingNumber, mendingGroup}
+use Rattle.answers.specs.AnswersLaws.{mending-refused}
 use Rattle.c_answers.specs.declared.Mended.{Mended}
 use Rattle.c_answers.specs.Mends.{mendingMended}
 

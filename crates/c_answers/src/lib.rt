@@ -1,9 +1,15 @@
-// What services give to C: the number of an answer, 0 for done, and the group that a 9 carries.
-use shape::Answer;
-use shape::Mending;
+// What an answer gives to C: its number, its figures, and the group that a 9 carries. Both editions use it.
+use answers::Answer;
+use answers::Checked;
+use answers::Described;
+use answers::Judged;
+use answers::Mending;
 ghost use mathlib.Core.Path.{_≡_};
-ghost use Rattle.shape.specs.Answers.{answerNumber};
+ghost use Rattle.answers.specs.Answers.{answerNumber};
 ghost use Rattle.c_answers.specs.Mends.{mendingMended};
+ghost use lib.ListN.{getD};
+ghost use Rattle.answers.specs.Figures.{describedNumber, describedFigures, judgedNumber};
+ghost use Rattle.c_answers.specs.Numbers.{checkedMended};
 
 // What Check, Repair, Recover, Serve, Edit and a gather's Finish give to C: the number, 0 for done, and the group that a 9 carries; 0 with any other number.
 #[repr(C)]
@@ -39,5 +45,75 @@ pub fn mended_of(answer: Mending) -> Mended
             number: r,
             group: 0,
         },
+    }
+}
+
+// The number of a judgement.
+pub fn judged_number(judged: Judged) -> u8
+    ensures { λ r. ⌜ r ≡ judgedNumber judged ⌝ }
+{
+    match judged {
+        Judged::Determined => 0,
+        Judged::Refused(r) => r,
+    }
+}
+
+// The number of a check, 0 for a codeword and 9 for another word, and the group that the 9 carries.
+pub fn mended_of_check(checked: Checked) -> Mended
+    ensures { λ r. ⌜ r ≡ checkedMended checked ⌝ }
+{
+    match checked {
+        Checked::Codeword => Mended {
+            number: 0,
+            group: 0,
+        },
+        Checked::Other(broken) => Mended {
+            number: 9,
+            group: broken,
+        },
+        Checked::Refused(refusal) => Mended {
+            number: refusal,
+            group: 0,
+        },
+    }
+}
+
+// The number of a description.
+pub fn described_number(described: Described) -> u8
+    ensures { λ r. ⌜ r ≡ describedNumber described ⌝ }
+{
+    match described {
+        Described::Figures { n, k, sure } => 0,
+        Described::Refused(r) => r,
+    }
+}
+
+// Its first figure, the places of a word; 0 if it is refused.
+pub fn described_places(described: Described) -> usize
+    ensures { λ r. ⌜ r ≡ getD (describedFigures described) 0 0 ⌝ }
+{
+    match described {
+        Described::Figures { n, k, sure } => n,
+        Described::Refused(r) => 0,
+    }
+}
+
+// Its second figure, the symbols of data.
+pub fn described_data(described: Described) -> usize
+    ensures { λ r. ⌜ r ≡ getD (describedFigures described) 1 0 ⌝ }
+{
+    match described {
+        Described::Figures { n, k, sure } => k,
+        Described::Refused(r) => 0,
+    }
+}
+
+// Its third figure, the sure count.
+pub fn described_sure(described: Described) -> usize
+    ensures { λ r. ⌜ r ≡ getD (describedFigures described) 2 0 ⌝ }
+{
+    match described {
+        Described::Figures { n, k, sure } => sure,
+        Described::Refused(r) => 0,
     }
 }

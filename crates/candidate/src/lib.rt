@@ -4,8 +4,9 @@ ghost use mathlib.Core.Path.{_≡_};
 ghost use mathlib.Core.Bool.{false};
 ghost use Prim.Native.Nat.{ℕ, _*_, _/_, _%_, _≤_, _<_};
 ghost use lib.ListN.{length, take};
-ghost use Rattle.shape.specs.Shapes.{Good};
+ghost use Rattle.shape.specs.Shapes.{byteLimits};
 ghost use Rattle.code.specs.Marks.{lost, lostIn};
+ghost use Rattle.code.specs.Limits.{GoodIn};
 ghost use Rattle.byte_edition.specs.Edition.{byteEdition};
 ghost use Rattle.binary_field.specs.Xor.{_⊕_};
 ghost use Rattle.code.specs.Edition.{times};
@@ -13,10 +14,10 @@ ghost use Rattle.code.specs.Combined.{combined};
 ghost use Rattle.code.specs.Lone.{lone};
 ghost use Rattle.code.specs.Stretch.{stretch};
 ghost use Rattle.syndrome.specs.Across.{acrossOf, noSums};
-ghost use Rattle.erasures.specs.Whole.{BoundAll};
-ghost use Rattle.candidate.specs.Steps.{Blanked, GroupsFilled, Direction, ZeroFrom, Added};
+ghost use Rattle.code_engine.specs.BoundGroups.{BoundAll};
+ghost use Rattle.code_engine.specs.CandidateSteps.{Blanked, ZeroFrom, GroupsFilledIn, DirectionIn, AddedIn};
 ghost use Rattle.code.specs.Pair.{MetIn};
-ghost use Rattle.candidate.specs.Mended.{BoundFew, MendedOne, MendedTwo, Mended, IsCandidate};
+ghost use Rattle.code_engine.specs.Mended.{BoundFew, MendedOneIn, MendedTwoIn, MendedIn, IsCandidateIn};
 
 // A byte, and 0 where its mark says that it is lost.
 fn unless_lost(mark: u8, byte: u8) -> u8
@@ -41,11 +42,11 @@ fn blank_lost(word: &[u8], marks: &[u8], base: &mut [u8])
 
 // Fills the bound places of every group by its own equations.
 fn fill_groups(m: usize, w: usize, c: usize, bound: &[u8], base: &mut [u8])
-    requires { ⌜ Good m w c ⌝ }
+    requires { ⌜ GoodIn byteLimits m w c ⌝ }
     requires { ⌜ length (now base) ≡ m * w ⌝ }
     requires { ⌜ length (now bound) ≡ m * w ⌝ }
     requires { ⌜ ((g : ℕ) → g < m → lostIn w (now bound) g ≤ c) ⌝ }
-    ensures { λ _. ⌜ GroupsFilled m w (now (bound .entry)) (now (base .entry)) (now (base .exit)) ⌝ }
+    ensures { λ _. ⌜ GroupsFilledIn byteEdition m w (now (bound .entry)) (now (base .entry)) (now (base .exit)) ⌝ }
 {
     let mut g: usize = 0;
     while g < m {
@@ -62,7 +63,7 @@ fn direction(j: usize, bound: &[u8]) -> [u8; 16]
     requires { ⌜ j < length (now bound) ⌝ }
     requires { ⌜ lost (now bound) j ≡ false ⌝ }
     requires { ⌜ lostIn (length (now bound)) (now bound) 0 ≤ 4 ⌝ }
-    ensures { λ r. ⌜ Direction (length (now (bound .entry))) j (now (bound .entry)) (take (length (now (bound .entry))) r) ⌝ }
+    ensures { λ r. ⌜ DirectionIn byteEdition (length (now (bound .entry))) j (now (bound .entry)) (take (length (now (bound .entry))) r) ⌝ }
     ensures { λ r. ⌜ ZeroFrom (length (now (bound .entry))) r ⌝ }
 {
     let w = bound.len();
@@ -75,7 +76,7 @@ fn direction(j: usize, bound: &[u8]) -> [u8; 16]
 // Adds u times h to a stretch.
 fn add_multiple(u: u8, h: &[u8], part: &mut [u8])
     requires { ⌜ length (now h) ≡ length (now part) ⌝ }
-    ensures { λ _. ⌜ Added u (now (h .entry)) (now (part .entry)) (now (part .exit)) ⌝ }
+    ensures { λ _. ⌜ AddedIn byteEdition u (now (h .entry)) (now (part .entry)) (now (part .exit)) ⌝ }
 {
     let mut i: usize = 0;
     while i < part.len() {
@@ -121,10 +122,10 @@ fn add_direction(m: usize, w: usize, g: usize, u: u8, h: [u8; 16], word: &mut [u
 
 // The direction of place p of the word, which is not bound.
 fn way(m: usize, w: usize, c: usize, p: usize, bound: &[u8]) -> [u8; 16]
-    requires { ⌜ Good m w c ⌝ }
+    requires { ⌜ GoodIn byteLimits m w c ⌝ }
     requires { ⌜ p < m * w ⌝ }
     requires { ⌜ BoundFew m w c p (now bound) ⌝ }
-    ensures { λ r. ⌜ Direction w (p % w) (stretch w (p / w) (now (bound .entry))) (take w r) ⌝ }
+    ensures { λ r. ⌜ DirectionIn byteEdition w (p % w) (stretch w (p / w) (now (bound .entry))) (take w r) ⌝ }
     ensures { λ r. ⌜ ZeroFrom w r ⌝ }
 {
     let g = p / w;
@@ -136,7 +137,7 @@ fn way(m: usize, w: usize, c: usize, p: usize, bound: &[u8]) -> [u8; 16]
 
 // The coefficients of the direction h of group g in the two sums across.
 fn weights(m: usize, w: usize, c: usize, g: usize, h: [u8; 16]) -> Sums
-    requires { ⌜ Good m w c ⌝ }
+    requires { ⌜ GoodIn byteLimits m w c ⌝ }
     requires { ⌜ g < m ⌝ }
     requires { ⌜ ZeroFrom w h ⌝ }
     ensures { λ r. ⌜ r ≡ acrossOf m w c (lone m w g (take w h)) ⌝ }
@@ -147,12 +148,12 @@ fn weights(m: usize, w: usize, c: usize, g: usize, h: [u8; 16]) -> Sums
 // Sets the one free place p, and with it the bound places of its group, so that the sums across, which are s, become zero if they can be:
 // the first does, since the direction's is not 0. It gives back what they have become.
 fn mend_one(m: usize, w: usize, c: usize, p: usize, bound: &[u8], word: &mut [u8], s: Sums) -> Sums
-    requires { ⌜ Good m w c ⌝ }
+    requires { ⌜ GoodIn byteLimits m w c ⌝ }
     requires { ⌜ length (now word) ≡ m * w ⌝ }
     requires { ⌜ p < m * w ⌝ }
     requires { ⌜ BoundFew m w c p (now bound) ⌝ }
     requires { ⌜ s ≡ acrossOf m w c (now word) ⌝ }
-    ensures { λ _. ⌜ MendedOne m w c p (now (bound .entry)) (now (word .entry)) (now (word .exit)) ⌝ }
+    ensures { λ _. ⌜ MendedOneIn byteEdition m w c p (now (bound .entry)) (now (word .entry)) (now (word .exit)) ⌝ }
     ensures { λ r. ⌜ r ≡ acrossOf m w c (now (word .exit)) ⌝ }
 {
     let g = p / w;
@@ -175,13 +176,13 @@ fn mend_two(
     word: &mut [u8],
     s: Sums,
 ) -> Sums
-    requires { ⌜ Good m w c ⌝ }
+    requires { ⌜ GoodIn byteLimits m w c ⌝ }
     requires { ⌜ length (now word) ≡ m * w ⌝ }
     requires { ⌜ (p < m * w) × (q < m * w) × (p ≡ q → ⊥) ⌝ }
     requires { ⌜ BoundFew m w c p (now bound) ⌝ }
     requires { ⌜ BoundFew m w c q (now bound) ⌝ }
     requires { ⌜ s ≡ acrossOf m w c (now word) ⌝ }
-    ensures { λ _. ⌜ MendedTwo m w c p q (now (bound .entry)) (now (word .entry)) (now (word .exit)) ⌝ }
+    ensures { λ _. ⌜ MendedTwoIn byteEdition m w c p q (now (bound .entry)) (now (word .entry)) (now (word .exit)) ⌝ }
     ensures { λ r. ⌜ r ≡ acrossOf m w c (now (word .exit)) ⌝ }
 {
     let g = p / w;
@@ -201,11 +202,11 @@ fn mend_two(
 
 // Sets the first two free places, or as many as there are, so that the sums across are zero if they can be, and gives these sums back.
 fn mend(m: usize, w: usize, c: usize, marks: &[u8], bound: &[u8], word: &mut [u8]) -> Sums
-    requires { ⌜ Good m w c ⌝ }
+    requires { ⌜ GoodIn byteLimits m w c ⌝ }
     requires { ⌜ length (now word) ≡ m * w ⌝ }
     requires { ⌜ length (now marks) ≡ m * w ⌝ }
     requires { ⌜ BoundAll m w c (now marks) (now bound) ⌝ }
-    ensures { λ _. ⌜ Mended m w c (now (marks .entry)) (now (bound .entry)) (now (word .entry)) (now (word .exit)) ⌝ }
+    ensures { λ _. ⌜ MendedIn byteEdition m w c (now (marks .entry)) (now (bound .entry)) (now (word .entry)) (now (word .exit)) ⌝ }
     ensures { λ r. ⌜ r ≡ acrossOf m w c (now (word .exit)) ⌝ }
 {
     let f = erasures::free_places(marks, bound);
@@ -229,12 +230,12 @@ fn rebuild(
     bound: &mut [u8],
     out: &mut [u8],
 ) -> Sums
-    requires { ⌜ Good m w c ⌝ }
+    requires { ⌜ GoodIn byteLimits m w c ⌝ }
     requires { ⌜ length (now word) ≡ m * w ⌝ }
     requires { ⌜ length (now marks) ≡ m * w ⌝ }
     requires { ⌜ length (now bound) ≡ m * w ⌝ }
     requires { ⌜ length (now out) ≡ m * w ⌝ }
-    ensures { λ _. ⌜ IsCandidate m w c (now (marks .entry)) (now (word .entry)) (now (out .exit)) ⌝ }
+    ensures { λ _. ⌜ IsCandidateIn byteEdition m w c (now (marks .entry)) (now (word .entry)) (now (out .exit)) ⌝ }
     ensures { λ r. ⌜ r ≡ acrossOf m w c (now (out .exit)) ⌝ }
 {
     buffers::copy(marks, bound);
@@ -248,10 +249,10 @@ fn rebuild(
 // with them must have. It gives back the candidate's two sums across.
 // A shape that is not good, or lengths that are not its own, leave out as it is, and the sums are 0.
 pub fn candidate(m: usize, w: usize, c: usize, word: &[u8], marks: &[u8], out: &mut [u8]) -> Sums
-    ensures { λ _. ⌜ (Good m w c → length (now (word .entry)) ≡ m * w → length (now (marks .entry)) ≡ m * w → length (now (out .entry)) ≡ m * w → IsCandidate m w c (now (marks .entry)) (now (word .entry)) (now (out .exit))) ⌝ }
-    ensures { λ r. ⌜ (Good m w c → length (now (word .entry)) ≡ m * w → length (now (marks .entry)) ≡ m * w → length (now (out .entry)) ≡ m * w → r ≡ acrossOf m w c (now (out .exit))) ⌝ }
+    ensures { λ _. ⌜ (GoodIn byteLimits m w c → length (now (word .entry)) ≡ m * w → length (now (marks .entry)) ≡ m * w → length (now (out .entry)) ≡ m * w → IsCandidateIn byteEdition m w c (now (marks .entry)) (now (word .entry)) (now (out .exit))) ⌝ }
+    ensures { λ r. ⌜ (GoodIn byteLimits m w c → length (now (word .entry)) ≡ m * w → length (now (marks .entry)) ≡ m * w → length (now (out .entry)) ≡ m * w → r ≡ acrossOf m w c (now (out .exit))) ⌝ }
     ensures { λ _. ⌜ length (now (out .exit)) ≡ length (now (out .entry)) ⌝ }
-    ensures { λ r. ⌜ ((Good m w c → length (now (word .entry)) ≡ m * w → length (now (marks .entry)) ≡ m * w → length (now (out .entry)) ≡ m * w → ⊥) → (now (out .exit) ≡ now (out .entry)) × (r ≡ noSums)) ⌝ }
+    ensures { λ r. ⌜ ((GoodIn byteLimits m w c → length (now (word .entry)) ≡ m * w → length (now (marks .entry)) ≡ m * w → length (now (out .entry)) ≡ m * w → ⊥) → (now (out .exit) ≡ now (out .entry)) × (r ≡ noSums)) ⌝ }
 {
     let none = Sums {
         first: 0,

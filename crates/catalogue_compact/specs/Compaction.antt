@@ -1,10 +1,12 @@
 -- Compaction: "drops all gone lines and gives their room back".
 use mathlib.Core.Bool.{not}
 use mathlib.Core.List.{List, [], _∷_}
-use Prim.Native.Nat.{ℕ, zero, suc}
-use lib.ListN.{length}
-use Rattle.shape.specs.Refusals.{refuse, unlessRefused}
-use Rattle.catalogue_text.specs.Catalogue.{textOf}
+use Prim.Native.Nat.{ℕ, zero, suc, _-_, _≤_}
+use lib.ListN.{length, take, drop}
+use mathlib.Core.Path.{_≡_}
+use lib.Dec.{T}
+use Rattle.code.specs.Refusals.{refuse, unlessRefused}
+use Rattle.catalogue_text.specs.Catalogue.{catalogueText, Entry, goodList, linesOf}
 use Rattle.catalogue_text.specs.Changes.{compacted}
 use Rattle.catalogue_text.specs.Buffers.{formed, catalogueIn, withText}
 use Rattle.catalogue_compact.specs.declared.Compacted.{Compacted}
@@ -15,7 +17,7 @@ compactRefusal buffer size = refuse 16 (not (formed buffer size))
 
 -- the text without gone lines; "with no gone line it changes nothing"
 unfoldable pub compactedText : List ℕ → ℕ → List ℕ
-compactedText buffer size = textOf (compacted (catalogueIn buffer size))
+compactedText buffer size = catalogueText (compacted (catalogueIn buffer size))
 
 -- "It answers the text's length"
 abbrev pub compactedAs : ℕ → ℕ → Compacted
@@ -39,3 +41,10 @@ compactedNumber (Compacted.Refused r) = r
 abbrev pub compactedFigures : Compacted → List ℕ
 compactedFigures (Compacted.Done size) = size ∷ []
 compactedFigures (Compacted.Refused r) = []
+
+-- the lines of a list stand from a place to the end of a text
+pub record LinesAt (buffer : List ℕ) (size first : ℕ) (list : List Entry) : Type 0 where
+  pub inside : first ≤ size
+  pub held : size ≤ length buffer
+  pub good : T (goodList list)
+  pub lines : take (size - first) (drop first buffer) ≡ linesOf list

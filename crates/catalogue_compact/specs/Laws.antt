@@ -11,39 +11,31 @@ use lib.Dec.{T, eqb}
 use lib.ListN.{length, getD, take, drop, length-append, length-drop, take-append-drop}
 use lib.Seq.{length-take-le, take-at, take-take, take-nil, drop-at, drop-drop}
 use Rattle.counting.specs.TestLaws.{and-l, and-r, and-intro}
-use Rattle.shape.specs.Refusals.{refuse, unlessRefused}
-use Rattle.text.specs.Fields.{parts}
-use Rattle.text.specs.FieldLaws.{upTo, later, endOf, parts-split, parts-front}
+use Rattle.code.specs.Refusals.{refuse, unlessRefused}
+use Rattle.text.specs.Fields.{parts, upTo, later, endOf}
+use Rattle.text.specs.FieldLaws.{parts-split, parts-front}
 use Rattle.text.specs.Written.{written}
 use Rattle.text.specs.WrittenLaws.{written-on, written-nothing, length-written}
 use Rattle.text.specs.Lines.{cellsOf}
 use Rattle.text.specs.DecimalLaws.{digits-some, digits-most}
 use Rattle.catalogue_text.specs.Names.{before}
 use Rattle.catalogue_text.specs.NamesLaws.{is-true, name-some}
-use Rattle.catalogue_text.specs.Catalogue.{Entry, isGone, goodEntry, goodFrom, goodList, noneGone, Catalogue, goodVersion, goodCatalogue, firstLine, goneLine}
-use Rattle.catalogue_text.specs.Catalogue.{entryLine, linesOf, textOf}
+use Rattle.catalogue_text.specs.Catalogue.{Entry, isGone, goodEntry, goodFrom, noneGone, Catalogue, goodVersion, goodCatalogue, firstLine, goneLine}
+use Rattle.catalogue_text.specs.Catalogue.{entryLine, linesOf, catalogueText}
 use Rattle.catalogue_text.specs.LineLaws.{EntryGood, entry-good, bodyOf, body-line, body-one, body-read}
 use Rattle.catalogue_text.specs.CatalogueLaws.{lineGood, body-good, cat-list, cat-version, first-grows, first-two, first-one, versions}
-use Rattle.catalogue_text.specs.Changes.{kept, largestGone, compacted}
+use Rattle.catalogue_text.specs.Changes.{withoutGone, largestGone, compacted}
 use Rattle.catalogue_text.specs.ChangesLaws.{none-largest}
 use Rattle.catalogue_text.specs.Buffers.{formed, catalogueIn, withText}
 use Rattle.catalogue_text.specs.BuffersLaws.{Formed, formed-parts, formed-good, formed-text, formed-long, with-same}
 use Rattle.catalogue_lines.specs.declared.Line.{Line}
 use Rattle.catalogue_lines.specs.Reading.{asLine, readLine}
 use Rattle.catalogue_scan.specs.declared.Found.{Found}
-use Rattle.catalogue_scan.specs.Places.{foundIn}
-use Rattle.catalogue_scan.specs.BufferLaws.{FoundIn}
-use Rattle.catalogue_write.specs.Splice.{SpliceFits, splicedIn}
-use Rattle.catalogue_write.specs.SpliceLaws.{first-fits, first-spliced, drop-take}
+use Rattle.catalogue_scan.specs.Places.{foundIn, FoundIn}
+use Rattle.catalogue_lines.specs.Splice.{SpliceFits, splicedIn}
+use Rattle.catalogue_lines.specs.SpliceLaws.{first-fits, first-spliced, drop-take}
 use Rattle.catalogue_compact.specs.declared.Compacted.{Compacted}
-use Rattle.catalogue_compact.specs.Compaction.{compactRefusal, compactedText, compactedAs, compactOf, compactBuffer, compactedNumber}
-
--- the lines of a list stand from a place to the end of a text
-pub record LinesAt (buffer : List ℕ) (size first : ℕ) (list : List Entry) : Type 0 where
-  pub inside : first ≤ size
-  pub held : size ≤ length buffer
-  pub good : T (goodList list)
-  pub lines : take (size - first) (drop first buffer) ≡ linesOf list
+use Rattle.catalogue_compact.specs.Compaction.{compactRefusal, compactedText, compactedAs, compactOf, compactBuffer, compactedNumber, LinesAt}
 
 -- what stands behind bytes that were written
 drop-written : (out : List ℕ) (at : ℕ) (text : List ℕ) (k : ℕ) → at ≤ length out → at + length text ≤ k → drop k (written out at text) ≡ drop k out
@@ -67,7 +59,7 @@ pub record Dropping (start : List ℕ) (size first : ℕ) (list : List Entry) (b
   pub rest : List Entry
   pub last : List ℕ
   pub good : T (goodFrom last rest)
-  pub all : linesOf (kept list) ≡ done ++ linesOf (kept rest)
+  pub all : linesOf (withoutGone list) ≡ done ++ linesOf (withoutGone rest)
   pub place : to ≡ first + length done
   pub order : to ≤ at
   pub inside : at ≤ size
@@ -112,20 +104,20 @@ read-is : (e : Entry) → EntryGood e → T (goodEntry e) → readLine (bodyOf e
 unfolding readLine
 read-is e g t = rw (is-true (lineGood (bodyOf e)) (body-good e g t), body-read e g)
 
-kept-gone : (e : Entry) (more : List Entry) → e .m ≡ 0 → kept (e ∷ more) ≡ kept more
-unfolding kept
+kept-gone : (e : Entry) (more : List Entry) → e .m ≡ 0 → withoutGone (e ∷ more) ≡ withoutGone more
+unfolding withoutGone
 kept-gone e more z = rw (eq-eqb (e .m) 0 z)
 
-kept-shaped : (e : Entry) (more : List Entry) → (e .m ≡ 0 → ⊥) → kept (e ∷ more) ≡ e ∷ kept more
-unfolding kept
+kept-shaped : (e : Entry) (more : List Entry) → (e .m ≡ 0 → ⊥) → withoutGone (e ∷ more) ≡ e ∷ withoutGone more
+unfolding withoutGone
 kept-shaped e more n = rw (ne-eqb (e .m) 0 n)
 
 lines-more : (e : Entry) (more : List Entry) → linesOf (e ∷ more) ≡ entryLine e ++ linesOf more
 unfolding linesOf
 lines-more e more = refl
 
-lines-none : linesOf (kept []) ≡ []
-unfolding linesOf kept
+lines-none : linesOf (withoutGone []) ≡ []
+unfolding linesOf withoutGone
 lines-none = refl
 
 good-more : (last : List ℕ) (e : Entry) (more : List Entry) → T (goodFrom last (e ∷ more)) → T (goodEntry e) × T (goodFrom (e .name) more)
@@ -159,11 +151,12 @@ module _ (start : List ℕ) (size first : ℕ) (list : List Entry) (buffer : Lis
       ap length (d .holds) ∙ length-written start first (d .done) (omega arith)
 
   -- at the end
-  pub drop-end : size ≤ at → (to ≡ first + length (linesOf (kept list))) × (buffer ≡ written start first (linesOf (kept list)))
+  pub drop-end : size ≤ at → (to ≡ first + length (linesOf (withoutGone list))) × (buffer ≡ written start first (linesOf (withoutGone list)))
   drop-end l =
       let n = ahead-long in
       let z : d .rest ≡ [] = no-lines (d .rest) (omega arith) in
-      let k : linesOf (kept list) ≡ d .done = d .all ∙ ap (λ r. d .done ++ linesOf (kept r)) z ∙ ap (λ x. d .done ++ x) lines-none ∙ append-nil (d .done) in
+      let k : linesOf (withoutGone list) ≡ d .done = d .all ∙ ap (λ r. d .done ++ linesOf (withoutGone r)) z ∙ ap (λ x. d .done ++ x) lines-none
+      ∙ append-nil (d .done) in
       rw k (d .place, d .holds)
 
   module _ (e : Entry) (more : List Entry) (z : d .rest ≡ e ∷ more) where
@@ -245,7 +238,7 @@ module _ (start : List ℕ) (size first : ℕ) (list : List Entry) (buffer : Lis
             rest = more;
             last = e .name;
             good = goods .1;
-            all = d .all ∙ ap (λ r. d .done ++ linesOf (kept r)) z ∙ ap (λ r. d .done ++ linesOf r) (kept-gone e more g);
+            all = d .all ∙ ap (λ r. d .done ++ linesOf (withoutGone r)) z ∙ ap (λ r. d .done ++ linesOf r) (kept-gone e more g);
             place = d .place;
             order = omega arith;
             inside = omega arith;
@@ -271,9 +264,9 @@ module _ (start : List ℕ) (size first : ℕ) (list : List Entry) (buffer : Lis
             last = e .name;
             good = goods .1;
             all =
-                d .all ∙ ap (λ r. d .done ++ linesOf (kept r)) z
-                ∙ ap (λ r. d .done ++ linesOf r) (kept-shaped e more g) ∙ ap (λ x. d .done ++ x) (lines-more e (kept more))
-                ∙ sym (append-assoc (d .done) (entryLine e) (linesOf (kept more)));
+                d .all ∙ ap (λ r. d .done ++ linesOf (withoutGone r)) z
+                ∙ ap (λ r. d .done ++ linesOf r) (kept-shaped e more g) ∙ ap (λ x. d .done ++ x) (lines-more e (withoutGone more))
+                ∙ sym (append-assoc (d .done) (entryLine e) (linesOf (withoutGone more)));
             place = omega arith;
             order = omega arith;
             inside = omega arith;
@@ -319,26 +312,26 @@ gone-long e t g =
     let d = digits-some 4 (e .revision) in
     rw g (simp length-append (omega arith))
 
-kept-short : (list : List Entry) → length (linesOf (kept list)) ≤ length (linesOf list)
-unfolding kept linesOf
+kept-short : (list : List Entry) → length (linesOf (withoutGone list)) ≤ length (linesOf list)
+unfolding withoutGone linesOf
 kept-short [] = omega arith
 kept-short (e ∷ list) = go (isGone e) (kept-short list)
   where
-    go : (b : Bool) → length (linesOf (kept list)) ≤ length (linesOf list)
-        → length (linesOf (cond b (kept list) (e ∷ kept list))) ≤ length (entryLine e ++ linesOf list)
+    go : (b : Bool) → length (linesOf (withoutGone list)) ≤ length (linesOf list)
+        → length (linesOf (cond b (withoutGone list) (e ∷ withoutGone list))) ≤ length (entryLine e ++ linesOf list)
     go true i = simp length-append (omega arith)
     go false i = simp length-append (omega arith)
 
 kept-shorter : (last : List ℕ) (list : List Entry) → T (goodFrom last list) → noneGone list ≡ false
-    → length (linesOf (kept list)) + 9 ≤ length (linesOf list)
-unfolding kept linesOf noneGone
+    → length (linesOf (withoutGone list)) + 9 ≤ length (linesOf list)
+unfolding withoutGone linesOf noneGone
 kept-shorter last [] t n = absurd (true≢false n)
 kept-shorter last (e ∷ list) t n =
     go (isGone e) refl n (kept-short list) (kept-shorter (e .name) list (good-more last e list t .1))
   where
-    go : (b : Bool) → isGone e ≡ b → (not b && noneGone list) ≡ false → length (linesOf (kept list)) ≤ length (linesOf list)
-        → (noneGone list ≡ false → length (linesOf (kept list)) + 9 ≤ length (linesOf list))
-        → length (linesOf (cond b (kept list) (e ∷ kept list))) + 9 ≤ length (entryLine e ++ linesOf list)
+    go : (b : Bool) → isGone e ≡ b → (not b && noneGone list) ≡ false → length (linesOf (withoutGone list)) ≤ length (linesOf list)
+        → (noneGone list ≡ false → length (linesOf (withoutGone list)) + 9 ≤ length (linesOf list))
+        → length (linesOf (cond b (withoutGone list) (e ∷ withoutGone list))) + 9 ≤ length (entryLine e ++ linesOf list)
     go true d n k i = let l = gone-long e (good-more last e list t .0) d in simp length-append (omega arith)
     go false d n k i = let j = i n in simp length-append (omega arith)
 
@@ -395,7 +388,7 @@ module _ (found : Found) (buffer : List ℕ) (size : ℕ) (name : List ℕ) (p :
   none-is = none-largest [] (cat .list) (cat-list cat good-cat) ∙ ap (λ (f : Found). eqb (f .top) 0) (sym (p .is))
 
   text-is : take size buffer ≡ old ++ linesOf (cat .list)
-  unfolding textOf
+  unfolding catalogueText
   text-is = sym (formed-text buffer size (p .whole))
 
   size-is : size ≡ length old + length (linesOf (cat .list))
@@ -417,7 +410,7 @@ module _ (found : Found) (buffer : List ℕ) (size : ℕ) (name : List ℕ) (p :
             ∙ drop-at old (linesOf (cat .list)) (length old) refl;
       }
 
-  none-text : found .top ≡ 0 → compactedText buffer size ≡ textOf cat
+  none-text : found .top ≡ 0 → compactedText buffer size ≡ catalogueText cat
   unfolding compactedText compacted
   none-text z = let n : noneGone (cat .list) ≡ true = none-is ∙ eq-eqb (found .top) 0 z in rw n
 
@@ -431,13 +424,13 @@ module _ (found : Found) (buffer : List ℕ) (size : ℕ) (name : List ℕ) (p :
   -- with some
   module _ (some : found .top ≡ 0 → ⊥) (floor : ℕ) (f : floor ≡ max (found .floor) (found .top)) where
     left : List ℕ
-    left = linesOf (kept (cat .list))
+    left = linesOf (withoutGone (cat .list))
 
     any : noneGone (cat .list) ≡ false
     any = none-is ∙ ne-eqb (found .top) 0 some
 
     new-is : compactedText buffer size ≡ firstLine 2 floor ++ left
-    unfolding compactedText compacted textOf left
+    unfolding compactedText compacted catalogueText left
     new-is =
         let t : found .top ≡ largestGone 0 (cat .list) = ap (λ (f : Found). f .top) (p .is) in
         let e : max (cat .floor) (largestGone 0 (cat .list)) ≡ floor = ap₂ max (sym floor-is) (sym t) ∙ sym f in
@@ -451,35 +444,35 @@ module _ (found : Found) (buffer : List ℕ) (size : ℕ) (name : List ℕ) (p :
     room : length (firstLine 2 floor ++ left) ≤ size
     unfolding left
     room =
-        let a = length-append (firstLine 2 floor) (linesOf (kept (cat .list))) in
+        let a = length-append (firstLine 2 floor) (linesOf (withoutGone (cat .list))) in
         let m = first-most floor in
         let l = first-least (cat .version) (cat .floor) (cat .list) (cat-version cat good-cat) in
         let k = kept-shorter [] (cat .list) (cat-list cat good-cat) any in
         let s = size-is in
         omega arith
 
-    module _ (after : List ℕ) (end : ℕ) (e : end ≡ found .first + length (linesOf (kept (cat .list))))
-        (q : after ≡ written buffer (found .first) (linesOf (kept (cat .list)))) where
+    module _ (after : List ℕ) (end : ℕ) (e : end ≡ found .first + length (linesOf (withoutGone (cat .list))))
+        (q : after ≡ written buffer (found .first) (linesOf (withoutGone (cat .list)))) where
       after-is : after ≡ withText (old ++ left) buffer
       unfolding written withText left
       after-is =
           let s = size-is in
           let t : take (length old) buffer ≡ old =
           sym (take-take (length old) size buffer (omega arith)) ∙ ap (take (length old)) text-is ∙ take-at old (linesOf (cat .list)) (length old) refl in
-          q ∙ rw (first-is, t, length-append) (sym (append-assoc old (linesOf (kept (cat .list))) _))
+          q ∙ rw (first-is, t, length-append) (sym (append-assoc old (linesOf (withoutGone (cat .list))) _))
 
       held : length (firstLine 2 floor ++ left) ≤ length buffer
       held = let h = formed-parts buffer size (p .whole) .held in let r = room in omega arith
 
       end-is-long : length (old ++ left) ≡ end
       unfolding left
-      end-is-long = let a = length-append old (linesOf (kept (cat .list))) in let f = first-is in omega arith
+      end-is-long = let a = length-append old (linesOf (withoutGone (cat .list))) in let f = first-is in omega arith
 
       pub compact-room : (found .first ≤ end) × (end - found .first + length (firstLine 2 floor) ≤ 4096)
       unfolding left
       compact-room =
           let r = room in
-          let a = length-append (firstLine 2 floor) (linesOf (kept (cat .list))) in
+          let a = length-append (firstLine 2 floor) (linesOf (withoutGone (cat .list))) in
           let m = formed-parts buffer size (p .whole) .most in
           (omega arith, omega arith)
 

@@ -8,11 +8,10 @@ ghost use lib.Dec.{eqb};
 ghost use lib.ListN.{length, take, drop};
 ghost use Rattle.text.specs.Written.{written};
 ghost use Rattle.catalogue_text.specs.Catalogue.{Catalogue, linesOf};
-ghost use Rattle.catalogue_text.specs.Changes.{kept};
+ghost use Rattle.catalogue_text.specs.Changes.{withoutGone};
 ghost use Rattle.catalogue_text.specs.Buffers.{catalogueIn};
-ghost use Rattle.catalogue_scan.specs.BufferLaws.{FoundIn};
-ghost use Rattle.catalogue_compact.specs.Compaction.{compactRefusal, compactOf, compactBuffer, compactedNumber};
-ghost use Rattle.catalogue_compact.specs.Laws.{LinesAt};
+ghost use Rattle.catalogue_scan.specs.Places.{FoundIn};
+ghost use Rattle.catalogue_compact.specs.Compaction.{compactRefusal, compactOf, compactBuffer, compactedNumber, LinesAt};
 
 // The text's length, or the number of a refusal.
 pub enum Compacted {
@@ -29,20 +28,20 @@ fn keep_line(buffer: &mut [u8], at: usize, next: usize, to: usize, m: u8) -> usi
     if m == 0 {
         return to;
     }
-    catalogue_write::shift_down(buffer, at, next, to);
+    catalogue_lines::shift_down(buffer, at, next, to);
     to + (next - at)
 }
 
 // Drops the gone lines of a text whose lines start at a place, and gives its length without them.
 fn drop_gone(buffer: &mut [u8], size: usize, first: usize) -> usize
     requires { ⌜ LinesAt (now buffer) size first ((catalogueIn (now buffer) size) .list) ⌝ }
-    ensures end { λ r. ⌜ r ≡ first + length (linesOf (kept ((catalogueIn (now (buffer .entry)) size) .list))) ⌝ }
-    ensures buffer { λ _. ⌜ now (buffer .exit) ≡ written (now (buffer .entry)) first (linesOf (kept ((catalogueIn (now (buffer .entry)) size) .list))) ⌝ }
+    ensures end { λ r. ⌜ r ≡ first + length (linesOf (withoutGone ((catalogueIn (now (buffer .entry)) size) .list))) ⌝ }
+    ensures buffer { λ _. ⌜ now (buffer .exit) ≡ written (now (buffer .entry)) first (linesOf (withoutGone ((catalogueIn (now (buffer .entry)) size) .list))) ⌝ }
 {
     let mut at = first;
     let mut to = first;
     while at < size {
-        let end = fields::part_end(&buffer[..size], at, b'\n');
+        let end = text::part_end(&buffer[..size], at, b'\n');
         let line = catalogue_lines::read_line(&buffer[at..end]);
         to = keep_line(buffer, at, end + 1, to, line.m);
         at = end + 1;
@@ -73,10 +72,10 @@ pub fn compact(buffer: &mut [u8], size: usize) -> Compacted
                 return Compacted::Done(size);
             }
             let end = drop_gone(buffer, size, found.first);
-            let row = catalogue_write::first_line(larger(found.floor, found.top));
+            let row = catalogue_lines::first_line(larger(found.floor, found.top));
             let n = row.length;
             let line = row.bytes;
-            catalogue_write::splice(buffer, end, 0, found.first, &line[..n]);
+            catalogue_lines::splice(buffer, end, 0, found.first, &line[..n]);
             Compacted::Done(end - found.first + n)
         }
     }

@@ -8,9 +8,9 @@ use lib.ListN.{length, take, drop}
 use Rattle.catalogue_text.specs.Catalogue.{Catalogue, noneGone}
 use Rattle.catalogue_text.specs.Changes.{changedBy, compacted}
 use Rattle.catalogue_text.specs.Buffers.{formed, catalogueIn}
-use Rattle.catalogue.specs.declared.Looked.{Looked}
-use Rattle.catalogue.specs.declared.Changed.{Changed}
-use Rattle.catalogue.specs.Calls.{lookedOf, changedEntry, changedText}
+use Rattle.catalogue_calls.specs.declared.Looked.{Looked}
+use Rattle.catalogue_calls.specs.declared.Changed.{Changed}
+use Rattle.catalogue_calls.specs.Calls.{lookedOf, changedEntry, changedText}
 use Rattle.catalogue_compact.specs.declared.Compacted.{Compacted}
 use Rattle.catalogue_compact.specs.Compaction.{compactedText, compactOf, compactBuffer}
 

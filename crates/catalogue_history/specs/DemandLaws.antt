@@ -9,25 +9,27 @@ use borrow.Author.Tests.{eqb-false, ltb-false, not-false, le-leb, eq-eqb, ne-eqb
 use lib.Dec.{T, eqb, leb, ltb}
 use lib.ListN.{length, take, drop}
 use Rattle.counting.specs.TestLaws.{and-l, and-r, and-intro}
-use Rattle.shape.specs.Refusals.{refuse, _orElse_}
-use Rattle.shape.specs.RefusalsLaws.{refuse-zero, orElse-zero}
-use Rattle.shape.specs.Shapes.{saleRefusal}
+use Rattle.code.specs.Refusals.{refuse, _orElse_}
+use Rattle.code.specs.RefusalsLaws.{refuse-zero, orElse-zero}
 use Rattle.shape.specs.Laws.{sold-of-refusal}
+use Rattle.shape.specs.Shapes.{byteLimits}
+use Rattle.code.specs.Limits.{saleRefusalIn}
 use Rattle.text.specs.Fields.{same}
 use Rattle.text.specs.FieldLaws.{same-eq}
 use Rattle.catalogue_text.specs.Names.{goodName, before}
 use Rattle.catalogue_text.specs.NamesLaws.{is-true, true-is, name-first}
-use Rattle.catalogue_text.specs.Catalogue.{Entry, isGone, shapeOrGone, goodEntry, goodFrom, goodList, noneGone, Catalogue, goodVersion, goodCatalogue, textOf}
+use Rattle.catalogue_text.specs.Catalogue.{Entry, isGone, shapeOrGone, goodEntry, goodFrom, goodList, noneGone, Catalogue, goodVersion, goodCatalogue}
+use Rattle.catalogue_text.specs.Catalogue.{catalogueText}
 use Rattle.catalogue_text.specs.LineLaws.{entry-good, good-entry, shape-numbers, gone-numbers}
 use Rattle.catalogue_text.specs.CatalogueLaws.{cat-list, cat-version, versions, version-two}
-use Rattle.catalogue_text.specs.Changes.{entryFor, entryIn, putIn, foundRevision, lastRevision, nextEntry, changedBy, kept, largestGone, compacted}
+use Rattle.catalogue_text.specs.Changes.{entryFor, entryIn, putIn, foundRevision, lastRevision, nextEntry, changedBy, withoutGone, largestGone, compacted}
 use Rattle.catalogue_text.specs.ChangesLaws.{put-found, put-others, put-good, kept-good, kept-entry, largest-most, largest-holds}
 use Rattle.catalogue_text.specs.Buffers.{formed, catalogueIn, withText}
 use Rattle.catalogue_text.specs.BuffersLaws.{formed-parts, formed-good, formed-long, with-same, with-front, with-past, with-length, with-read, with-formed}
-use Rattle.catalogue.specs.declared.Looked.{Looked}
-use Rattle.catalogue.specs.declared.Changed.{Changed}
-use Rattle.catalogue.specs.Calls.{textRefusal, nameRefusal, stored, foundRefusal, lookupRefusal, lookedAt, lookedOf, changedEntry, changedText}
-use Rattle.catalogue.specs.Calls.{expectedRefusal, changeRefusal, putRefusal, removeRefusal, changedAs, putOf, putBuffer, removeOf, removeBuffer}
+use Rattle.catalogue_calls.specs.declared.Looked.{Looked}
+use Rattle.catalogue_calls.specs.declared.Changed.{Changed}
+use Rattle.catalogue_calls.specs.Calls.{textRefusal, nameRefusal, stored, foundRefusal, lookupRefusal, lookedAt, lookedOf, changedEntry, changedText}
+use Rattle.catalogue_calls.specs.Calls.{expectedRefusal, changeRefusal, putRefusal, removeRefusal, changedAs, putOf, putBuffer, removeOf, removeBuffer}
 use Rattle.catalogue_compact.specs.declared.Compacted.{Compacted}
 use Rattle.catalogue_compact.specs.Compaction.{compactRefusal, compactedText, compactOf, compactBuffer}
 use Rattle.catalogue_compact.specs.Laws.{compact-room-of}
@@ -82,12 +84,12 @@ unfolding compacted
 compacted-good cat t = go (noneGone (cat .list))
   where
     go : (b : Bool)
-        → T (goodCatalogue (cond b cat (record { version = 2; floor = max (cat .floor) (largestGone 0 (cat .list)); list = kept (cat .list) })))
+        → T (goodCatalogue (cond b cat (record { version = 2; floor = max (cat .floor) (largestGone 0 (cat .list)); list = withoutGone (cat .list) })))
     go true = t
     go false =
         let f = floor-most cat t in
         let m = largest-most 65535 0 [] (cat .list) (omega arith) (omega arith) (cat-list cat t) in
-        good-two (max (cat .floor) (largestGone 0 (cat .list))) (kept (cat .list)) (kept-good [] (cat .list) (cat-list cat t)) (omega arith)
+        good-two (max (cat .floor) (largestGone 0 (cat .list))) (withoutGone (cat .list)) (kept-good [] (cat .list) (cat-list cat t)) (omega arith)
 
 -- the entry of a name after it: as it was, or none if it was gone, and then its revision is at most the floor
 pub compacted-entry : (cat : Catalogue) → T (goodCatalogue cat) → (name : List ℕ)
@@ -98,10 +100,10 @@ compacted-entry cat t name =
     go (noneGone (cat .list)) (isGone (entryIn name cat)) refl (kept-entry name [] (cat .list) (cat-list cat t)) (largest-holds name 0 (cat .list))
   where
     next : Bool → Catalogue
-    next n = cond n cat (record { version = 2; floor = max (cat .floor) (largestGone 0 (cat .list)); list = kept (cat .list) })
+    next n = cond n cat (record { version = 2; floor = max (cat .floor) (largestGone 0 (cat .list)); list = withoutGone (cat .list) })
 
     go : (n g : Bool) → isGone (entryIn name cat) ≡ g
-        → entryFor name (kept (cat .list)) ≡ cond (isGone (entryIn name cat)) (entryFor name []) (entryIn name cat)
+        → entryFor name (withoutGone (cat .list)) ≡ cond (isGone (entryIn name cat)) (entryFor name []) (entryIn name cat)
         → (isGone (entryIn name cat) ≡ true → (entryIn name cat) .revision ≤ largestGone 0 (cat .list))
         → (entryIn name (next n) ≡ entryIn name cat)
         ⊎ ((isGone (entryIn name cat) ≡ true) × (entryIn name (next n) ≡ entryFor name []) × ((entryIn name cat) .revision ≤ (next n) .floor))
@@ -202,7 +204,7 @@ module _ (m w c : ℕ) (name : List ℕ) (expected : ℕ) (buffer : List ℕ) (s
   put-refused r e = record { answered = rw e; stays = rw e }
 
   module _ (z : putRefusal m w c name expected buffer size ≡ 0) where
-    pub put-tests : (saleRefusal m w c ≡ 0) × (formed buffer size ≡ true) × (goodName name ≡ true) × (changeRefusal buffer size name m w c ≡ 0)
+    pub put-tests : (saleRefusalIn byteLimits m w c ≡ 0) × (formed buffer size ≡ true) × (goodName name ≡ true) × (changeRefusal buffer size name m w c ≡ 0)
     unfolding putRefusal textRefusal nameRefusal
     put-tests =
         let a = orElse-zero _ _ z in
@@ -298,7 +300,7 @@ module _ (buffer : List ℕ) (size : ℕ) (whole : formed buffer size ≡ true) 
           ∙ refused-alike (nameRefusal name) (stored (withText left buffer) (length left) name) (stored buffer size name)
           ∙ sym (looked-gone buffer size name whole g)
 
-  same-text : noneGone (held .list) ≡ true → left ≡ textOf held
+  same-text : noneGone (held .list) ≡ true → left ≡ catalogueText held
   unfolding compactedText compacted
   same-text n = rw n
 

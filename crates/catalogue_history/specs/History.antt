@@ -6,9 +6,9 @@ use Prim.Native.Nat.{ℕ, _≤_}
 use lib.ListN.{take}
 use Rattle.catalogue_text.specs.Catalogue.{Entry, Catalogue}
 use Rattle.catalogue_text.specs.Buffers.{formed, catalogueIn}
-use Rattle.catalogue.specs.declared.Looked.{Looked}
-use Rattle.catalogue.specs.declared.Changed.{Changed}
-use Rattle.catalogue.specs.Calls.{lookedOf, putOf, putBuffer, removeOf, removeBuffer}
+use Rattle.catalogue_calls.specs.declared.Looked.{Looked}
+use Rattle.catalogue_calls.specs.declared.Changed.{Changed}
+use Rattle.catalogue_calls.specs.Calls.{lookedOf, putOf, putBuffer, removeOf, removeBuffer}
 use Rattle.catalogue_compact.specs.declared.Compacted.{Compacted}
 use Rattle.catalogue_compact.specs.Compaction.{compactOf, compactBuffer}
 
@@ -18,12 +18,12 @@ pub record Lent : Type 0 where
   pub size : ℕ
 
 -- a call, with any arguments: it may be refused; or the text is lent again in another buffer, in which other bytes follow it
-pub data Call : Type 0 where
-  put : (m w c : ℕ) (name : List ℕ) (expected : ℕ) → Call
-  remove : (name : List ℕ) (expected : ℕ) → Call
-  compact : Call
-  lookup : (name : List ℕ) → Call
-  lend : (rest : List ℕ) → Call
+pub data CatalogueCall : Type 0 where
+  put : (m w c : ℕ) (name : List ℕ) (expected : ℕ) → CatalogueCall
+  remove : (name : List ℕ) (expected : ℕ) → CatalogueCall
+  compact : CatalogueCall
+  lookup : (name : List ℕ) → CatalogueCall
+  lend : (rest : List ℕ) → CatalogueCall
 
 -- the length to be given to the next call: the one answered, or after a refusal the one before
 abbrev pub sizeAfter : Changed → ℕ → ℕ
@@ -36,7 +36,7 @@ sizeCompacted (Compacted.Done size) before = size
 sizeCompacted (Compacted.Refused r) before = before
 
 -- what a call leaves, as the contracts say it
-abbrev pub afterCall : Call → Lent → Lent
+abbrev pub afterCall : CatalogueCall → Lent → Lent
 afterCall (put m w c name expected) lent = record {
   buffer = putBuffer m w c name expected (lent .buffer) (lent .size);
   size = sizeAfter (putOf m w c name expected (lent .buffer) (lent .size)) (lent .size);
@@ -53,7 +53,7 @@ afterCall (lookup name) lent = lent
 afterCall (lend rest) lent = record { buffer = take (lent .size) (lent .buffer) ++ rest; size = lent .size }
 
 -- any list of calls; each works on what the call before it left
-abbrev pub afterCalls : List Call → Lent → Lent
+abbrev pub afterCalls : List CatalogueCall → Lent → Lent
 afterCalls [] lent = lent
 afterCalls (call ∷ calls) lent = afterCalls calls (afterCall call lent)
 
@@ -88,4 +88,4 @@ pub record Between (early late : Lent) : Type 0 where
 
 -- from any text of the form, at any two times of any list of calls
 abbrev pub NeverTwo : Lent → Type 0
-NeverTwo lent = (before between : List Call) → Between (afterCalls before lent) (afterCalls between (afterCalls before lent))
+NeverTwo lent = (before between : List CatalogueCall) → Between (afterCalls before lent) (afterCalls between (afterCalls before lent))

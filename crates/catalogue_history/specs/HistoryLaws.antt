@@ -11,8 +11,8 @@ use lib.ListN.{length, take, length-append}
 use lib.Seq.{take-at, length-take-le}
 use lib.Dec.{T, eqb}
 use Rattle.counting.specs.TestLaws.{and-l, and-r}
-use Rattle.shape.specs.Refusals.{refuse, _orElse_}
-use Rattle.shape.specs.RefusalsLaws.{refuse-zero, orElse-zero}
+use Rattle.code.specs.Refusals.{refuse, _orElse_}
+use Rattle.code.specs.RefusalsLaws.{refuse-zero, orElse-zero}
 use Rattle.text.specs.Fields.{same}
 use Rattle.text.specs.FieldLaws.{same-eq}
 use Rattle.catalogue_text.specs.Names.{before, goodName}
@@ -24,16 +24,17 @@ use Rattle.catalogue_text.specs.Changes.{entryFor, entryIn, putIn, lastRevision
 use Rattle.catalogue_text.specs.ChangesLaws.{put-found, put-others, compacted-floor}
 use Rattle.catalogue_text.specs.Buffers.{formed, catalogueIn}
 use Rattle.catalogue_text.specs.BuffersLaws.{formed-good, formed-parts}
-use Rattle.catalogue.specs.declared.Looked.{Looked}
-use Rattle.catalogue.specs.declared.Changed.{Changed}
-use Rattle.catalogue.specs.Calls.{textRefusal, nameRefusal, foundRefusal, stored, lookedAt, lookedOf, lookupRefusal, putRefusal, putOf, putBuffer}
-use Rattle.catalogue.specs.Calls.{removeRefusal, removeOf, removeBuffer}
+use Rattle.catalogue_calls.specs.declared.Looked.{Looked}
+use Rattle.catalogue_calls.specs.declared.Changed.{Changed}
+use Rattle.catalogue_calls.specs.Calls.{textRefusal, nameRefusal, foundRefusal, stored, lookedAt, lookedOf, lookupRefusal, putRefusal, putOf, putBuffer}
+use Rattle.catalogue_calls.specs.Calls.{removeRefusal, removeOf, removeBuffer}
 use Rattle.catalogue_compact.specs.declared.Compacted.{Compacted}
 use Rattle.catalogue_compact.specs.Compaction.{compactOf, compactBuffer}
 use Rattle.catalogue_history.specs.Demand.{ChangeDone, ChangeRefused, CompactDone}
 use Rattle.catalogue_history.specs.DemandLaws.{compacted-entry, last-most, put-done, put-refused, remove-done, remove-refused}
 use Rattle.catalogue_history.specs.DemandLaws.{compact-done}
-use Rattle.catalogue_history.specs.History.{Lent, Call, put, remove, compact, lookup, lend, sizeAfter, sizeCompacted, afterCall, afterCalls, readIn}
+use Rattle.catalogue_history.specs.History.{Lent, CatalogueCall, put, remove, compact, lookup, lend, sizeAfter, sizeCompacted, afterCall, afterCalls}
+use Rattle.catalogue_history.specs.History.{readIn}
 use Rattle.catalogue_history.specs.History.{LineOf, here, there, LineIn, Between, NeverTwo}
 
 -- the last revision of a name
@@ -180,7 +181,7 @@ lent-again lent rest f =
       λ name. subst (Kept name (readIn lent)) (ap catalogueOf (sym e)) (kept-same name (readIn lent)),
     )
 
-call-step : (call : Call) (lent : Lent) → formed (lent .buffer) (lent .size) ≡ true → Step lent (afterCall call lent)
+call-step : (call : CatalogueCall) (lent : Lent) → formed (lent .buffer) (lent .size) ≡ true → Step lent (afterCall call lent)
 call-step (put m w c name expected) lent f =
     changed lent f (putOf m w c name expected (lent .buffer) (lent .size)) (putBuffer m w c name expected (lent .buffer) (lent .size)) name m w c
     (putRefusal m w c name expected (lent .buffer) (lent .size)) (λ z. put-done m w c name expected (lent .buffer) (lent .size) z)
@@ -196,7 +197,7 @@ call-step compact lent f =
 call-step (lookup name) lent f = (f, λ other. kept-same other (readIn lent))
 call-step (lend rest) lent f = lent-again lent rest f
 
-calls-step : (calls : List Call) (lent : Lent) → formed (lent .buffer) (lent .size) ≡ true → Step lent (afterCalls calls lent)
+calls-step : (calls : List CatalogueCall) (lent : Lent) → formed (lent .buffer) (lent .size) ≡ true → Step lent (afterCalls calls lent)
 calls-step [] lent f = (f, λ name. kept-same name (readIn lent))
 calls-step (call ∷ calls) lent f =
     let s = call-step call lent f in

@@ -3,7 +3,7 @@ use mathlib.Core.Path.{_≡_}
 use mathlib.Core.Logic.{_⊎_}
 use mathlib.Core.List.{List, [], _++_}
 use Prim.Native.Nat.{ℕ}
-use Rattle.catalogue_text.specs.Catalogue.{Entry, Catalogue, firstLine, entryLine, textOf}
+use Rattle.catalogue_text.specs.Catalogue.{Entry, Catalogue, firstLine, entryLine, catalogueText}
 use Rattle.catalogue_text.specs.Changes.{nextEntry, changedBy}
 
 -- Before and after a change of a name the same bytes stand in front of its line and behind it, up to the first line; its old line may be none.
@@ -11,6 +11,6 @@ pub record OneLine (name : List ℕ) (m w c : ℕ) (cat : Catalogue) : Type 0 wh
   pub front : List ℕ
   pub line : List ℕ
   pub back : List ℕ
-  pub before : textOf cat ≡ firstLine (cat .version) (cat .floor) ++ (front ++ (line ++ back))
-  pub after : textOf (changedBy name m w c cat) ≡ firstLine 2 (cat .floor) ++ (front ++ (entryLine (nextEntry name m w c cat) ++ back))
+  pub before : catalogueText cat ≡ firstLine (cat .version) (cat .floor) ++ (front ++ (line ++ back))
+  pub after : catalogueText (changedBy name m w c cat) ≡ firstLine 2 (cat .floor) ++ (front ++ (entryLine (nextEntry name m w c cat) ++ back))
   pub old : (line ≡ []) ⊎ ((e : Entry) × (e .name ≡ name) × (line ≡ entryLine e))

@@ -9,7 +9,7 @@ use Rattle.counting.specs.TestLaws.{and-l, and-r}
 use Rattle.text.specs.Fields.{same}
 use Rattle.text.specs.FieldLaws.{same-eq}
 use Rattle.catalogue_text.specs.Names.{before}
-use Rattle.catalogue_text.specs.Catalogue.{Entry, goodEntry, goodFrom, Catalogue, firstLine, entryLine, linesOf, textOf, catalogueOf, ofForm}
+use Rattle.catalogue_text.specs.Catalogue.{Entry, goodEntry, goodFrom, Catalogue, firstLine, entryLine, linesOf, catalogueText, catalogueOf, ofForm}
 use Rattle.catalogue_text.specs.CatalogueLaws.{text-of-read}
 use Rattle.catalogue_text.specs.Changes.{putIn, nextEntry, changedBy}
 use Rattle.catalogue_history.specs.History.{LineOf}
@@ -59,7 +59,7 @@ next-name name m w c cat = refl
 
 -- "no other name's line changes"
 pub one-line : (name : List ℕ) (m w c : ℕ) (cat : Catalogue) → OneLine name m w c cat
-unfolding textOf changedBy
+unfolding catalogueText changedBy
 one-line name m w c cat =
     let p = put-place (nextEntry name m w c cat) (cat .list) in
     record {
@@ -90,7 +90,7 @@ sorted last (g ∷ front) e f back t l =
 
 -- "Each list has one text": two texts of the form that are read as the same catalogue are the same
 pub one-text : (a b : List ℕ) → T (ofForm a) → T (ofForm b) → catalogueOf a ≡ catalogueOf b → a ≡ b
-one-text a b s t e = sym (text-of-read a s) ∙ ap textOf e ∙ text-of-read b t
+one-text a b s t e = sym (text-of-read a s) ∙ ap catalogueText e ∙ text-of-read b t
 
 -- "a list then has one version 2 text": with its floor
 pub one-second-text : (a b : List ℕ) → T (ofForm a) → T (ofForm b) → (catalogueOf a) .version ≡ 2 → (catalogueOf b) .version ≡ 2

@@ -9,14 +9,15 @@ use borrow.Author.Tests.{lt-ltb, le-ltb, le-leb, lt-leb, eq-eqb, ne-eqb}
 use lib.Dec.{eqb, leb, ltb}
 use lib.ListN.{length, getD, take, drop, length-drop, drop-of-length-le}
 use lib.Seq.{drop-cons, take-all}
-use Rattle.shape.specs.Shapes.{shapeRefusal, madeOf}
-use Rattle.shape.specs.Laws.{shaped, unshaped, refusal-of-good}
+use Rattle.shape.specs.Shapes.{madeOf}
+use Rattle.shape.specs.Laws.{shaped, unshaped}
 use Rattle.shape.specs.declared.Shape.{Shape}
 use Rattle.shape.specs.declared.Made.{Made}
+use Rattle.code.specs.LimitsLaws.{refusal-of-good}
 use Rattle.catalogue_text.specs.Names.{nameByte, nameBytes, goodName, before}
 use Rattle.catalogue_lines.specs.declared.Line.{Line}
-use Rattle.text.specs.Fields.{same}
-use Rattle.text.specs.FieldLaws.{later, partsFrom, parts-end, joinedBy, joined-parts}
+use Rattle.text.specs.Fields.{same, later, partsFrom, joinedBy}
+use Rattle.text.specs.FieldLaws.{parts-end, joined-parts}
 use Rattle.catalogue_text.specs.Catalogue.{goneName}
 use Rattle.catalogue_lines.specs.Reading.{unread, numbersGood, lineIf, goneAfter, goneIf}
 

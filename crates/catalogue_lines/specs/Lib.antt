@@ -1,2 +1,4 @@
 pub mod Reading
 pub mod ReadingLaws
+pub mod Splice
+pub mod SpliceLaws

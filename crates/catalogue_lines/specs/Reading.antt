@@ -4,10 +4,10 @@ use mathlib.Core.List.{List}
 use Prim.Native.Nat.{ℕ, _+_}
 use lib.Dec.{eqb, leb, ltb}
 use lib.ListN.{length, drop}
-use Rattle.shape.specs.Shapes.{shapeRefusal}
+use Rattle.shape.specs.Shapes.{byteLimits}
+use Rattle.code.specs.Limits.{shapeRefusalIn}
 use Rattle.text.specs.Decimal.{numberOf, unreadable}
-use Rattle.text.specs.Fields.{same}
-use Rattle.text.specs.FieldLaws.{upTo, endOf, partsFrom, joinedBy}
+use Rattle.text.specs.Fields.{same, upTo, endOf, partsFrom, joinedBy}
 use Rattle.catalogue_text.specs.Catalogue.{Entry, goneName, entryOf}
 use Rattle.catalogue_text.specs.CatalogueLaws.{lineGood}
 use Rattle.catalogue_lines.specs.declared.Line.{Line}
@@ -33,7 +33,7 @@ fieldAfter at line = cond (ltb at (length line))
 
 -- "revisions 1 to 65,535, shapes good"
 unfoldable pub numbersGood : ℕ → ℕ → ℕ → ℕ → Bool
-numbersGood revision m w c = leb 1 revision && (leb revision 65535 && eqb (shapeRefusal m w c) 0)
+numbersGood revision m w c = leb 1 revision && (leb revision 65535 && eqb (shapeRefusalIn byteLimits m w c) 0)
 
 -- these numbers under a name of so many bytes
 unfoldable pub lineIf : ℕ → ℕ → ℕ → ℕ → ℕ → Line

@@ -10,11 +10,12 @@ use native.Mathlib.Decide.{decLt}
 use borrow.Author.Tests.{lt-ltb, le-ltb, le-leb, lt-leb, ne-eqb, eqb-true}
 use lib.Dec.{T, eqb, leb, ltb}
 use lib.ListN.{length, getD, take, drop}
-use Rattle.shape.specs.Shapes.{shapeRefusal}
-use Rattle.shape.specs.Laws.{good-of-refusal}
+use Rattle.shape.specs.Shapes.{byteLimits}
+use Rattle.code.specs.Limits.{shapeRefusalIn}
+use Rattle.code.specs.LimitsLaws.{good-of-refusal}
 use Rattle.text.specs.Decimal.{numberOf, unreadable}
-use Rattle.text.specs.Fields.{parts, fields, same}
-use Rattle.text.specs.FieldLaws.{upTo, later, toTab, endOf, take-part, partsFrom, parts-split, parts-more, parts-end, parts-all, joinedBy, joined-parts}
+use Rattle.text.specs.Fields.{parts, fields, same, upTo, later, toTab, endOf, partsFrom, joinedBy}
+use Rattle.text.specs.FieldLaws.{take-part, parts-split, parts-more, parts-end, parts-all, joined-parts}
 use Rattle.text.specs.Records.{lineName}
 use Rattle.text.specs.RecordLaws.{name-first}
 use Rattle.catalogue_text.specs.Names.{goodName}
@@ -65,15 +66,15 @@ revision-large m w c = refl
 
 shape-large : (r m w c : ℕ) → (16 < m) ⊎ (16 < w) ⊎ (16 < c) → numbersGood r m w c ≡ false
 unfolding numbersGood
-shape-large r m w c h = rw (none (eqb (shapeRefusal m w c) 0) refl, and-none (leb r 65535), and-none (leb 1 r))
+shape-large r m w c h = rw (none (eqb (shapeRefusalIn byteLimits m w c) 0) refl, and-none (leb r 65535), and-none (leb 1 r))
   where
-    large : shapeRefusal m w c ≡ 0 → (16 < m) ⊎ (16 < w) ⊎ (16 < c) → ⊥
+    large : shapeRefusalIn byteLimits m w c ≡ 0 → (16 < m) ⊎ (16 < w) ⊎ (16 < c) → ⊥
     large e (inl l) = let g = good-of-refusal m w c e .few in omega arith
     large e (inr (inl l)) = let g = good-of-refusal m w c e .narrow in omega arith
     large e (inr (inr l)) = let g = good-of-refusal m w c e .few-checks in omega arith
 
-    none : (b : Bool) → eqb (shapeRefusal m w c) 0 ≡ b → b ≡ false
-    none true e = absurd (large (eqb-true (shapeRefusal m w c) 0 e) h)
+    none : (b : Bool) → eqb (shapeRefusalIn byteLimits m w c) 0 ≡ b → b ≡ false
+    none true e = absurd (large (eqb-true (shapeRefusalIn byteLimits m w c) 0 e) h)
     none false e = refl
 
 entry-read : (line : List ℕ) (r m w c : ℕ) → numbersOf line ≡ r ∷ m ∷ w ∷ c ∷ []

@@ -9,9 +9,9 @@ use lib.Dec.{T, leb}
 use lib.ListN.{length, take, drop, length-drop, length-take}
 use lib.Seq.{take-all}
 use Rattle.text.specs.Decimal.{digitsOf, numberOf}
-use Rattle.text.specs.Fields.{same}
+use Rattle.text.specs.Fields.{same, upTo, endOf}
 use Rattle.text.specs.Lines.{cellsOf}
-use Rattle.text.specs.FieldLaws.{upTo, endOf, part-taken, same-eq, other-length}
+use Rattle.text.specs.FieldLaws.{part-taken, same-eq, other-length}
 use Rattle.catalogue_text.specs.Catalogue.{Entry, entryOf, isOne, floorOf}
 use Rattle.catalogue_text.specs.CatalogueLaws.{lineRight, read-name, twoName, headRight}
 use Rattle.catalogue_lines.specs.declared.Line.{Line}

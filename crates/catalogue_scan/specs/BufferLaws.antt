@@ -9,12 +9,7 @@ use lib.ListN.{length, take}
 use Rattle.catalogue_text.specs.Buffers.{formed, catalogueIn}
 use Rattle.catalogue_scan.specs.declared.Found.{Found}
 use Rattle.catalogue_scan.specs.declared.Scanned.{Scanned}
-use Rattle.catalogue_scan.specs.Places.{foundIn, scannedOf, scannedIn}
-
--- what was found
-pub record FoundIn (found : Found) (buffer : List ℕ) (size : ℕ) (name : List ℕ) : Type 0 where
-  pub whole : formed buffer size ≡ true
-  pub is : found ≡ foundIn name (catalogueIn buffer size)
+use Rattle.catalogue_scan.specs.Places.{foundIn, scannedOf, scannedIn, FoundIn}
 
 module _ (buffer : List ℕ) (size : ℕ) (name : List ℕ) where
   pub scanned-short : length buffer < size → scannedIn buffer size name ≡ Scanned.Bad

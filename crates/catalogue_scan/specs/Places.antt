@@ -1,9 +1,10 @@
 -- Where the line of a name stands in a text, or would stand.
-use mathlib.Core.Bool.{cond}
+use mathlib.Core.Bool.{cond, true}
 use mathlib.Core.List.{List, [], _∷_}
 use Prim.Native.Nat.{ℕ, _+_, max}
 use lib.Dec.{eqb}
 use lib.ListN.{length, drop}
+use mathlib.Core.Path.{_≡_}
 use Rattle.text.specs.Fields.{parts, same}
 use Rattle.catalogue_text.specs.Names.{before}
 use Rattle.catalogue_text.specs.Catalogue.{Entry, Catalogue, firstLine, entryLine, entryOf, entriesOf, floorOf, catalogueOf, ofForm}
@@ -65,3 +66,8 @@ scannedOf text name = cond (ofForm text) (Scanned.At (foundIn name (catalogueOf 
 -- and in the text at the start of a buffer
 unfoldable pub scannedIn : List ℕ → ℕ → List ℕ → Scanned
 scannedIn buffer size name = cond (formed buffer size) (Scanned.At (foundIn name (catalogueIn buffer size))) Scanned.Bad
+
+-- what was found
+pub record FoundIn (found : Found) (buffer : List ℕ) (size : ℕ) (name : List ℕ) : Type 0 where
+  pub whole : formed buffer size ≡ true
+  pub is : found ≡ foundIn name (catalogueIn buffer size)

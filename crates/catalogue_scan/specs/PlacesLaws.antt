@@ -12,7 +12,8 @@ use Rattle.text.specs.Fields.{same}
 use Rattle.text.specs.FieldLaws.{same-eq}
 use Rattle.catalogue_text.specs.Names.{before}
 use Rattle.catalogue_text.specs.NamesLaws.{is-true, before-only, before-else, before-trans, same-sym}
-use Rattle.catalogue_text.specs.Catalogue.{Entry, goodEntry, goodFrom, goodList, Catalogue, goodCatalogue, goodVersion, firstLine, entryLine, linesOf, textOf}
+use Rattle.catalogue_text.specs.Catalogue.{Entry, goodEntry, goodFrom, goodList, Catalogue, goodCatalogue, goodVersion, firstLine, entryLine, linesOf}
+use Rattle.catalogue_text.specs.Catalogue.{catalogueText}
 use Rattle.catalogue_text.specs.Catalogue.{catalogueOf, ofForm}
 use Rattle.catalogue_text.specs.CatalogueLaws.{cat-list, read-good, text-of-read}
 use Rattle.catalogue_text.specs.Changes.{entryFor, putIn}
@@ -173,7 +174,7 @@ pub spot-of : (text name : List ℕ) → T (ofForm text)
     → Spot name ((catalogueOf text) .list) text (λ l. firstLine ((catalogueOf text) .version) ((catalogueOf text) .floor) ++ linesOf l)
     (placeFrom name (length (firstLine ((catalogueOf text) .version) ((catalogueOf text) .floor)))
     (placeAt (length (firstLine ((catalogueOf text) .version) ((catalogueOf text) .floor)))) ((catalogueOf text) .list))
-unfolding textOf
+unfolding catalogueText
 spot-of text name t =
     let cat : Catalogue = catalogueOf text in
     let front : List ℕ = firstLine (cat .version) (cat .floor) in

@@ -11,8 +11,8 @@ use lib.Dec.{T, eqb, leb, leb→le}
 use lib.ListN.{length, getD, take, drop, length-append, length-drop, length-take, drop-of-length-le}
 use lib.Seq.{drop-cons, drop-drop, length-take-le, take-take}
 use Rattle.counting.specs.TestLaws.{and-l, and-r, and-intro}
-use Rattle.text.specs.Fields.{parts, same}
-use Rattle.text.specs.FieldLaws.{upTo, later, endOf, parts-split, parts-all, parts-end, part-taken, take-part, same-eq}
+use Rattle.text.specs.Fields.{parts, same, upTo, later, endOf}
+use Rattle.text.specs.FieldLaws.{parts-split, parts-all, parts-end, part-taken, take-part, same-eq}
 use Rattle.text.specs.Records.{lineName}
 use Rattle.text.specs.RecordLaws.{line-values}
 use Rattle.catalogue_text.specs.Names.{goodName, before}
@@ -131,9 +131,6 @@ module _ (text name : List ℕ) (first floor at from to : ℕ) (place : Place) (
     scan-wrong e = not-right text name first floor (more ∙ ap (λ b. (b && restRight (lineName line) (parts 10 (drop (end + 1) text)))) e)
 
     module _ (t : T (lineRight last line)) where
-      line-long : length line ≡ end - at
-      line-long = let e = end-after in omega arith
-
       pub size-most : length ((entryOf line) .name) ≤ length line
       size-most = let r = right-line last line t .2 in let n = length-take (length ((entryOf line) .name)) line in let z = ap length r in omega arith
 

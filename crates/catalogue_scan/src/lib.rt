@@ -58,7 +58,7 @@ fn place_next(place: Place, line: Line, at: usize, next: usize, named: &[u8], na
     if catalogue_lines::is_before(named, name) {
         return place_at(next);
     }
-    if fields::is_same(named, name) {
+    if text::is_same(named, name) {
         return Place {
             from: at,
             to: next,
@@ -109,7 +109,7 @@ fn larger_gone(top: u16, m: u8, revision: u16) -> u16
 fn read_head(line: &[u8]) -> Head
     ensures { λ r. ⌜ r ≡ readHead (now (line .entry)) ⌝ }
 {
-    if fields::is_same(line, b"shapes\t1") {
+    if text::is_same(line, b"shapes\t1") {
         return Head {
             size: 9,
             version: 1,
@@ -124,10 +124,10 @@ fn read_head(line: &[u8]) -> Head
     if line.len() < 9 {
         return other;
     }
-    if !fields::is_same(&line[..9], b"shapes\t2\t") {
+    if !text::is_same(&line[..9], b"shapes\t2\t") {
         return other;
     }
-    let floor = fields::number(&line[9..], 65536);
+    let floor = text::number(&line[9..], 65536);
     if 65535 < floor {
         return other;
     }
@@ -149,7 +149,7 @@ fn scan_lines(text: &[u8], first: usize, floor: u16, name: &[u8]) -> Scanned
     let mut to: usize = 0;
     let mut at = first;
     while at < text.len() {
-        let end = fields::part_end(text, at, b'\n');
+        let end = text::part_end(text, at, b'\n');
         if text.len() <= end {
             return Scanned::Bad;
         }
@@ -175,7 +175,7 @@ fn scan_lines(text: &[u8], first: usize, floor: u16, name: &[u8]) -> Scanned
 pub fn scan(text: &[u8], name: &[u8]) -> Scanned
     ensures { λ r. ⌜ r ≡ scannedOf (now (text .entry)) (now (name .entry)) ⌝ }
 {
-    let end = fields::part_end(text, 0, b'\n');
+    let end = text::part_end(text, 0, b'\n');
     if text.len() <= end {
         return Scanned::Bad;
     }

@@ -10,7 +10,7 @@ use lib.ListN.{length, take, drop, length-append, length-drop, take-append-drop}
 use lib.Seq.{take-at, drop-at, length-take-le}
 use Rattle.counting.specs.TestLaws.{and-l, and-r}
 use Rattle.catalogue_text.specs.NamesLaws.{is-true, true-is}
-use Rattle.catalogue_text.specs.Catalogue.{Catalogue, goodCatalogue, textOf, catalogueOf, ofForm}
+use Rattle.catalogue_text.specs.Catalogue.{Catalogue, goodCatalogue, catalogueText, catalogueOf, ofForm}
 use Rattle.catalogue_text.specs.CatalogueLaws.{read-of-text, text-formed, read-good, text-of-read}
 use Rattle.catalogue_text.specs.Buffers.{formed, catalogueIn, withText}
 
@@ -36,18 +36,18 @@ module _ (buffer : List ℕ) (size : ℕ) (e : formed buffer size ≡ true) wher
   unfolding catalogueIn
   formed-good = read-good (take size buffer) (formed-parts .text)
 
-  pub formed-text : textOf (catalogueIn buffer size) ≡ take size buffer
+  pub formed-text : catalogueText (catalogueIn buffer size) ≡ take size buffer
   unfolding catalogueIn
   formed-text = text-of-read (take size buffer) (formed-parts .text)
 
-  pub formed-long : length (textOf (catalogueIn buffer size)) ≡ size
+  pub formed-long : length (catalogueText (catalogueIn buffer size)) ≡ size
   formed-long = ap length formed-text ∙ length-take-le size buffer (formed-parts .held)
 
   -- the text that is there already
-  pub with-same : withText (textOf (catalogueIn buffer size)) buffer ≡ buffer
+  pub with-same : withText (catalogueText (catalogueIn buffer size)) buffer ≡ buffer
   unfolding withText
   with-same =
-      ap (λ n. textOf (catalogueIn buffer size) ++ drop n buffer) formed-long ∙ ap (λ t. t ++ drop size buffer) formed-text
+      ap (λ n. catalogueText (catalogueIn buffer size) ++ drop n buffer) formed-long ∙ ap (λ t. t ++ drop size buffer) formed-text
       ∙ take-append-drop size buffer
 
 module _ (text buffer : List ℕ) (l : length text ≤ length buffer) where
@@ -64,18 +64,18 @@ module _ (text buffer : List ℕ) (l : length text ≤ length buffer) where
   with-length = let d = length-drop (length text) buffer in let a = length-append text (drop (length text) buffer) in omega arith
 
 -- with the text of a good catalogue
-module _ (cat : Catalogue) (g : T (goodCatalogue cat)) (buffer : List ℕ) (l : length (textOf cat) ≤ length buffer) where
-  pub with-read : catalogueIn (withText (textOf cat) buffer) (length (textOf cat)) ≡ cat
+module _ (cat : Catalogue) (g : T (goodCatalogue cat)) (buffer : List ℕ) (l : length (catalogueText cat) ≤ length buffer) where
+  pub with-read : catalogueIn (withText (catalogueText cat) buffer) (length (catalogueText cat)) ≡ cat
   unfolding catalogueIn
-  with-read = ap catalogueOf (with-front (textOf cat) buffer l) ∙ read-of-text cat g
+  with-read = ap catalogueOf (with-front (catalogueText cat) buffer l) ∙ read-of-text cat g
 
-  pub with-formed : length (textOf cat) ≤ 4096 → formed (withText (textOf cat) buffer) (length (textOf cat)) ≡ true
+  pub with-formed : length (catalogueText cat) ≤ 4096 → formed (withText (catalogueText cat) buffer) (length (catalogueText cat)) ≡ true
   unfolding formed
   with-formed m =
       rw (
-        with-length (textOf cat) buffer l,
-        le-leb (length (textOf cat)) (length buffer) l,
-        le-leb (length (textOf cat)) 4096 m,
-        with-front (textOf cat) buffer l,
-        is-true (ofForm (textOf cat)) (text-formed cat g),
+        with-length (catalogueText cat) buffer l,
+        le-leb (length (catalogueText cat)) (length buffer) l,
+        le-leb (length (catalogueText cat)) 4096 m,
+        with-front (catalogueText cat) buffer l,
+        is-true (ofForm (catalogueText cat)) (text-formed cat g),
       )

@@ -4,11 +4,11 @@ use mathlib.Core.List.{List, [], _∷_, _++_, map}
 use Prim.Native.Nat.{ℕ}
 use lib.Dec.{eqb, leb}
 use lib.ListN.{length, getD, drop}
-use Rattle.shape.specs.Shapes.{shapeRefusal}
+use Rattle.shape.specs.Shapes.{byteLimits}
+use Rattle.code.specs.Limits.{shapeRefusalIn}
 use Rattle.text.specs.Decimal.{numberOf}
-use Rattle.text.specs.Fields.{parts, fields, same}
+use Rattle.text.specs.Fields.{parts, fields, same, joinedBy}
 use Rattle.text.specs.Records.{lineName}
-use Rattle.text.specs.FieldLaws.{joinedBy}
 use Rattle.text.specs.Lines.{cellsOf, lineWith}
 use Rattle.catalogue_text.specs.Names.{goodName, before}
 
@@ -26,7 +26,7 @@ isGone e = eqb (e .m) 0
 
 -- "shapes good"
 unfoldable pub goodShape : ℕ → ℕ → ℕ → Bool
-goodShape m w c = eqb (shapeRefusal m w c) 0
+goodShape m w c = eqb (shapeRefusalIn byteLimits m w c) 0
 
 -- or zeros, of a name that is gone
 unfoldable pub shapeOrGone : ℕ → ℕ → ℕ → Bool
@@ -90,8 +90,8 @@ linesOf [] = []
 linesOf (e ∷ list) = entryLine e ++ linesOf list
 
 -- the text of a catalogue
-unfoldable pub textOf : Catalogue → List ℕ
-textOf cat = firstLine (cat .version) (cat .floor) ++ linesOf (cat .list)
+unfoldable pub catalogueText : Catalogue → List ℕ
+catalogueText cat = firstLine (cat .version) (cat .floor) ++ linesOf (cat .list)
 
 -- the numbers after a line's name; 65,537 for a field that is no number up to 65,535
 unfoldable pub numbersOf : List ℕ → List ℕ
@@ -123,8 +123,8 @@ entriesOf (last ∷ []) = []
 entriesOf (line ∷ next ∷ lines) = entryOf line ∷ entriesOf (next ∷ lines)
 
 -- the list that a text is read as; line feeds, the byte 10, part its lines
-unfoldable pub listOf : List ℕ → List Entry
-listOf text = entriesOf (drop 1 (parts 10 text))
+unfoldable pub listOfText : List ℕ → List Entry
+listOfText text = entriesOf (drop 1 (parts 10 text))
 
 -- whether a first line, without its line feed, is shapes and 1
 unfoldable pub isOne : List ℕ → Bool
@@ -139,9 +139,9 @@ unfoldable pub catalogueOf : List ℕ → Catalogue
 catalogueOf text = record {
   version = cond (isOne (getD (parts 10 text) 0 [])) 1 2;
   floor = floorOf (getD (parts 10 text) 0 []);
-  list = listOf text;
+  list = listOfText text;
 }
 
 -- A text is "of this form" if the catalogue that it is read as is good and has this text (`CatalogueLaws: form-exactly`: if it is the text of a good one).
 unfoldable pub ofForm : List ℕ → Bool
-ofForm text = goodCatalogue (catalogueOf text) && same (textOf (catalogueOf text)) text
+ofForm text = goodCatalogue (catalogueOf text) && same (catalogueText (catalogueOf text)) text

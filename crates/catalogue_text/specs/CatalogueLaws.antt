@@ -11,20 +11,22 @@ use lib.Dec.{T, eqb, leb, eqb→eq, leb→le}
 use lib.ListN.{length, getD, take, drop, length-append, take-append-drop}
 use lib.Seq.{take-at, drop-at}
 use Rattle.counting.specs.TestLaws.{and-l, and-r, and-intro}
-use Rattle.shape.specs.Shapes.{Good, shapeRefusal}
-use Rattle.shape.specs.Laws.{good-of-refusal}
-use Rattle.text.specs.Decimal.{digitsOf, numberOf}
-use Rattle.text.specs.DecimalLaws.{without, number-of-digits, digits-of-number, digits-some, digits-one, digits-split}
-use Rattle.text.specs.Fields.{parts, same}
-use Rattle.text.specs.FieldLaws.{upTo, later, parts-split, parts-front, joinedBy, joined-parts, same-eq, other-length}
+use Rattle.shape.specs.Shapes.{byteLimits}
+use Rattle.code.specs.Limits.{GoodIn, shapeRefusalIn}
+use Rattle.code.specs.LimitsLaws.{good-of-refusal}
+use Rattle.text.specs.Decimal.{digitsOf, numberOf, without}
+use Rattle.text.specs.DecimalLaws.{number-of-digits, digits-of-number, digits-some, digits-one, digits-split}
+use Rattle.text.specs.Fields.{parts, same, upTo, later, joinedBy}
+use Rattle.text.specs.FieldLaws.{parts-split, parts-front, joined-parts, same-eq, other-length}
 use Rattle.text.specs.Records.{lineName}
 use Rattle.text.specs.Lines.{cellsOf, lineWith}
 use Rattle.text.specs.ReadBackLaws.{one-line, line-parts}
 use Rattle.catalogue_text.specs.Names.{goodName, before}
 use Rattle.catalogue_text.specs.NamesLaws.{tests-same, is-true, true-is, same-refl}
 use Rattle.catalogue_text.specs.Catalogue.{Entry, isGone, goodShape, shapeOrGone, goodEntry, goodFrom, goodList, noneGone, Catalogue, goodVersion}
-use Rattle.catalogue_text.specs.Catalogue.{goodCatalogue, shapesName, firstLine, entryLine, linesOf, textOf, numbersOf, saysGone, shapedOf, entryOf}
-use Rattle.catalogue_text.specs.Catalogue.{entriesOf, listOf, isOne, floorOf, catalogueOf, ofForm}
+use Rattle.catalogue_text.specs.Catalogue.{goodCatalogue, shapesName, firstLine, entryLine, linesOf, catalogueText, numbersOf, saysGone, shapedOf}
+use Rattle.catalogue_text.specs.Catalogue.{entryOf}
+use Rattle.catalogue_text.specs.Catalogue.{entriesOf, listOfText, isOne, floorOf, catalogueOf, ofForm}
 use Rattle.catalogue_text.specs.LineLaws.{EntryGood, entry-good, good-entry, shape-numbers, goneBody, shapedBody, bodyOf, body-line, body-one}
 use Rattle.catalogue_text.specs.LineLaws.{body-name, body-read, gone-said, shaped-said, shaped-numbers, shaped-read, shaped-only, gone-only}
 
@@ -76,19 +78,19 @@ pub record ShapedGood (e : Entry) : Type 0 where
   pub named : T (goodName (e .name))
   pub some : 1 ≤ e .revision
   pub most : e .revision ≤ 65535
-  pub shaped : Good (e .m) (e .w) (e .c)
+  pub shaped : GoodIn byteLimits (e .m) (e .w) (e .c)
 
 shaped-good : (e : Entry) → T (goodShaped e) → ShapedGood e
 unfolding goodShaped goodShape
 shaped-good e t =
-    let r : Bool = eqb (shapeRefusal (e .m) (e .w) (e .c)) 0 in
+    let r : Bool = eqb (shapeRefusalIn byteLimits (e .m) (e .w) (e .c)) 0 in
     let t₁ = and-r (goodName (e .name)) (leb 1 (e .revision) && (leb (e .revision) 65535 && r)) t in
     let t₂ = and-r (leb 1 (e .revision)) (leb (e .revision) 65535 && r) t₁ in
     record {
       named = and-l (goodName (e .name)) (leb 1 (e .revision) && (leb (e .revision) 65535 && r)) t;
       some = leb→le 1 (e .revision) (and-l (leb 1 (e .revision)) (leb (e .revision) 65535 && r) t₁);
       most = leb→le (e .revision) 65535 (and-l (leb (e .revision) 65535) r t₂);
-      shaped = good-of-refusal (e .m) (e .w) (e .c) (eqb→eq (shapeRefusal (e .m) (e .w) (e .c)) 0 (and-r (leb (e .revision) 65535) r t₂));
+      shaped = good-of-refusal (e .m) (e .w) (e .c) (eqb→eq (shapeRefusalIn byteLimits (e .m) (e .w) (e .c)) 0 (and-r (leb (e .revision) 65535) r t₂));
     }
 
 body-is : (e : Entry) (b : Bool) → isGone e ≡ b → bodyOf e ≡ cond b (goneBody (e .name) (e .revision)) (shapedBody e)
@@ -180,7 +182,7 @@ line-split : (e : Entry) → EntryGood e → (xs : List ℕ) → parts 10 (entry
 unfolding upTo later
 line-split e g xs = rw (body-line e, append-assoc) (parts-front 10 (bodyOf e) (10 ∷ xs) (body-one e g) refl)
 
-good-shaped : (e : Entry) → EntryGood e → Good (e .m) (e .w) (e .c) → T (goodShaped e)
+good-shaped : (e : Entry) → EntryGood e → GoodIn byteLimits (e .m) (e .w) (e .c) → T (goodShaped e)
 unfolding goodShaped
 good-shaped e g s =
     rw (le-leb 1 (e .revision) (g .some), le-leb (e .revision) 65535 (g .most), shape-numbers (e .m) (e .w) (e .c) s .2)
@@ -331,39 +333,39 @@ module _ (cat : Catalogue) (t : T (goodCatalogue cat)) where
   cat-head : Head (cat .version) (cat .floor) (firstBody (cat .version) (cat .floor))
   cat-head = head (cat .version) (cat .floor) (cat .list) (versions (cat .version) (cat .floor) (cat .list) cat-version)
 
-  text-parts : parts 10 (textOf cat) ≡ firstBody (cat .version) (cat .floor) ∷ parts 10 (linesOf (cat .list))
-  unfolding textOf
+  text-parts : parts 10 (catalogueText cat) ≡ firstBody (cat .version) (cat .floor) ∷ parts 10 (linesOf (cat .list))
+  unfolding catalogueText
   text-parts = first-parts (cat .version) (cat .floor) (firstBody (cat .version) (cat .floor)) cat-head (linesOf (cat .list))
 
   -- "Reading what was written gives the same list"
-  pub read-of-text : catalogueOf (textOf cat) ≡ cat
-  unfolding catalogueOf listOf
+  pub read-of-text : catalogueOf (catalogueText cat) ≡ cat
+  unfolding catalogueOf listOfText
   read-of-text = rw (text-parts, cat-head .versioned, cat-head .floored, good-rest [] (cat .list) cat-list .1)
 
-  pub text-formed : T (ofForm (textOf cat))
+  pub text-formed : T (ofForm (catalogueText cat))
   unfolding ofForm
-  text-formed = rw (read-of-text, same-refl (textOf cat)) (and-intro (goodCatalogue cat) true t tt)
+  text-formed = rw (read-of-text, same-refl (catalogueText cat)) (and-intro (goodCatalogue cat) true t tt)
 
 module _ (text : List ℕ) (t : T (ofForm text)) where
   pub read-good : T (goodCatalogue (catalogueOf text))
   unfolding ofForm
-  read-good = and-l (goodCatalogue (catalogueOf text)) (same (textOf (catalogueOf text)) text) t
+  read-good = and-l (goodCatalogue (catalogueOf text)) (same (catalogueText (catalogueOf text)) text) t
 
   -- "a text that is accepted is the text of the list that it is read as"
-  pub text-of-read : textOf (catalogueOf text) ≡ text
+  pub text-of-read : catalogueText (catalogueOf text) ≡ text
   unfolding ofForm
   text-of-read =
-      same-eq (textOf (catalogueOf text)) text (is-true _ (and-r (goodCatalogue (catalogueOf text)) (same (textOf (catalogueOf text)) text) t))
+      same-eq (catalogueText (catalogueOf text)) text (is-true _ (and-r (goodCatalogue (catalogueOf text)) (same (catalogueText (catalogueOf text)) text) t))
 
 -- the texts of this form are those of the good catalogues
-pub form-exactly : (text : List ℕ) → T (ofForm text) ↔ ((cat : Catalogue) × T (goodCatalogue cat) × (textOf cat ≡ text))
+pub form-exactly : (text : List ℕ) → T (ofForm text) ↔ ((cat : Catalogue) × T (goodCatalogue cat) × (catalogueText cat ≡ text))
 form-exactly text = (
   (λ t. (catalogueOf text, read-good text t, text-of-read text t)),
   (λ p. subst (λ x. T (ofForm x)) (p .2) (text-formed (p .0) (p .1))),
 )
 
 -- "each list has one text", and each text one list
-pub one-list : (cat other : Catalogue) → T (goodCatalogue cat) → T (goodCatalogue other) → textOf cat ≡ textOf other → cat ≡ other
+pub one-list : (cat other : Catalogue) → T (goodCatalogue cat) → T (goodCatalogue other) → catalogueText cat ≡ catalogueText other → cat ≡ other
 one-list cat other s t e = sym (read-of-text cat s) ∙ ap catalogueOf e ∙ read-of-text other t
 
 -- ---- the form line by line
@@ -422,7 +424,7 @@ module _ (text : List ℕ) where
   split = rw (parts-split 10 text)
 
   catalogue-is : catalogueOf text ≡ record { version = versionOf first; floor = floorOf first; list = entriesOf rest }
-  unfolding catalogueOf listOf
+  unfolding catalogueOf listOfText
   catalogue-is = rw (parts-split 10 text)
 
   -- the first line, the lines after it, and no gone lines in version 1
@@ -445,7 +447,7 @@ module _ (text : List ℕ) where
       (allowed (firstBody (cat .version) (cat .floor)) cat (versions _ _ _ (cat-version cat g)) (h .versioned))))
 
   of-lines : T rightLines → T (ofForm text)
-  unfolding ofForm goodCatalogue textOf joinedBy restRight
+  unfolding ofForm goodCatalogue catalogueText joinedBy restRight
   of-lines t =
       let h = and-l (headRight first) (restRight [] rest && allows first (entriesOf rest)) t in
       let u = and-r (headRight first) (restRight [] rest && allows first (entriesOf rest)) t in

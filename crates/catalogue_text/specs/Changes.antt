@@ -38,9 +38,9 @@ unfoldable pub changedBy : List ℕ → ℕ → ℕ → ℕ → Catalogue → Ca
 changedBy name m w c cat = record { version = 2; floor = cat .floor; list = putIn (nextEntry name m w c cat) (cat .list) }
 
 -- "Compaction drops all gone lines"
-unfoldable pub kept : List Entry → List Entry
-kept [] = []
-kept (e ∷ list) = cond (isGone e) (kept list) (e ∷ kept list)
+unfoldable pub withoutGone : List Entry → List Entry
+withoutGone [] = []
+withoutGone (e ∷ list) = cond (isGone e) (withoutGone list) (e ∷ withoutGone list)
 
 -- the largest of a number and the revisions of gone lines
 unfoldable pub largestGone : ℕ → List Entry → ℕ
@@ -51,4 +51,4 @@ largestGone top (e ∷ list) = largestGone (cond (isGone e) (max top (e .revisio
 unfoldable pub compacted : Catalogue → Catalogue
 compacted cat =
     cond (noneGone (cat .list)) cat
-    (record { version = 2; floor = max (cat .floor) (largestGone 0 (cat .list)); list = kept (cat .list) })
+    (record { version = 2; floor = max (cat .floor) (largestGone 0 (cat .list)); list = withoutGone (cat .list) })

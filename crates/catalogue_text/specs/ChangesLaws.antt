@@ -13,7 +13,7 @@ use Rattle.catalogue_text.specs.Names.{before, goodName}
 use Rattle.catalogue_text.specs.NamesLaws.{is-true, true-is, same-refl, same-sym, before-only, before-else, before-trans}
 use Rattle.catalogue_text.specs.Catalogue.{Entry, isGone, goodEntry, goodFrom, goodList, noneGone, Catalogue}
 use Rattle.catalogue_text.specs.LineLaws.{entry-good}
-use Rattle.catalogue_text.specs.Changes.{entryFor, entryIn, putIn, foundRevision, lastRevision, nextEntry, kept, largestGone, compacted}
+use Rattle.catalogue_text.specs.Changes.{entryFor, entryIn, putIn, foundRevision, lastRevision, nextEntry, withoutGone, largestGone, compacted}
 
 pub put-found : (e : Entry) (list : List Entry) → entryFor (e .name) (putIn e list) ≡ e
 unfolding entryFor putIn
@@ -103,8 +103,8 @@ good-weaker last from (e ∷ list) b t =
     before-trans last from (e .name) b (is-true _ (and-l (before from (e .name)) (goodEntry e && goodFrom (e .name) list) t)) in
     and-intro (before last (e .name)) (goodEntry e && goodFrom (e .name) list) (true-is _ k) more
 
-pub kept-good : (last : List ℕ) (list : List Entry) → T (goodFrom last list) → T (goodFrom last (kept list))
-unfolding goodFrom kept
+pub kept-good : (last : List ℕ) (list : List Entry) → T (goodFrom last list) → T (goodFrom last (withoutGone list))
+unfolding goodFrom withoutGone
 kept-good last [] t = tt
 kept-good last (e ∷ list) t = go (isGone e) (kept-good (e .name) list (and-r (goodEntry e) (goodFrom (e .name) list) more))
   where
@@ -114,11 +114,11 @@ kept-good last (e ∷ list) t = go (isGone e) (kept-good (e .name) list (and-r (
     more : T (goodEntry e && goodFrom (e .name) list)
     more = and-r (before last (e .name)) (goodEntry e && goodFrom (e .name) list) t
 
-    go : (b : Bool) → T (goodFrom (e .name) (kept list)) → T (goodFrom last (cond b (kept list) (e ∷ kept list)))
-    go true i = good-weaker last (e .name) (kept list) (is-true _ first) i
+    go : (b : Bool) → T (goodFrom (e .name) (withoutGone list)) → T (goodFrom last (cond b (withoutGone list) (e ∷ withoutGone list)))
+    go true i = good-weaker last (e .name) (withoutGone list) (is-true _ first) i
     go false i =
-        and-intro (before last (e .name)) (goodEntry e && goodFrom (e .name) (kept list)) first
-        (and-intro (goodEntry e) (goodFrom (e .name) (kept list)) (and-l (goodEntry e) (goodFrom (e .name) list) more) i)
+        and-intro (before last (e .name)) (goodEntry e && goodFrom (e .name) (withoutGone list)) first
+        (and-intro (goodEntry e) (goodFrom (e .name) (withoutGone list)) (and-l (goodEntry e) (goodFrom (e .name) list) more) i)
 
 -- the largest revision of gone lines is one of theirs, so it is at most 65,535
 pub largest-most : (k top : ℕ) (last : List ℕ) (list : List Entry) → 65535 ≤ k → top ≤ k → T (goodFrom last list) → largestGone top list ≤ k
@@ -159,8 +159,8 @@ after-none name last h (e ∷ list) t =
 
 -- what is kept of a name: its entry, unless it is gone
 pub kept-entry : (name last : List ℕ) (list : List Entry) → T (goodFrom last list)
-    → entryFor name (kept list) ≡ cond (isGone (entryFor name list)) (entryFor name []) (entryFor name list)
-unfolding kept entryFor goodFrom
+    → entryFor name (withoutGone list) ≡ cond (isGone (entryFor name list)) (entryFor name []) (entryFor name list)
+unfolding withoutGone entryFor goodFrom
 kept-entry name last [] t = refl
 kept-entry name last (e ∷ list) t = go (same (e .name) name) (isGone e) refl refl (kept-entry name (e .name) list more)
   where
@@ -168,24 +168,24 @@ kept-entry name last (e ∷ list) t = go (same (e .name) name) (isGone e) refl r
     more = and-r (goodEntry e) (goodFrom (e .name) list) (and-r (before last (e .name)) (goodEntry e && goodFrom (e .name) list) t)
 
     go : (s g : Bool) → same (e .name) name ≡ s → isGone e ≡ g
-        → entryFor name (kept list) ≡ cond (isGone (entryFor name list)) (entryFor name []) (entryFor name list)
-        → entryFor name (cond g (kept list) (e ∷ kept list))
+        → entryFor name (withoutGone list) ≡ cond (isGone (entryFor name list)) (entryFor name []) (entryFor name list)
+        → entryFor name (cond g (withoutGone list) (e ∷ withoutGone list))
         ≡ cond (isGone (cond s e (entryFor name list))) (entryFor name []) (cond s e (entryFor name list))
     go true true d g i =
         let n = same-eq (e .name) name d in
-        after-none name (e .name) (λ x q. subst (λ y. before y x ≡ true) n q) (kept list) (kept-good (e .name) list more) ∙ rw g
+        after-none name (e .name) (λ x q. subst (λ y. before y x ≡ true) n q) (withoutGone list) (kept-good (e .name) list more) ∙ rw g
     go true false d g i = rw (d, g)
     go false true d g i = i
     go false false d g i = rw d i
 
 -- with no gone line nothing is dropped
-pub kept-all : (list : List Entry) → noneGone list ≡ true → kept list ≡ list
-unfolding kept noneGone
+pub kept-all : (list : List Entry) → noneGone list ≡ true → withoutGone list ≡ list
+unfolding withoutGone noneGone
 kept-all [] n = refl
 kept-all (e ∷ list) n = go (isGone e) refl n (kept-all list)
   where
-    go : (b : Bool) → isGone e ≡ b → (not b && noneGone list) ≡ true → (noneGone list ≡ true → kept list ≡ list)
-        → cond b (kept list) (e ∷ kept list) ≡ e ∷ list
+    go : (b : Bool) → isGone e ≡ b → (not b && noneGone list) ≡ true → (noneGone list ≡ true → withoutGone list ≡ list)
+        → cond b (withoutGone list) (e ∷ withoutGone list) ≡ e ∷ list
     go true d n i = absurd (false≢true n)
     go false d n i = ap (λ l. e ∷ l) (i n)
 
@@ -211,6 +211,11 @@ pub compacted-floor : (cat : Catalogue) → cat .floor ≤ (compacted cat) .floo
 unfolding compacted
 compacted-floor cat = go (noneGone (cat .list))
   where
-    go : (b : Bool) → cat .floor ≤ (cond b cat (record { version = 2; floor = max (cat .floor) (largestGone 0 (cat .list)); list = kept (cat .list) })) .floor
+    go : (b : Bool) → cat .floor ≤ (cond b cat (record {
+      version = 2;
+      floor = max (cat .floor) (largestGone 0 (cat .list));
+      list = withoutGone
+          (cat .list);
+    })) .floor
     go true = omega arith
     go false = omega arith

@@ -8,12 +8,13 @@ use borrow.Author.Tests.{eq-eqb, ne-eqb, le-leb, eqb-true}
 use lib.Dec.{T, eqb, leb, eqb→eq, leb→le}
 use lib.ListN.{length, getD, drop, length-map, length-append}
 use Rattle.counting.specs.TestLaws.{and-l, and-r, and-intro}
-use Rattle.shape.specs.Shapes.{Good, shapeRefusal}
-use Rattle.shape.specs.Laws.{good-of-refusal, refusal-of-good}
-use Rattle.text.specs.Decimal.{digitsOf, numberOf}
-use Rattle.text.specs.DecimalLaws.{without, without-append, number-of-digits, digits-of-number, digits-without, digits-some}
-use Rattle.text.specs.Fields.{parts, fields, same}
-use Rattle.text.specs.FieldLaws.{upTo, later, parts-split, parts-front, joinedBy, joined-parts, same-eq, other-length}
+use Rattle.shape.specs.Shapes.{byteLimits}
+use Rattle.code.specs.Limits.{GoodIn, shapeRefusalIn}
+use Rattle.code.specs.LimitsLaws.{good-of-refusal, refusal-of-good}
+use Rattle.text.specs.Decimal.{digitsOf, numberOf, without}
+use Rattle.text.specs.DecimalLaws.{without-append, number-of-digits, digits-of-number, digits-without, digits-some}
+use Rattle.text.specs.Fields.{parts, fields, same, upTo, later, joinedBy}
+use Rattle.text.specs.FieldLaws.{parts-split, parts-front, joined-parts, same-eq, other-length}
 use Rattle.text.specs.Records.{lineName}
 use Rattle.text.specs.Lines.{cellsOf, lineWith}
 use Rattle.text.specs.ReadBackLaws.{fields-back, line-parts, one-line}
@@ -27,14 +28,15 @@ pub record EntryGood (e : Entry) : Type 0 where
   pub named : T (goodName (e .name))
   pub some : 1 ≤ e .revision
   pub most : e .revision ≤ 65535
-  pub shaped : isGone e ≡ false → Good (e .m) (e .w) (e .c)
+  pub shaped : isGone e ≡ false → GoodIn byteLimits (e .m) (e .w) (e .c)
   pub gone : isGone e ≡ true → (e .m ≡ 0) × (e .w ≡ 0) × (e .c ≡ 0)
 
 -- a good shape or zeros
-numbers-shaped : (m w c : ℕ) → T (shapeOrGone m w c) → eqb m 0 ≡ false → Good m w c
+numbers-shaped : (m w c : ℕ) → T (shapeOrGone m w c) → eqb m 0 ≡ false → GoodIn byteLimits m w c
 unfolding shapeOrGone goodShape
 numbers-shaped m w c t e =
-    good-of-refusal m w c (eqb→eq (shapeRefusal m w c) 0 (subst (λ b. T (cond b (eqb w 0 && eqb c 0) (eqb (shapeRefusal m w c) 0))) e t))
+    good-of-refusal m w c (eqb→eq (shapeRefusalIn byteLimits m w c) 0
+    (subst (λ b. T (cond b (eqb w 0 && eqb c 0) (eqb (shapeRefusalIn byteLimits m w c) 0))) e t))
 
 numbers-gone : (m w c : ℕ) → T (shapeOrGone m w c) → eqb m 0 ≡ true → (m ≡ 0) × (w ≡ 0) × (c ≡ 0)
 unfolding shapeOrGone
@@ -42,7 +44,7 @@ numbers-gone m w c t e =
     let u : T (eqb w 0 && eqb c 0) = subst (λ b. T (cond b (eqb w 0 && eqb c 0) (goodShape m w c))) e t in
     (eqb-true m 0 e, eqb→eq w 0 (and-l (eqb w 0) (eqb c 0) u), eqb→eq c 0 (and-r (eqb w 0) (eqb c 0) u))
 
-pub shape-numbers : (m w c : ℕ) → Good m w c → (shapeOrGone m w c ≡ true) × (eqb m 0 ≡ false) × (goodShape m w c ≡ true)
+pub shape-numbers : (m w c : ℕ) → GoodIn byteLimits m w c → (shapeOrGone m w c ≡ true) × (eqb m 0 ≡ false) × (goodShape m w c ≡ true)
 unfolding shapeOrGone goodShape
 shape-numbers m w c g =
     let s = g .some in
@@ -130,7 +132,7 @@ module _ (name : List ℕ) (revision : ℕ) (named : T (goodName name)) (most : 
     rw (gone-said, gone-fields, number-of-digits 4 65536 revision (omega arith) (omega arith)),
   )
 
-module _ (e : Entry) (named : T (goodName (e .name))) (most : e .revision ≤ 65535) (g : Good (e .m) (e .w) (e .c)) where
+module _ (e : Entry) (named : T (goodName (e .name))) (most : e .revision ≤ 65535) (g : GoodIn byteLimits (e .m) (e .w) (e .c)) where
   shaped-fields : fields (shapedBody e) ≡ e .name ∷ map (digitsOf 4) (e .revision ∷ e .m ∷ e .w ∷ e .c ∷ [])
   unfolding shapedBody
   shaped-fields = fields-back 4 (e .name) (e .revision ∷ e .m ∷ e .w ∷ e .c ∷ []) (name-without 9 refl (e .name) named)
@@ -203,7 +205,7 @@ unfolding lineName
 named line = rw (parts-split 9 line)
 
 module _ (line : List ℕ) (n : length (numbersOf line) ≡ 4) (most : (shapedOf line) .revision ≤ 65535)
-    (g : Good ((shapedOf line) .m) ((shapedOf line) .w) ((shapedOf line) .c)) where
+    (g : GoodIn byteLimits ((shapedOf line) .m) ((shapedOf line) .w) ((shapedOf line) .c)) where
   four : (fs : List (List ℕ)) (r m w c : ℕ) → length fs ≡ 4 → getD (map (numberOf 65536) fs) 0 0 ≡ r → getD (map (numberOf 65536) fs) 1 0 ≡ m
       → getD (map (numberOf 65536) fs) 2 0 ≡ w → getD (map (numberOf 65536) fs) 3 0 ≡ c → r < 65536 → m < 65536 → w < 65536 → c < 65536
       → joinedBy 9 (lineName line ∷ fs) ≡ lineName line ++ cellsOf 4 (r ∷ m ∷ w ∷ c ∷ [])

@@ -10,7 +10,7 @@ use lib.ListN.{length}
 use Rattle.counting.specs.TestLaws.{and-l, and-r, and-intro}
 use Rattle.text.specs.Fields.{same}
 use Rattle.text.specs.FieldLaws.{same-eq}
-use Rattle.text.specs.DecimalLaws.{without}
+use Rattle.text.specs.Decimal.{without}
 use Rattle.catalogue_text.specs.Names.{nameByte, nameBytes, goodName, before}
 
 -- two tests that follow from each other are the same

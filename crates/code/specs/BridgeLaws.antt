@@ -127,9 +127,6 @@ module _ (E : Edition) (S : Sound E) (m w c : ℕ) (few : m ≤ S .r) (wide : 0 
       ≡ secondAcross E m w c word
   second-sum word = word-value word (coeff₂ (layout geometry)) _ (λ g j l a. ap (times E a) (second-value g j l))
 
-  zero-value : {x : Element (E .bits)} → x ≡ field (S .facts) .𝟘 → x .0 ≡ 0
-  zero-value e = ap (λ (x : Element (E .bits)). x .0) e
-
   -- a codeword of numbers is one of symbols, and the other way round
   pub to-codeword : (word : List ℕ) → Equations E m w c word → Abstract.Codeword (layout geometry) (symbol E S m w c few wide narrow word)
   unfolding geometry

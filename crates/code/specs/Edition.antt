@@ -5,7 +5,7 @@ use Prim.Native.Nat.{ℕ, suc, _<_, _≤_, _^_}
 use Rattle.binary_field.specs.Product.{product}
 use Rattle.binary_field.specs.Power.{power}
 use Rattle.binary_field.specs.Element.{Facts}
-use Rattle.shape.specs.Shapes.{Limits}
+use Rattle.code.specs.Limits.{Limits}
 
 -- the numbers that tell one edition from another
 pub record Edition : Type 0 where

@@ -6,20 +6,16 @@ use native.Mathlib.Nat.{suc-mul, mul-le-mul-right}
 use native.Mathlib.Omega.{arith}
 use lib.ListN.{length, take, drop}
 use lib.Seq.{drop-drop}
-use Rattle.shape.specs.Shapes.{Limits, byteLimits, wordRefusalIn, wordRefusal}
-use Rattle.shape.specs.Laws.{good-of-word, word-of-good}
 use Rattle.code.specs.Stretch.{stretch, withStretch}
 use Rattle.code.specs.StretchLaws.{stretch-length}
-use Rattle.code.specs.Lent.{LentIn, Lent}
+use Rattle.code.specs.Lent.{LentIn}
+use Rattle.code.specs.Limits.{Limits, wordRefusalIn}
+use Rattle.code.specs.LimitsLaws.{good-of-word, word-of-good}
 
-pub lent-in : (B : Limits) (m w c : ℕ) (xs : List ℕ) → wordRefusalIn B m w c (length xs) ≡ 0 → LentIn B m w c xs
-lent-in B m w c xs e = let g = good-of-word m w c (length xs) e in record { good = g .0; size = g .1 }
+pub lent : {B : Limits} (m w c : ℕ) (xs : List ℕ) → wordRefusalIn B m w c (length xs) ≡ 0 → LentIn B m w c xs
+lent m w c xs e = let g = good-of-word m w c (length xs) e in record { good = g .0; size = g .1 }
 
--- in the edition of bytes
-pub lent : (m w c : ℕ) (xs : List ℕ) → wordRefusal m w c (length xs) ≡ 0 → Lent m w c xs
-lent m w c xs e = lent-in byteLimits m w c xs e
-
-pub not-refused : (m w c : ℕ) (xs : List ℕ) → Lent m w c xs → wordRefusal m w c (length xs) ≡ 0
+pub not-refused : {B : Limits} (m w c : ℕ) (xs : List ℕ) → LentIn B m w c xs → wordRefusalIn B m w c (length xs) ≡ 0
 not-refused m w c xs L = word-of-good m w c (length xs) (L .good) (L .size)
 
 -- the part from g·w to g·w + w, as it is lent

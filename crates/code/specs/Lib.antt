@@ -1,3 +1,7 @@
+pub mod Refusals
+pub mod Limits
+pub mod RefusalsLaws
+pub mod LimitsLaws
 pub mod Edition
 pub mod Pair
 pub mod PairLaws

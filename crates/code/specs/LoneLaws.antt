@@ -19,9 +19,6 @@ module _ (m w g : ℕ) (part : List ℕ) (l : g < m) (size : length part ≡ w) 
   fits : suc g * w ≤ length (blank (m * w))
   fits = subst (λ n. suc g * w ≤ n) (sym (length-replicate (m * w) 0)) (mul-le-mul-right w l)
 
-  pub lone-length : length (lone m w g part) ≡ m * w
-  lone-length = with-length w g (blank (m * w)) fits part size ∙ length-replicate (m * w) 0
-
   pub lone-inside : (j : ℕ) → j < w → getD (lone m w g part) (g * w + j) 0 ≡ getD part j 0
   lone-inside j h = with-inside w g (blank (m * w)) fits part size j h
 

@@ -23,12 +23,12 @@ abbrev pub contradictory : ℕ → List ℕ → List ℕ → Outcome
 contradictory group word marks = record { number = 9; group = group; word = word; marks = marks }
 
 -- x is written, and the marks are cleared
-abbrev pub written : List ℕ → List ℕ → Outcome
-written x marks = record { number = 0; group = 0; word = x; marks = replicate (length marks) 0 }
+abbrev pub doneWith : List ℕ → List ℕ → Outcome
+doneWith x marks = record { number = 0; group = 0; word = x; marks = replicate (length marks) 0 }
 
 -- what is answered where the loss is not too large: the filling, or 9 with the group
 abbrev pub finished : ℕ → List ℕ → List ℕ → Found → Outcome
-finished group word marks (found x) = written x marks
+finished group word marks (found x) = doneWith x marks
 finished group word marks none = contradictory group word marks
 
 -- with symbols below q: 8 if the loss is too large, 9 with the group if no filling passes the test, else the filling
@@ -47,7 +47,7 @@ module _ (q : ℕ) (test : List ℕ → Bool) (large : Bool) (group : ℕ) (word
   pub data Case : Type 0 where
     eight : large ≡ true → answered q test large group word marks ≡ refused 8 word marks → Case
     nine : large ≡ false → ((y : List ℕ) → Passing q test marks word y → ⊥) → answered q test large group word marks ≡ contradictory group word marks → Case
-    done : large ≡ false → (x : List ℕ) → Passing q test marks word x → answered q test large group word marks ≡ written x marks → Case
+    done : large ≡ false → (x : List ℕ) → Passing q test marks word x → answered q test large group word marks ≡ doneWith x marks → Case
 
   -- the single filling that passes stands in the word, and the marks are clear
   pub record Single : Type 0 where

@@ -9,7 +9,7 @@ use lib.ListN.{length, length-replicate}
 use Rattle.code.specs.Marks.{Agree}
 use Rattle.code.specs.Filling.{Found, found, none, search, Passing}
 use Rattle.code.specs.FillingLaws.{search-found, search-none, search-present}
-use Rattle.code.specs.Outcome.{Outcome, refused, contradictory, written, finished, answered, SameEnd, Case, Single, eight, nine, done}
+use Rattle.code.specs.Outcome.{Outcome, refused, contradictory, doneWith, finished, answered, SameEnd, Case, Single, eight, nine, done}
 
 pub same-outcome : {a b : Outcome} → a ≡ b → SameEnd a b
 same-outcome e = record { number = ap (λ o. o .number) e; group = ap (λ o. o .group) e; word = λ _. ap (λ o. o .word) e; marks = λ _. ap (λ o. o .marks) e }
@@ -135,11 +135,11 @@ module _ (q : ℕ) (test : List ℕ → Bool) (large : Bool) (group : ℕ) (word
 
   -- where at most one filling passes
   module _ (unique : large ≡ false → (y z : List ℕ) → Passing q test marks word y → Passing q test marks word z → y ≡ z) where
-    pub answered-done : large ≡ false → (x : List ℕ) → Passing q test marks word x → answered q test large group word marks ≡ written x marks
+    pub answered-done : large ≡ false → (x : List ℕ) → Passing q test marks word x → answered q test large group word marks ≡ doneWith x marks
     answered-done s x P = elim cases [
       | eight l _ ↦ absurd (let z : _≡_ {A = ℕ} 0 1 = cc in omega arith)
       | nine _ never _ ↦ absurd (never x P)
-      | done _ y Q e ↦ e ∙ ap (λ v. written v marks) (unique s y x Q P)
+      | done _ y Q e ↦ e ∙ ap (λ v. doneWith v marks) (unique s y x Q P)
     ]
 
     pub done-single : (answered q test large group word marks) .number ≡ 0 → Single q test large group word marks

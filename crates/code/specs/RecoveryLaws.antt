@@ -16,7 +16,7 @@ use Rattle.code.specs.DeterminedLaws.{unique, above-two, undetermined}
 use Rattle.code.specs.Filling.{Passing}
 use Rattle.code.specs.FillingLaws.{filling-symbols}
 use Rattle.code.specs.Contradiction.{contradictingGroup}
-use Rattle.code.specs.Outcome.{refused, contradictory, written, SameEnd}
+use Rattle.code.specs.Outcome.{refused, contradictory, doneWith, SameEnd}
 use Rattle.code.specs.OutcomeLaws.{same-outcome, same-refusal, same-contradiction}
 use Rattle.code.specs.Outcome as Outcome
 use Rattle.code.specs.OutcomeLaws as OutcomeLaws
@@ -67,7 +67,7 @@ module _ (E : Edition) (S : Sound E) (m w c : ℕ) (few : m ≤ S .r) (wide : 0 
         (le-ltb 2 (excess m w c marks) h)
         (λ y P. never y (passing-agrees E m w c marks word y s P))
 
-    pub recovered-done : (x : List ℕ) → excess m w c marks ≤ 2 → Agrees E m w c marks word x → recovered E m w c word marks ≡ written x marks
+    pub recovered-done : (x : List ℕ) → excess m w c marks ≤ 2 → Agrees E m w c marks word x → recovered E m w c word marks ≡ doneWith x marks
     unfolding large
     recovered-done x h A =
         OutcomeLaws.answered-done (2 ^ E .bits) (isCodeword E m w c) (ltb 2 (excess m w c marks)) (contradictingGroup E m w c word marks)

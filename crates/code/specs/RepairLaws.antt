@@ -13,7 +13,7 @@ use Rattle.code.specs.WordLaws.{local-zero}
 use Rattle.code.specs.Marks.{lost, lostIn}
 use Rattle.code.specs.DeterminedLaws.{local-unique}
 use Rattle.code.specs.FillingLaws.{filling-symbols}
-use Rattle.code.specs.Outcome.{refused, contradictory, written}
+use Rattle.code.specs.Outcome.{refused, contradictory, doneWith}
 use Rattle.code.specs.Outcome as Outcome
 use Rattle.code.specs.OutcomeLaws as OutcomeLaws
 use Rattle.code.specs.StretchLaws.{own-place}
@@ -45,7 +45,7 @@ module _ (E : Edition) (S : Sound E) (w c : ℕ) (wide : 0 < w) (narrow : w ≤ 
     repaired-nine h never = OutcomeLaws.answered-nine (2 ^ E .bits) (λ x. isLocal E w c x 0) (ltb c (lostIn w marks 0)) g part marks
         (le-ltb c (lostIn w marks 0) h) never
 
-    pub repaired-done : (x : List ℕ) → lostIn w marks 0 ≤ c → Satisfies E w c marks part x → repaired E w c g part marks ≡ written x marks
+    pub repaired-done : (x : List ℕ) → lostIn w marks 0 ≤ c → Satisfies E w c marks part x → repaired E w c g part marks ≡ doneWith x marks
     repaired-done x h P =
         OutcomeLaws.answered-done (2 ^ E .bits) (λ x. isLocal E w c x 0) (ltb c (lostIn w marks 0)) g part marks only-small (le-ltb c (lostIn w marks 0) h) x P
 

@@ -4,3 +4,6 @@ pub mod First
 pub mod FirstLaws
 pub mod Count
 pub mod CountLaws
+pub mod Sets
+pub mod SetsLaws
+pub mod AscendingLaws

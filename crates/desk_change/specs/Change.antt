@@ -3,10 +3,10 @@ use mathlib.Core.Path.{_≡_}
 use Prim.Native.Nat.{ℕ, zero, suc}
 use lib.Dec.{leb, ltb}
 use lib.ListN.{set}
-use Rattle.shape.specs.declared.Answer.{Answer}
-use Rattle.shape.specs.Answers.{answerAt, answerNumber}
-use Rattle.shape.specs.Refusals.{refuse, _orElse_}
-use Rattle.shape.specs.Shapes.{placeCount}
+use Rattle.answers.specs.declared.Answer.{Answer}
+use Rattle.answers.specs.Answers.{answerAt, answerNumber}
+use Rattle.code.specs.Refusals.{refuse, _orElse_}
+use Rattle.code.specs.Limits.{placeCount}
 use Rattle.desk_job.specs.declared.Job.{Job}
 use Rattle.desk_record.specs.declared.Desk.{Desk}
 use Rattle.desk_job.specs.Jobs.{withMarks}

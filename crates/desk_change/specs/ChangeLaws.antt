@@ -11,19 +11,20 @@ use lib.Dec.{leb, ltb}
 use lib.ListN.{length, getD, set, length-set}
 use lib.Seq.{getD-take, getD-set-same, getD-set-other, set-getD, set-set, set-out, take-set-lt}
 use Rattle.counting.specs.Count.{one}
-use Rattle.shape.specs.declared.Answer.{Answer}
-use Rattle.shape.specs.AnswersLaws.{answer-refused}
-use Rattle.shape.specs.Refusals.{refuse, _orElse_}
-use Rattle.shape.specs.RefusalsLaws.{refuse-zero, orElse-zero}
+use Rattle.answers.specs.declared.Answer.{Answer}
+use Rattle.answers.specs.AnswersLaws.{answer-refused}
+use Rattle.code.specs.Refusals.{refuse, _orElse_}
+use Rattle.code.specs.RefusalsLaws.{refuse-zero, orElse-zero}
+use Rattle.shape.specs.Shapes.{byteLimits}
 use Rattle.code.specs.Marks.{lostIn, excess}
 use Rattle.code.specs.DeterminedLaws.{list-at}
-use Rattle.marks.specs.Refusal.{Marked}
-use Rattle.marks.specs.CountsLaws.{lost-most}
+use Rattle.code_engine.specs.GroupsLaws.{lost-most}
+use Rattle.code_services.specs.Marks.{MarkedIn}
 use Rattle.desk_job.specs.declared.Job.{Job}
 use Rattle.desk_record.specs.declared.Desk.{Desk}
 use Rattle.desk_job.specs.Figures.{lostCount, lostCounts}
 use Rattle.desk_job.specs.FiguresLaws.{count-group}
-use Rattle.desk_job.specs.Jobs.{marksOf, withMarks, isSoundJob}
+use Rattle.desk_job.specs.Jobs.{jobMarks, withMarks, isSoundJob}
 use Rattle.desk_job.specs.JobLaws.{good-iff, figures-iff, sound-job-iff}
 use Rattle.desk_record.specs.Desks.{jobAt, withJob, slotOf}
 use Rattle.desk_record.specs.Refusal.{handleRefusal}
@@ -68,16 +69,16 @@ module _ (job : Job) (s : isSoundJob job ≡ true) (p : ℕ) (l : p < job .m * j
   abbrev count : ℕ
   count = getD (job .lost) (p / job .w) 0
 
-  marked : Marked (job .m) (job .w) (job .c) (marksOf job)
+  marked : MarkedIn byteLimits (job .m) (job .w) (job .c) (jobMarks job)
   marked = good-iff job .0 (sound-job-iff job .0 s .0) .0
 
   pub few : job .excess ≤ 2
   few = subst (λ x. x ≤ 2) (sym (figures-iff job .0 (sound-job-iff job .0 s .1) .1)) (good-iff job .0 (sound-job-iff job .0 s .0) .1)
 
-  counts-are : job .lost ≡ lostCounts (job .m) (job .w) (marksOf job)
+  counts-are : job .lost ≡ lostCounts (job .m) (job .w) (jobMarks job)
   counts-are = figures-iff job .0 (sound-job-iff job .0 s .1) .0
 
-  excess-is : job .excess ≡ excess (job .m) (job .w) (job .c) (marksOf job)
+  excess-is : job .excess ≡ excess (job .m) (job .w) (job .c) (jobMarks job)
   excess-is = figures-iff job .0 (sound-job-iff job .0 s .1) .1
 
   pub wide : 0 < job .w
@@ -92,31 +93,31 @@ module _ (job : Job) (s : isSoundJob job ≡ true) (p : ℕ) (l : p < job .m * j
   pub place-fits : p < 240
   place-fits = le-trans l (marked .good .fits)
 
-  in-range : p < length (marksOf job)
+  in-range : p < length (jobMarks job)
   in-range = subst (λ n. p < n) (sym (marked .size)) l
 
-  mark-is : getD (marksOf job) p 0 ≡ getD (job .marks) p 0
+  mark-is : getD (jobMarks job) p 0 ≡ getD (job .marks) p 0
   mark-is = getD-take (job .m * job .w) (job .marks) p 0 l
 
   -- a mark is 0 or 1
   pub mark-most : getD (job .marks) p 0 < 2
   mark-most = subst (λ x. x < 2) mark-is (marked .each p)
 
-  count-is : count ≡ lostIn (job .w) (marksOf job) g
-  count-is = ap (λ x. getD x g 0) counts-are ∙ list-at 15 (lostCount (job .m) (job .w) (marksOf job)) g group-fits
-      ∙ count-group (job .m) (job .w) (marksOf job) g group-below
+  count-is : count ≡ lostIn (job .w) (jobMarks job) g
+  count-is = ap (λ x. getD x g 0) counts-are ∙ list-at 15 (lostCount (job .m) (job .w) (jobMarks job)) g group-fits
+      ∙ count-group (job .m) (job .w) (jobMarks job) g group-below
 
   pub count-most : getD (job .lost) (p / job .w) 0 ≤ 16
-  count-most = subst (λ x. x ≤ 16) (sym count-is) (le-trans (lost-most (job .w) (marksOf job) g) (marked .good .narrow))
+  count-most = subst (λ x. x ≤ 16) (sym count-is) (le-trans (lost-most (job .w) (jobMarks job) g) (marked .good .narrow))
 
   -- the figures of the marks with that one set
-  figures-set : (v x : ℕ) → lostIn (job .w) (set (marksOf job) p v) g ≡ x → (y : ℕ) → excess (job .m) (job .w) (job .c) (set (marksOf job) p v) ≡ y
+  figures-set : (v x : ℕ) → lostIn (job .w) (set (jobMarks job) p v) g ≡ x → (y : ℕ) → excess (job .m) (job .w) (job .c) (set (jobMarks job) p v) ≡ y
       → changed v p job ≡ figured job (set (job .marks) p v) (set (job .lost) g x) y
   figures-set v x e y f =
       ap (λ z. figured job (set (job .marks) p v) (lostCounts (job .m) (job .w) z) (excess (job .m) (job .w) (job .c) z))
       (take-set-lt (job .m * job .w) (job .marks) p v l)
       ∙ ap₂ (figured job (set (job .marks) p v))
-      (sym (ap (λ z. set z g x) counts-are ∙ counts-set (job .w) wide (marksOf job) p (job .m) v x (marked .good .few) group-below e)) f
+      (sym (ap (λ z. set z g x) counts-are ∙ counts-set (job .w) wide (jobMarks job) p (job .m) v x (marked .good .few) group-below e)) f
 
   module _ (present : getD (job .marks) p 0 ≡ 0) where
     -- a place lost: one more in its group, and the excess one more if that is above c
@@ -124,30 +125,30 @@ module _ (job : Job) (s : isSoundJob job ≡ true) (p : ℕ) (l : p < job .m * j
         ≡ figured job (set (job .marks) p 1) (set (job .lost) (p / job .w) (getD (job .lost) (p / job .w) 0 + 1))
         (job .excess + one (ltb (job .c) (getD (job .lost) (p / job .w) 0 + 1)))
     lost-job =
-        let r = count-raised (job .w) wide (marksOf job) p in-range (mark-is ∙ present) in
-        let q : suc (lostIn (job .w) (marksOf job) g) ≡ count + 1 = (let k = count-is in omega arith) in
+        let r = count-raised (job .w) wide (jobMarks job) p in-range (mark-is ∙ present) in
+        let q : suc (lostIn (job .w) (jobMarks job) g) ≡ count + 1 = (let k = count-is in omega arith) in
         figures-set 1 (count + 1) (r ∙ q) (job .excess + one (ltb (job .c) (count + 1)))
-        (excess-raised (job .w) wide (marksOf job) p in-range (mark-is ∙ present) (job .m) (job .c) group-below
+        (excess-raised (job .w) wide (jobMarks job) p in-range (mark-is ∙ present) (job .m) (job .c) group-below
         ∙ ap₂ (λ a b. a + one (ltb (job .c) b)) (sym excess-is) q)
 
   module _ (gone : getD (job .marks) p 0 ≡ 1) where
     -- the marks with the place found, and lost again
     found : List ℕ
-    found = set (marksOf job) p 0
+    found = set (jobMarks job) p 0
 
-    again : set found p 1 ≡ marksOf job
+    again : set found p 1 ≡ jobMarks job
     unfolding found
-    again = set-set (marksOf job) p 0 1 ∙ ap (set (marksOf job) p) (sym (mark-is ∙ gone)) ∙ set-getD (marksOf job) p 0
+    again = set-set (jobMarks job) p 0 1 ∙ ap (set (jobMarks job) p) (sym (mark-is ∙ gone)) ∙ set-getD (jobMarks job) p 0
 
     found-range : p < length found
     unfolding found
-    found-range = subst (λ n. p < n) (sym (length-set (marksOf job) p 0)) in-range
+    found-range = subst (λ n. p < n) (sym (length-set (jobMarks job) p 0)) in-range
 
     found-present : getD found p 0 ≡ 0
     unfolding found
-    found-present = getD-set-same (marksOf job) p 0 0 in-range
+    found-present = getD-set-same (jobMarks job) p 0 0 in-range
 
-    count-again : lostIn (job .w) (marksOf job) g ≡ suc (lostIn (job .w) found g)
+    count-again : lostIn (job .w) (jobMarks job) g ≡ suc (lostIn (job .w) found g)
     count-again = ap (λ x. lostIn (job .w) x g) (sym again) ∙ count-raised (job .w) wide found p found-range found-present
 
     excess-again : job .excess ≡ excess (job .m) (job .w) (job .c) found + one (ltb (job .c) count)
@@ -207,7 +208,7 @@ place-parts mark place job e =
     (leb-false (job .m * job .w) place (refuse-zero 24 _ (z .0)), ltb-false 2 (changed mark place job .excess) (refuse-zero 7 _ (z .1)))
 
 -- the n marks then
-pub changed-marks : (mark place : ℕ) (job : Job) → place < job .m * job .w → marksOf (changed mark place job) ≡ set (marksOf job) place mark
+pub changed-marks : (mark place : ℕ) (job : Job) → place < job .m * job .w → jobMarks (changed mark place job) ≡ set (jobMarks job) place mark
 changed-marks mark place job l = take-set-lt (job .m * job .w) (job .marks) place mark l
 
 -- the job that it leaves is sound again
@@ -221,8 +222,8 @@ changed-sound mark place job b s e =
       good-iff (changed mark place job) .1 (
         record {
           good = M .good;
-          size = ap length q ∙ length-set (marksOf job) place mark ∙ M .size;
-          each = λ p. subst (λ x. getD x p 0 < 2) (sym q) (set-each (marksOf job) place mark b (M .each) p);
+          size = ap length q ∙ length-set (jobMarks job) place mark ∙ M .size;
+          each = λ p. subst (λ x. getD x p 0 < 2) (sym q) (set-each (jobMarks job) place mark b (M .each) p);
         },
         P .1,
       ),

@@ -1,7 +1,7 @@
 // The services Lose and Find, by value: a place of an open job is lost, or found again.
+use answers::Answer;
 use desk_job::Job;
 use desk_record::Desk;
-use shape::Answer;
 ghost use mathlib.Core.Path.{_≡_};
 ghost use mathlib.Core.Bool.{true};
 ghost use Prim.Native.Nat.{_*_, _<_};

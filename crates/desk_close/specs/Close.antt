@@ -2,8 +2,8 @@
 use mathlib.Core.Path.{_≡_}
 use Prim.Native.Nat.{ℕ, zero, suc}
 use Rattle.desk_record.specs.declared.Desk.{Desk}
-use Rattle.shape.specs.declared.Answer.{Answer}
-use Rattle.shape.specs.Answers.{answerAt, answerNumber}
+use Rattle.answers.specs.declared.Answer.{Answer}
+use Rattle.answers.specs.Answers.{answerAt, answerNumber}
 use Rattle.desk_job.specs.Jobs.{emptyJob}
 use Rattle.desk_record.specs.Desks.{withJob, slotOf}
 use Rattle.desk_record.specs.Refusal.{handleRefusal}

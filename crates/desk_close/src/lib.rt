@@ -1,6 +1,6 @@
 // The services Read and Close, by value.
+use answers::Answer;
 use desk_record::Desk;
-use shape::Answer;
 ghost use Rattle.desk_close.specs.Read.{readOf, ReadGives};
 ghost use Rattle.desk_close.specs.Close.{closeOf, CloseGives};
 

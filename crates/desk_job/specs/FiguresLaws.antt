@@ -12,12 +12,13 @@ use lib.ListN.{length, getD, take, drop, set, replicate, length-set, getD-replic
 use lib.Seq.{ext-getD, getD-set-same, getD-set-other}
 use Rattle.counting.specs.Test.{allBelow}
 use Rattle.counting.specs.TestLaws.{all-at}
+use Rattle.shape.specs.Shapes.{byteLimits}
 use Rattle.code.specs.Marks.{lostIn}
 use Rattle.code.specs.Determined.{listOf}
 use Rattle.code.specs.DeterminedLaws.{list-length, list-at}
 use Rattle.code.specs.StretchLaws.{stretch-count}
-use Rattle.code.specs.Lent.{Lent}
 use Rattle.code.specs.LentLaws.{part-stretch, part-length}
+use Rattle.code.specs.Lent.{LentIn}
 use Rattle.desk_job.specs.Figures.{lostCount, lostCounts}
 
 module _ (m w : ℕ) (marks : List ℕ) (g : ℕ) where
@@ -50,7 +51,8 @@ counts-none w marks =
     getD-replicate 15 k 0 0 q ∙ sym (list-at 15 (lostCount 0 w marks) k q ∙ count-past 0 w marks k (omega arith))
 
 -- one turn of the counts: the part that is lent is the group's stretch
-pub counts-turn : {m w c : ℕ} {marks : List ℕ} (L : Lent m w c marks) (g : ℕ) → g < m → {part : List ℕ} → part ≡ take (g * w + w - g * w) (drop (g * w) marks)
+pub counts-turn : {m w c : ℕ} {marks : List ℕ} (L : LentIn byteLimits m w c marks) (g : ℕ) → g < m → {part : List ℕ}
+    → part ≡ take (g * w + w - g * w) (drop (g * w) marks)
     → set (lostCounts g w marks) g (lostIn (length part) part 0) ≡ lostCounts (g + 1) w marks
 counts-turn {m} {w} {c} {marks} L g l {part} is =
     let few = L .good .few in

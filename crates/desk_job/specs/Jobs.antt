@@ -5,9 +5,10 @@ use Prim.Native.Nat.{ℕ}
 use lib.Dec.{eqb}
 use lib.ListN.{length, getD, take, replicate}
 use Rattle.counting.specs.Test.{allBelow}
-use Rattle.shape.specs.Shapes.{placeCount}
+use Rattle.shape.specs.Shapes.{byteLimits}
 use Rattle.code.specs.Marks.{excess}
-use Rattle.judge.specs.Judgement.{judgedNumberOf}
+use Rattle.code.specs.Limits.{placeCount}
+use Rattle.code_services.specs.Judge.{judgedNumberIn}
 use Rattle.desk_job.specs.declared.Job.{Job}
 use Rattle.desk_job.specs.Figures.{lostCount, lossFigures}
 
@@ -28,12 +29,12 @@ abbrev pub isTaken : Job → Bool
 isTaken job = eqb (job .taken) 1
 
 -- a job's n marks; what stands past them doesn't matter
-abbrev pub marksOf : Job → List ℕ
-marksOf job = take (placeCount (job .m) (job .w)) (job .marks)
+abbrev pub jobMarks : Job → List ℕ
+jobMarks job = take (placeCount (job .m) (job .w)) (job .marks)
 
 -- "a good shape, its n marks of 0 or 1 with excess at most 2": what Judge answers 0
 unfoldable pub isGood : Job → Bool
-isGood job = eqb (judgedNumberOf (job .m) (job .w) (job .c) (marksOf job)) 0
+isGood job = eqb (judgedNumberIn byteLimits (job .m) (job .w) (job .c) (jobMarks job)) 0
 
 -- the job with other marks, its figures worked from the first n of them; every other field stays
 abbrev pub withMarks : Job → List ℕ → Job
@@ -53,8 +54,8 @@ withMarks job marks = record {
 unfoldable pub hasFigures : Job → Bool
 hasFigures job =
     eqb (length (job .lost)) 15
-    && allBelow 15 (λ g. eqb (getD (job .lost) g 0) (lostCount (job .m) (job .w) (marksOf job) g))
-    && eqb (job .excess) (excess (job .m) (job .w) (job .c) (marksOf job))
+    && allBelow 15 (λ g. eqb (getD (job .lost) g 0) (lostCount (job .m) (job .w) (jobMarks job) g))
+    && eqb (job .excess) (excess (job .m) (job .w) (job .c) (jobMarks job))
 
 -- a good job whose figures are those worked from its marks
 unfoldable pub isSoundJob : Job → Bool

@@ -1,5 +1,5 @@
 // A job of a desk, its figures worked from its marks, and whether it is sound.
-use judge::Judged;
+use answers::Judged;
 use shape::Shape;
 ghost use mathlib.Core.Path.{_≡_};
 ghost use mathlib.Core.Bool.{true};
@@ -7,8 +7,9 @@ ghost use Prim.Native.Nat.{_*_};
 ghost use lib.Dec.{eqb};
 ghost use lib.ListN.{length, getD, replicate};
 ghost use Rattle.counting.specs.Test.{allBelow};
-ghost use Rattle.shape.specs.Shapes.{Good};
-ghost use Rattle.judge.specs.Judgement.{judgedNumberOf};
+ghost use Rattle.shape.specs.Shapes.{byteLimits};
+ghost use Rattle.code.specs.Limits.{GoodIn};
+ghost use Rattle.code_services.specs.Judge.{judgedNumberIn};
 ghost use Rattle.desk_job.specs.Figures.{lossFigures};
 ghost use Rattle.desk_job.specs.Jobs.{emptyJob, isGood, hasFigures, isSoundJob};
 
@@ -52,7 +53,7 @@ pub fn empty() -> Job
 
 // The number that Judge gives.
 pub fn judged(m: usize, w: usize, c: usize, marks: &[u8]) -> u8
-    ensures { λ r. ⌜ r ≡ judgedNumberOf m w c (now (marks .entry)) ⌝ }
+    ensures { λ r. ⌜ r ≡ judgedNumberIn byteLimits m w c (now (marks .entry)) ⌝ }
 {
     match judge::judge(m, w, c, marks) {
         Judged::Determined => 0,
@@ -77,8 +78,8 @@ pub fn is_good(job: Job) -> bool
 
 // The figures of the marks of a good shape. A shape that is not good, or marks of another length, have none.
 pub fn figures_of(m: usize, w: usize, c: usize, marks: &[u8]) -> Figures
-    ensures { λ r. ⌜ (Good m w c → length (now (marks .entry)) ≡ m * w → r ≡ lossFigures m w c (now (marks .entry))) ⌝ }
-    ensures { λ r. ⌜ ((Good m w c → length (now (marks .entry)) ≡ m * w → ⊥) → r ≡ record { lost = replicate 15 0; excess = 0 }) ⌝ }
+    ensures { λ r. ⌜ (GoodIn byteLimits m w c → length (now (marks .entry)) ≡ m * w → r ≡ lossFigures m w c (now (marks .entry))) ⌝ }
+    ensures { λ r. ⌜ ((GoodIn byteLimits m w c → length (now (marks .entry)) ≡ m * w → ⊥) → r ≡ record { lost = replicate 15 0; excess = 0 }) ⌝ }
 {
     let mut lost = [0u8; 15];
     let mut excess: usize = 0;

@@ -5,8 +5,9 @@ use mathlib.Core.List.{List, [], _∷_, _++_}
 use Prim.Native.Nat.{ℕ, zero, suc, _+_, _-_, _*_}
 use lib.Dec.{eqb}
 use lib.ListN.{length, set, replicate}
-use Rattle.shape.specs.Refusals.{refuse, _orElse_}
-use Rattle.judge.specs.Judgement.{judgedNumberOf}
+use Rattle.code.specs.Refusals.{refuse, _orElse_}
+use Rattle.shape.specs.Shapes.{byteLimits}
+use Rattle.code_services.specs.Judge.{judgedNumberIn}
 use Rattle.desk_job.specs.declared.Job.{Job}
 use Rattle.desk_record.specs.declared.Desk.{Desk}
 use Rattle.desk_open.specs.declared.Opened.{Opened}
@@ -26,7 +27,7 @@ freeSlot desk = freeFrom (desk .jobs) 0
 unfoldable pub openNumber : ℕ → ℕ → ℕ → List ℕ → Desk → ℕ
 openNumber m w c marks desk =
     soundRefusal desk
-    orElse judgedNumberOf m w c marks
+    orElse judgedNumberIn byteLimits m w c marks
     orElse refuse 10 (eqb (desk .t) 65535)
     orElse refuse 11 (eqb (freeSlot desk) 8)
 

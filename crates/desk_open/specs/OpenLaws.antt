@@ -8,8 +8,10 @@ use native.Mathlib.Omega.{arith}
 use borrow.Author.Tests.{eqb-false, not-false}
 use lib.ListN.{length, getD, take, set, replicate}
 use lib.Seq.{length-take-le, set-at, take-suc, take-at}
-use Rattle.shape.specs.RefusalsLaws.{refuse-zero, orElse-zero}
-use Rattle.judge.specs.Judgement.{judgedNumberOf}
+use Rattle.code.specs.RefusalsLaws.{refuse-zero, orElse-zero}
+use Rattle.shape.specs.Shapes.{byteLimits}
+use Rattle.desk_record.specs.Desks.{SoundRecord}
+use Rattle.code_services.specs.Judge.{judgedNumberIn}
 use Rattle.desk_job.specs.declared.Job.{Job}
 use Rattle.desk_record.specs.declared.Desk.{Desk}
 use Rattle.desk_open.specs.declared.Opened.{Opened}
@@ -17,7 +19,7 @@ use Rattle.desk_job.specs.declared.Figures.{Figures}
 use Rattle.desk_job.specs.Figures.{lossFigures}
 use Rattle.desk_job.specs.Jobs.{isTaken}
 use Rattle.desk_open.specs.Open.{freeFrom, freeSlot, openNumber, openBy, openedAt, newJob}
-use Rattle.desk_record.specs.Laws.{Sound, sound-parts}
+use Rattle.desk_record.specs.Laws.{sound-parts}
 
 -- "On every refusal all lent buffers and the desk stay as they were."
 pub open-refused : (r : ℕ) → (r ≡ 0 → ⊥) → (m w c : ℕ) (marks : List ℕ) (desk : Desk)
@@ -41,8 +43,8 @@ free-most (job ∷ jobs) i = let h = free-most jobs (i + 1) in go (isTaken job) 
 
 -- what an accepted Open knows
 pub record Openable (m w c : ℕ) (marks : List ℕ) (desk : Desk) : Type 0 where
-  pub sound : Sound desk
-  pub judged : judgedNumberOf m w c marks ≡ 0
+  pub sound : SoundRecord desk
+  pub judged : judgedNumberIn byteLimits m w c marks ≡ 0
   pub early : desk .t < 65535
   pub room : freeSlot desk < 8
 

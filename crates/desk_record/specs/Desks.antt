@@ -1,8 +1,9 @@
 -- The desk: a table of eight open recovery jobs. A handle is the session's key: the issue number u and the slot s, as 8u+s.
-use mathlib.Core.Bool.{Bool, not, _&&_, _||_}
-use Prim.Native.Nat.{ℕ, _/_, _%_}
+use mathlib.Core.Bool.{Bool, not, _&&_, _||_, true, false}
+use Prim.Native.Nat.{ℕ, _/_, _%_, _<_, _≤_}
 use lib.Dec.{eqb, leb}
 use lib.ListN.{getD, set, replicate}
+use mathlib.Core.Path.{_≡_}
 use Rattle.counting.specs.Test.{allBelow, anyBelow}
 use Rattle.desk_job.specs.declared.Job.{Job}
 use Rattle.desk_record.specs.declared.Desk.{Desk}
@@ -56,3 +57,9 @@ isSound desk =
 unfoldable pub isOpen : Desk → ℕ → Bool
 isOpen desk handle =
     isIssued (desk .t) (issueOf handle) && isTaken (jobAt desk (slotOf handle)) && eqb (jobAt desk (slotOf handle) .handle) handle
+
+-- the parts of soundness
+pub record SoundRecord (desk : Desk) : Type 0 where
+  pub few : desk .t ≤ 65535
+  pub slots : (s : ℕ) → s < 8 → isSoundSlot (desk .t) s (jobAt desk s) ≡ true
+  pub once : (s : ℕ) → s < 8 → isTwice desk s ≡ false

@@ -1,7 +1,7 @@
 -- Laws of the tests on a desk.
 use mathlib.Core.Path.{_≡_, refl, sym, ap, subst}
 use mathlib.Core.Bool.{Bool, true, false, not, _&&_, _||_, and-eq-true-iff}
-use Prim.Native.Nat.{ℕ, _+_, _<_, _≤_}
+use Prim.Native.Nat.{ℕ, _+_, _<_}
 use native.Mathlib.Numerals.{add-one}
 use native.Mathlib.Omega.{arith}
 use borrow.Author.Tests.{not-true, eqb-true, leb-true, le-leb}
@@ -13,7 +13,7 @@ use Rattle.desk_job.specs.declared.Job.{Job}
 use Rattle.desk_record.specs.declared.Desk.{Desk}
 use Rattle.desk_job.specs.Jobs.{isFree, isTaken, isGood, hasFigures, isSoundJob}
 use Rattle.desk_job.specs.JobLaws.{sound-job-iff}
-use Rattle.desk_record.specs.Desks.{issueOf, slotOf, isIssued, jobAt, isSoundSlot, isTwice, isSound, isOpen}
+use Rattle.desk_record.specs.Desks.{issueOf, slotOf, isIssued, jobAt, isSoundSlot, isTwice, isSound, isOpen, SoundRecord}
 
 pub holds : {b : Bool} → b ≡ true → T b
 holds e = subst T (sym e) tt
@@ -29,14 +29,8 @@ any-true n f i l e = is-true _ (any-intro n f i l (holds e))
 pub any-turn : (n : ℕ) (f : ℕ → Bool) → anyBelow n f ≡ false → f n ≡ false → anyBelow (n + 1) f ≡ false
 any-turn n f h e = rw (add-one, e, h)
 
--- the parts of soundness
-pub record Sound (desk : Desk) : Type 0 where
-  pub few : desk .t ≤ 65535
-  pub slots : (s : ℕ) → s < 8 → isSoundSlot (desk .t) s (jobAt desk s) ≡ true
-  pub once : (s : ℕ) → s < 8 → isTwice desk s ≡ false
-
 module _ (desk : Desk) where
-  pub sound-parts : isSound desk ≡ true → Sound desk
+  pub sound-parts : isSound desk ≡ true → SoundRecord desk
   unfolding isSound
   sound-parts e =
       let p = and-eq-true-iff _ _ .0 e in
@@ -47,7 +41,7 @@ module _ (desk : Desk) where
         once = λ s l. not-true _ (is-true _ (all-at 8 (λ s. not (isTwice desk s)) (holds (p .1)) s l));
       }
 
-  pub sound-of : Sound desk → isSound desk ≡ true
+  pub sound-of : SoundRecord desk → isSound desk ≡ true
   unfolding isSound
   sound-of S =
       and-eq-true-iff _ _ .1 (
@@ -56,7 +50,7 @@ module _ (desk : Desk) where
         is-true _ (all-intro 8 (λ s. not (isTwice desk s)) (λ s l. holds (ap not (S .once s l)))),
       )
 
-  pub unsound : (Sound desk → ⊥) → isSound desk ≡ false
+  pub unsound : (SoundRecord desk → ⊥) → isSound desk ≡ false
   unsound h = false-of (isSound desk) (λ e. h (sound-parts e))
 
 -- a taken slot of a sound desk

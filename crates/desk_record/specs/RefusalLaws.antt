@@ -4,7 +4,7 @@ use mathlib.Core.Bool.{true}
 use Prim.Native.Nat.{ℕ}
 use native.Mathlib.Omega.{arith}
 use borrow.Author.Tests.{not-false}
-use Rattle.shape.specs.RefusalsLaws.{refuse-zero, orElse-zero}
+use Rattle.code.specs.RefusalsLaws.{refuse-zero, orElse-zero}
 use Rattle.desk_record.specs.declared.Desk.{Desk}
 use Rattle.desk_record.specs.Desks.{jobAt, slotOf, isOpen}
 use Rattle.desk_job.specs.Jobs.{isGood}

@@ -1,5 +1,6 @@
 // A desk in use: handles that are open, closed or never issued, a full desk, the ends of its counts, losses that change while a job is open, and
 // records that are not sound.
+use desk_job::Job;
 use desk_record::Desk;
 use libc::STDOUT_FILENO;
 
@@ -27,25 +28,25 @@ fn open(d: Desk) -> Desk {
     after.desk
 }
 
-fn done(answer: shape::Answer) {
+fn done(answer: answers::Answer) {
     match answer {
-        shape::Answer::Done => {
+        answers::Answer::Done => {
             io::write_all(STDOUT_FILENO, b"done\n");
         }
-        shape::Answer::Refused(r) => refused(r),
+        answers::Answer::Refused(r) => refused(r),
     }
 }
 
-fn mended(answer: shape::Mending) {
+fn mended(answer: answers::Mending) {
     match answer {
-        shape::Mending::Done => {
+        answers::Mending::Done => {
             io::write_all(STDOUT_FILENO, b"done\n");
         }
-        shape::Mending::Contradictory(group) => {
+        answers::Mending::Contradictory(group) => {
             io::write_all(STDOUT_FILENO, b"refused 9 ");
             number(group as u64, b"\n");
         }
-        shape::Mending::Refused(r) => refused(r),
+        answers::Mending::Refused(r) => refused(r),
     }
 }
 
@@ -194,7 +195,7 @@ fn refused_loss() {
 // Reads on a desk with these figures in its first job.
 fn with_figures(count: u8, past: u8, excess: u8) {
     let d = open(desk_record::fresh());
-    let mut job = d.jobs[0];
+    let mut job: Job = d.jobs[0];
     job.lost[0] = count;
     job.lost[14] = past;
     job.excess = excess;
@@ -210,7 +211,7 @@ fn figures() {
     with_figures(3, 1, 2);
     with_figures(3, 0, 1);
     let d = open(desk_record::fresh());
-    let mut free = d.jobs[7];
+    let mut free: Job = d.jobs[7];
     free.lost[3] = 1;
     free.excess = 9;
     let mut row = d.jobs;

@@ -5,28 +5,29 @@ use mathlib.Core.List.{List}
 use Prim.Native.Nat.{ℕ, zero, suc, _+_}
 use lib.Dec.{eqb}
 use lib.ListN.{length}
-use Rattle.shape.specs.Refusals.{refuse, _orElse_}
-use Rattle.shape.specs.Shapes.{placeCount}
+use Rattle.code.specs.Refusals.{refuse, _orElse_}
 use Rattle.code.specs.Outcome.{Outcome}
-use Rattle.recover.specs.Recover.{recoverOf}
+use Rattle.code.specs.Limits.{placeCount}
+use Rattle.byte_edition.specs.Edition.{byteEdition}
+use Rattle.code_services.specs.Recover.{recoverIn}
 use Rattle.desk_job.specs.declared.Job.{Job}
 use Rattle.desk_record.specs.declared.Desk.{Desk}
-use Rattle.shape.specs.declared.Mending.{Mending}
-use Rattle.shape.specs.Answers.{mendingAt, mendingNumber, mendingGroup}
+use Rattle.answers.specs.declared.Mending.{Mending}
+use Rattle.answers.specs.Answers.{mendingAt, mendingNumber, mendingGroup}
 use Rattle.desk_record.specs.Desks.{jobAt, withJob, slotOf}
-use Rattle.desk_job.specs.Jobs.{marksOf}
+use Rattle.desk_job.specs.Jobs.{jobMarks}
 use Rattle.desk_record.specs.Refusal.{handleRefusal}
 
 -- the recovery of a word "by the job's marks"
-abbrev pub recoveryOf : Job → List ℕ → Outcome
-recoveryOf job word = recoverOf (job .m) (job .w) (job .c) word (marksOf job)
+abbrev pub jobRecovery : Job → List ℕ → Outcome
+jobRecovery job word = recoverIn byteEdition (job .m) (job .w) (job .c) word (jobMarks job)
 
 -- of a job, after 31 and 12: 5 "a lent length is not [..] n"; 13 "served count is at its end"; 9 "contradictory"
 unfoldable pub jobNumber : Job → List ℕ → ℕ
 jobNumber job word =
     refuse 5 (not (eqb (length word) (placeCount (job .m) (job .w))))
     orElse refuse 13 (eqb (job .served) 4294967295)
-    orElse (recoveryOf job word) .number
+    orElse (jobRecovery job word) .number
 
 -- 31, 12, and then what the job says
 unfoldable pub serveNumber : ℕ → List ℕ → Desk → ℕ
@@ -62,12 +63,12 @@ abbrev pub serveBy : ℕ → ℕ → List ℕ → Desk → Serving
 serveBy zero handle word desk = record {
   number = 0;
   group = 0;
-  word = (recoveryOf (jobAt desk (slotOf handle)) word) .word;
+  word = (jobRecovery (jobAt desk (slotOf handle)) word) .word;
   desk = withJob desk (slotOf handle) (servedOnce (jobAt desk (slotOf handle)));
 }
 serveBy (suc r) handle word desk = record {
   number = suc r;
-  group = groupOfNine (suc r) ((recoveryOf (jobAt desk (slotOf handle)) word) .group);
+  group = groupOfNine (suc r) ((jobRecovery (jobAt desk (slotOf handle)) word) .group);
   word = word;
   desk = desk;
 }

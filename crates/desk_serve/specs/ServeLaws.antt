@@ -7,29 +7,30 @@ use native.Mathlib.Omega.{arith}
 use borrow.Author.Tests.{eq-eqb, ne-eqb, eqb-false}
 use lib.Dec.{eqb, ltb}
 use lib.ListN.{length}
-use Rattle.shape.specs.declared.Mending.{Mending}
-use Rattle.shape.specs.Answers.{mendingAt, mendingNumber, mendingGroup}
-use Rattle.shape.specs.AnswersLaws.{mending-number, mending-refused}
-use Rattle.shape.specs.Refusals.{refuse, _orElse_, unlessRefused}
-use Rattle.shape.specs.RefusalsLaws.{unless-refused, refuse-zero, orElse-zero, orElse-first}
-use Rattle.shape.specs.Shapes.{placeCount}
+use Rattle.answers.specs.declared.Mending.{Mending}
+use Rattle.answers.specs.Answers.{mendingAt, mendingNumber, mendingGroup}
+use Rattle.answers.specs.AnswersLaws.{mending-number, mending-refused}
+use Rattle.code.specs.Refusals.{refuse, _orElse_, unlessRefused}
+use Rattle.code.specs.RefusalsLaws.{unless-refused, refuse-zero, orElse-zero, orElse-first}
+use Rattle.shape.specs.Shapes.{byteLimits}
+use Rattle.code.specs.Limits.{placeCount}
 use Rattle.byte_edition.specs.Edition.{byteEdition}
 use Rattle.code.specs.Word.{isCodeword}
 use Rattle.code.specs.Marks.{excess}
 use Rattle.code.specs.OutcomeLaws.{refused-unchanged}
 use Rattle.code.specs.Contradiction.{contradictingGroup}
 use Rattle.code.specs.Recovery.{recovered}
-use Rattle.recover.specs.Recover.{recoverRefusal, recoverOf, recoverIn, unlessBefore}
+use Rattle.code_services.specs.Recover.{recoverIn, unlessBefore, recoverRefusalIn}
 use Rattle.desk_job.specs.declared.Job.{Job}
 use Rattle.desk_record.specs.declared.Desk.{Desk}
 use Rattle.desk_record.specs.Desks.{jobAt, slotOf, isSound, isOpen}
 use Rattle.desk_record.specs.Refusal.{handleRefusal}
-use Rattle.desk_serve.specs.Serve.{recoveryOf, jobNumber, serveNumber, groupOfNine, serveBy, serveOf, ServeGives}
+use Rattle.desk_serve.specs.Serve.{jobRecovery, jobNumber, serveNumber, groupOfNine, serveBy, serveOf, ServeGives}
 
 -- "On every refusal all lent buffers and the desk stay as they were."
 pub serve-refused : (r : ℕ) → (r ≡ 0 → ⊥) → (handle : ℕ) (word : List ℕ) (desk : Desk)
     → serveBy r handle word desk
-    ≡ record { number = r; group = groupOfNine r ((recoveryOf (jobAt desk (slotOf handle)) word) .group); word = word; desk = desk }
+    ≡ record { number = r; group = groupOfNine r ((jobRecovery (jobAt desk (slotOf handle)) word) .group); word = word; desk = desk }
 serve-refused zero some handle word desk = absurd (some refl)
 serve-refused (suc r) some handle word desk = refl
 
@@ -74,9 +75,10 @@ handle-not-nine handle desk = go (not (isSound desk)) (not (isOpen desk handle))
 -- ---- the recovery of a word
 
 -- on a refusal the word is as it was
-pub recover-unchanged : (m w c : ℕ) (word marks : List ℕ) → ((recoverOf m w c word marks) .number ≡ 0 → ⊥) → (recoverOf m w c word marks) .word ≡ word
+pub recover-unchanged : (m w c : ℕ) (word marks : List ℕ) → ((recoverIn byteEdition m w c word marks) .number ≡ 0 → ⊥)
+    → (recoverIn byteEdition m w c word marks) .word ≡ word
 unfolding recoverIn
-recover-unchanged m w c word marks = go (recoverRefusal m w c word marks)
+recover-unchanged m w c word marks = go (recoverRefusalIn byteLimits m w c word marks)
   where
     go : (r : ℕ) → ((unlessBefore r (recovered byteEdition m w c word marks) word marks) .number ≡ 0 → ⊥)
         → (unlessBefore r (recovered byteEdition m w c word marks) word marks) .word ≡ word
@@ -99,7 +101,7 @@ module _ (job : Job) (word : List ℕ) where
     unfolding jobNumber
     job-end h = simp (eq-eqb (length word) (job .m * job .w) size, eq-eqb (job .served) 4294967295 h)
 
-    pub job-recovery : (job .served ≡ 4294967295 → ⊥) → jobNumber job word ≡ (recoveryOf job word) .number
+    pub job-recovery : (job .served ≡ 4294967295 → ⊥) → jobNumber job word ≡ (jobRecovery job word) .number
     unfolding jobNumber
     job-recovery h = simp (eq-eqb (length word) (job .m * job .w) size, ne-eqb (job .served) 4294967295 h)
 
@@ -107,7 +109,7 @@ module _ (job : Job) (word : List ℕ) where
   pub job-room : jobNumber job word ≡ 0 → job .served ≡ 4294967295 → ⊥
   unfolding jobNumber
   job-room e =
-      let n = (recoveryOf job word) .number in
+      let n = (jobRecovery job word) .number in
       let end = refuse 13 (eqb (job .served) 4294967295) in
       let z = orElse-zero (refuse 5 (not (eqb (length word) (placeCount (job .m) (job .w))))) (end orElse n) e in
       let y = orElse-zero end n (z .1) in
@@ -117,7 +119,7 @@ module _ (job : Job) (word : List ℕ) where
 
 module _ (handle : ℕ) (word : List ℕ) (desk : Desk) where
   group : ℕ
-  group = (recoveryOf (jobAt desk (slotOf handle)) word) .group
+  group = (jobRecovery (jobAt desk (slotOf handle)) word) .group
 
   -- of an answer that is not done
   gives-by : (n : ℕ) → (n ≡ 0 → ⊥) → (word′ : List ℕ) → word′ ≡ word → (a : Mending) → a ≡ mendingAt n group
@@ -146,8 +148,8 @@ module _ (handle : ℕ) (word : List ℕ) (desk : Desk) where
 
   -- 5, 13, or 9 with the group of the recovery
   pub gives-job : handleRefusal handle desk ≡ 0 → (jobNumber (jobAt desk (slotOf handle)) word ≡ 0 → ⊥) → (word′ : List ℕ)
-      → word′ ≡ unlessRefused (jobNumber (jobAt desk (slotOf handle)) word) ((recoveryOf (jobAt desk (slotOf handle)) word) .word) word
-      → (a : Mending) → a ≡ mendingAt (jobNumber (jobAt desk (slotOf handle)) word) ((recoveryOf (jobAt desk (slotOf handle)) word) .group)
+      → word′ ≡ unlessRefused (jobNumber (jobAt desk (slotOf handle)) word) ((jobRecovery (jobAt desk (slotOf handle)) word) .word) word
+      → (a : Mending) → a ≡ mendingAt (jobNumber (jobAt desk (slotOf handle)) word) ((jobRecovery (jobAt desk (slotOf handle)) word) .group)
       → ServeGives (serveOf handle word desk) word′ desk a
   unfolding group
   gives-job e some word′ d a q =

@@ -1,13 +1,13 @@
 // The service Serve, by value.
+use answers::Mending;
 use desk_job::Job;
 use desk_record::Desk;
-use shape::Mending;
 ghost use mathlib.Core.Path.{_≡_};
 ghost use mathlib.Core.Bool.{true};
-ghost use Rattle.shape.specs.Answers.{mendingAt};
-ghost use Rattle.shape.specs.Refusals.{unlessRefused};
+ghost use Rattle.answers.specs.Answers.{mendingAt};
+ghost use Rattle.code.specs.Refusals.{unlessRefused};
 ghost use Rattle.desk_job.specs.Jobs.{isGood};
-ghost use Rattle.desk_serve.specs.Serve.{recoveryOf, jobNumber, servedOnce, serveOf, ServeGives};
+ghost use Rattle.desk_serve.specs.Serve.{jobRecovery, jobNumber, servedOnce, serveOf, ServeGives};
 
 // What Serve answers, and the desk then.
 pub struct AfterServe {
@@ -18,8 +18,8 @@ pub struct AfterServe {
 // What a good job does with a word: refuses it by 5, 13, or 9 with a group, or recovers it.
 fn serve_job(job: Job, word: &mut [u8]) -> Mending
     requires { ⌜ isGood job ≡ true ⌝ }
-    ensures answer { λ r. ⌜ r ≡ mendingAt (jobNumber job (now (word .entry))) ((recoveryOf job (now (word .entry))) .group) ⌝ }
-    ensures word { λ r. ⌜ now (word .exit) ≡ unlessRefused (jobNumber job (now (word .entry))) ((recoveryOf job (now (word .entry))) .word) (now (word .entry)) ⌝ }
+    ensures answer { λ r. ⌜ r ≡ mendingAt (jobNumber job (now (word .entry))) ((jobRecovery job (now (word .entry))) .group) ⌝ }
+    ensures word { λ r. ⌜ now (word .exit) ≡ unlessRefused (jobNumber job (now (word .entry))) ((jobRecovery job (now (word .entry))) .word) (now (word .entry)) ⌝ }
 {
     let m = job.m as usize;
     let w = job.w as usize;

@@ -16,12 +16,13 @@ use Rattle.binary_field.specs.Xor.{_⊕_}
 use Rattle.binary_field.specs.XorLaws.{⊕-bits, ⊕-zero-r, ⊕-zero-l, ⊕-self}
 use Rattle.binary_field.specs.ProductLaws.{product-zero}
 use Rattle.binary_field.specs.SumLaws.{sum-none, sum-suc}
-use Rattle.shape.specs.declared.Mending.{Mending}
-use Rattle.shape.specs.Answers.{mendingAt}
-use Rattle.shape.specs.AnswersLaws.{mending-refused}
-use Rattle.shape.specs.Refusals.{_orElse_, refuse, unlessRefused}
-use Rattle.shape.specs.RefusalsLaws.{orElse-first, orElse-zero, unless-refused}
-use Rattle.shape.specs.Shapes.{Good, Sold, dataCount, saleRefusal, wordRefusal}
+use Rattle.code.specs.Pair.{pairAt}
+use Rattle.answers.specs.declared.Mending.{Mending}
+use Rattle.answers.specs.Answers.{mendingAt}
+use Rattle.answers.specs.AnswersLaws.{mending-refused}
+use Rattle.code.specs.Refusals.{_orElse_, refuse, unlessRefused}
+use Rattle.code.specs.RefusalsLaws.{orElse-first, orElse-zero, unless-refused}
+use Rattle.shape.specs.Shapes.{byteLimits}
 use Rattle.shape.specs.Laws.{sold-of-refusal, sale-numbers, word-most}
 use Rattle.code.specs.Edition.{times, raised}
 use Rattle.code.specs.Contradiction.{contradictingGroup}
@@ -31,46 +32,49 @@ use Rattle.code.specs.CombinedLaws.{combined-at}
 use Rattle.code.specs.Lone.{lone}
 use Rattle.code.specs.LoneLaws.{lone-inside, lone-before}
 use Rattle.code.specs.Marks.{lostIn}
+use Rattle.code.specs.Limits.{dataCount, GoodIn, SoldIn, saleRefusalIn, wordRefusalIn}
 use Rattle.byte_edition.specs.Edition.{byteEdition}
-use Rattle.fill.specs.Filled.{Filled}
 use Rattle.syndrome.specs.declared.Sums.{Sums}
-use Rattle.candidate.specs.Solved.{pairAt}
-use Rattle.candidate.specs.SolvedLaws.{combined-length}
-use Rattle.edit.specs.Edit.{numberRefusal, numberRefusalIn, editRefusal, editRefusalIn, editOf, editIn, editedWord, editedBuffer, editedBufferIn}
+use Rattle.code_engine.specs.Filled.{FilledIn}
+use Rattle.code_engine.specs.SolvedLaws.{combined-length}
+use Rattle.edit.specs.Edit.{numberRefusalIn, editRefusalIn, editIn, editedBufferIn, editedIn}
 use Rattle.edit.specs.Rows.{tailMarks, localMarks, firstFixes, secondFixes, rowStart, fixOf, fixesAt}
 use Rattle.edit.specs.RowsLaws.{fix-length, fix-before, fix-after, marks-long, marks-count, marks-present}
 use Rattle.edit.specs.Steps.{Refilled, AddedRows, correctedOf}
 
 -- ---- refusals, in their order
 module _ (m w c lent number : ℕ) where
-  pub refused-sale : (saleRefusal m w c ≡ 0 → ⊥) → numberRefusal m w c lent number ≡ saleRefusal m w c
+  pub refused-sale : (saleRefusalIn byteLimits m w c ≡ 0 → ⊥) → numberRefusalIn byteLimits m w c lent number ≡ saleRefusalIn byteLimits m w c
   unfolding numberRefusalIn
-  refused-sale n = orElse-first (saleRefusal m w c) _ n
+  refused-sale n = orElse-first (saleRefusalIn byteLimits m w c) _ n
 
-  pub refused-length : saleRefusal m w c ≡ 0 → (wordRefusal m w c lent ≡ 0 → ⊥) → numberRefusal m w c lent number ≡ wordRefusal m w c lent
+  pub refused-length : saleRefusalIn byteLimits m w c ≡ 0 → (wordRefusalIn byteLimits m w c lent ≡ 0 → ⊥)
+      → numberRefusalIn byteLimits m w c lent number ≡ wordRefusalIn byteLimits m w c lent
   unfolding numberRefusalIn
   refused-length e n =
-      ap (λ r. r orElse (wordRefusal m w c lent orElse refuse 30 (leb (dataCount m w c) number))) e ∙ orElse-first (wordRefusal m w c lent) _ n
+      ap (λ r. r orElse (wordRefusalIn byteLimits m w c lent orElse refuse 30 (leb (dataCount m w c) number))) e
+      ∙ orElse-first (wordRefusalIn byteLimits m w c lent) _ n
 
-  pub refused-number : saleRefusal m w c ≡ 0 → wordRefusal m w c lent ≡ 0 → numberRefusal m w c lent number ≡ refuse 30 (leb (dataCount m w c) number)
+  pub refused-number : saleRefusalIn byteLimits m w c ≡ 0 → wordRefusalIn byteLimits m w c lent ≡ 0
+      → numberRefusalIn byteLimits m w c lent number ≡ refuse 30 (leb (dataCount m w c) number)
   unfolding numberRefusalIn
   refused-number e f =
-      ap (λ r. r orElse (wordRefusal m w c lent orElse refuse 30 (leb (dataCount m w c) number))) e
+      ap (λ r. r orElse (wordRefusalIn byteLimits m w c lent orElse refuse 30 (leb (dataCount m w c) number))) e
       ∙ ap (λ r. r orElse refuse 30 (leb (dataCount m w c) number)) f
 
 -- ---- a group refilled
 -- the marks as they are lent
 pub filled : (c j b : ℕ) (before after : List ℕ) → length before ≤ 15 + c
-    → Filled (take (15 + c - (15 + c - length (set before j b))) (drop (15 + c - length (set before j b)) tailMarks)) (set before j b) after
-    → Filled (localMarks (length before) c) (set before j b) after
+    → FilledIn byteEdition (take (15 + c - (15 + c - length (set before j b))) (drop (15 + c - length (set before j b)) tailMarks)) (set before j b) after
+    → FilledIn byteEdition (localMarks (length before) c) (set before j b) after
 filled c j b before after fits F =
     let e = length-set before j b in
     let d : 15 + c - (15 + c - length before) ≡ length before = omega arith in
-    subst (λ n. Filled (take n (drop (15 + c - length before) tailMarks)) (set before j b) after) d
-    (subst (λ n. Filled (take (15 + c - (15 + c - n)) (drop (15 + c - n) tailMarks)) (set before j b) after) e F)
+    subst (λ n. FilledIn byteEdition (take n (drop (15 + c - length before) tailMarks)) (set before j b) after) d
+    (subst (λ n. FilledIn byteEdition (take (15 + c - (15 + c - n)) (drop (15 + c - n) tailMarks)) (set before j b) after) e F)
 
 pub refilled : (w c g j b : ℕ) (before after : List ℕ) (sums : Sums) → 1 ≤ c → c ≤ 3 → c + 2 ≤ w → w ≤ 16 → length before ≡ w
-    → Filled (localMarks w c) (set before j b) after
+    → FilledIn byteEdition (localMarks w c) (set before j b) after
     → sums .first ≡ groupSum byteEdition w before 0 (coefficient byteEdition c) ⊕ groupSum byteEdition (length after) after 0 (coefficient byteEdition c)
     → sums .second ≡ groupSum byteEdition w before 0 (secondCoefficient byteEdition c g) ⊕ groupSum byteEdition (length after) after 0
     (secondCoefficient byteEdition c g)
@@ -93,11 +97,11 @@ refilled w (suc i) g j b before after sums some few wide narrow long F first sec
     }
 
 -- ---- the last group corrected
-pub checks-fit : (m w c : ℕ) → Good m w c → c + 2 ≤ m * w
+pub checks-fit : (m w c : ℕ) → GoodIn byteLimits m w c → c + 2 ≤ m * w
 checks-fit m w c good = let k : 1 * w ≤ m * w = mul-le-mul-right w (good .some) in omega (arith, good .wide)
 
 -- the rows stand at the end of the last group, which is the end of the word
-pub corrected : (m w c first second : ℕ) (word part : List ℕ) → Good m w c → c ≤ 3 → length word ≡ m * w
+pub corrected : (m w c first second : ℕ) (word part : List ℕ) → GoodIn byteLimits m w c → c ≤ 3 → length word ≡ m * w
     → AddedRows first (take (c + 2) (drop (rowStart w c) firstFixes)) (times byteEdition second (raised byteEdition 2 (15 - m)))
     (take (c + 2) (drop (rowStart w c) secondFixes))
     (drop (m * w - (c + 2)) word) part
@@ -193,7 +197,7 @@ corrected m w (suc i) first second word part good few size A =
         ∙ sym (at (a + j) (omega arith))
 
 -- the same of the parts as they are lent
-pub corrected-lent : (m w c first second v : ℕ) (word part : List ℕ) → Good m w c → c ≤ 3 → length word ≡ m * w
+pub corrected-lent : (m w c first second v : ℕ) (word part : List ℕ) → GoodIn byteLimits m w c → c ≤ 3 → length word ≡ m * w
     → v ≡ times byteEdition second (raised byteEdition 2 (15 - m))
     → AddedRows first (take (rowStart w c + (c + 2) - rowStart w c) (drop (rowStart w c) firstFixes)) v
     (take (rowStart w c + (c + 2) - rowStart w c) (drop (rowStart w c) secondFixes))
@@ -223,7 +227,7 @@ within : (a b n d : ℕ) → a + b ≤ n → d ≡ n - a → b ≤ d
 within a b n d l e = omega arith
 
 -- as many numbers of a row as there are places
-pub lent-rows : (m w c : ℕ) (word fixes : List ℕ) → Good m w c → c ≤ 3 → length word ≡ m * w → length fixes ≡ 200
+pub lent-rows : (m w c : ℕ) (word fixes : List ℕ) → GoodIn byteLimits m w c → c ≤ 3 → length word ≡ m * w → length fixes ≡ 200
     → length (take (rowStart w c + (c + 2) - rowStart w c) (drop (rowStart w c) fixes)) ≡ length
     (take (length word - (length word - (c + 2))) (drop (length word - (c + 2)) word))
 lent-rows m w c word fixes good few size long = left ∙ sym right
@@ -246,15 +250,16 @@ lent-rows m w c word fixes good few size long = left ∙ sym right
         ∙ length-take-le (c + 2) (drop (length word - (c + 2)) word) (omega (arith, length-drop (length word - (c + 2)) word))
 
 -- ---- the answer
-module _ (m w c lent number : ℕ) (accepted : numberRefusal m w c lent number ≡ 0) where
-  pub sold-of-number : Sold m w c
+module _ (m w c lent number : ℕ) (accepted : numberRefusalIn byteLimits m w c lent number ≡ 0) where
+  pub sold-of-number : SoldIn byteLimits m w c
   unfolding numberRefusalIn
-  sold-of-number = sold-of-refusal m w c (orElse-zero (saleRefusal m w c) _ accepted .0)
+  sold-of-number = sold-of-refusal m w c (orElse-zero (saleRefusalIn byteLimits m w c) _ accepted .0)
 
 -- none of these refusals is 9
-pub not-nine : (m w c lent number : ℕ) → numberRefusal m w c lent number ≡ 9 → ⊥
+pub not-nine : (m w c lent number : ℕ) → numberRefusalIn byteLimits m w c lent number ≡ 9 → ⊥
 unfolding numberRefusalIn
-not-nine m w c lent number = go (saleRefusal m w c) (wordRefusal m w c lent) (leb (dataCount m w c) number) (sale-numbers m w c) (word-most m w c lent)
+not-nine m w c lent number = go (saleRefusalIn byteLimits m w c) (wordRefusalIn byteLimits m w c lent) (leb (dataCount m w c) number) (sale-numbers m w c)
+    (word-most m w c lent)
   where
     go : (r t : ℕ) (b : Bool) → (r ≤ 4) ⊎ (r ≡ 29) → t ≤ 5 → (r orElse (t orElse refuse 30 b)) ≡ 9 → ⊥
     go zero zero true n l e = let k : _≡_ {A = ℕ} 30 9 = e in omega arith
@@ -268,36 +273,41 @@ module _ (m w c : ℕ) (word : List ℕ) (number b : ℕ) where
   group : ℕ
   group = contradictingGroup byteEdition m w c word (replicate (length word) 0)
 
-  by-number : (r : ℕ) → r ≡ editRefusal m w c word number
-      → (mendingAt r group ≡ editOf m w c word number) × (unlessRefused r (editedWord m w c word number b) word ≡ editedBuffer m w c word number b)
+  by-number : (r : ℕ) → r ≡ editRefusalIn byteEdition m w c word number
+      → (mendingAt r group ≡ editIn byteEdition m w c word number)
+      × (unlessRefused r (editedIn byteEdition m w c word number b) word ≡ editedBufferIn byteEdition m w c word number b)
   unfolding editIn editedBufferIn group
   by-number r e =
-      (ap (λ n. mendingAt n group) e, ap (λ n. unlessRefused n (editedWord m w c word number b) word) e)
+      (ap (λ n. mendingAt n group) e, ap (λ n. unlessRefused n (editedIn byteEdition m w c word number b) word) e)
 
-  pub edit-refused : (r : ℕ) → r ≡ numberRefusal m w c (length word) number → (r ≡ 0 → ⊥)
-      → (Mending.Refused r ≡ editOf m w c word number) × ((r ≡ editRefusal m w c word number) × (word ≡ editedBuffer m w c word number b))
+  pub edit-refused : (r : ℕ) → r ≡ numberRefusalIn byteLimits m w c (length word) number → (r ≡ 0 → ⊥)
+      → (Mending.Refused r ≡ editIn byteEdition m w c word number)
+      × ((r ≡ editRefusalIn byteEdition m w c word number) × (word ≡ editedBufferIn byteEdition m w c word number b))
   unfolding editRefusalIn
   edit-refused r e n =
-      let f : r ≡ editRefusal m w c word number = e ∙ sym (orElse-first (numberRefusal m w c (length word) number) _ (λ z. n (e ∙ z))) in
+      let f : r ≡ editRefusalIn byteEdition m w c word number = e
+      ∙ sym (orElse-first (numberRefusalIn byteLimits m w c (length word) number) _ (λ z. n (e ∙ z))) in
       let B = by-number r f in (
         sym (mending-refused r group n (λ z. not-nine m w c (length word) number (sym e ∙ z))) ∙ B .0,
-        (f, sym (unless-refused r (editedWord m w c word number b) word n) ∙ B .1),
+        (f, sym (unless-refused r (editedIn byteEdition m w c word number b) word n) ∙ B .1),
       )
 
-  module _ (accepted : numberRefusal m w c (length word) number ≡ 0) where
-    decided : (v : Bool) → isCodeword byteEdition m w c word ≡ v → refuse 9 (not v) ≡ editRefusal m w c word number
+  module _ (accepted : numberRefusalIn byteLimits m w c (length word) number ≡ 0) where
+    decided : (v : Bool) → isCodeword byteEdition m w c word ≡ v → refuse 9 (not v) ≡ editRefusalIn byteEdition m w c word number
     unfolding editRefusalIn
     decided v e = sym (ap (λ r. r orElse refuse 9 (not (isCodeword byteEdition m w c word))) accepted ∙ ap (λ v. refuse 9 (not v)) e)
 
     pub edit-contradictory : (g : ℕ) → isCodeword byteEdition m w c word ≡ false → g ≡ contradictingGroup byteEdition m w c word (replicate (length word) 0)
-        → (Mending.Contradictory g ≡ editOf m w c word number) × ((9 ≡ editRefusal m w c word number) × (word ≡ editedBuffer m w c word number b))
+        → (Mending.Contradictory g ≡ editIn byteEdition m w c word number)
+        × ((9 ≡ editRefusalIn byteEdition m w c word number) × (word ≡ editedBufferIn byteEdition m w c word number b))
     unfolding group
     edit-contradictory g e h =
         let B = by-number 9 (decided false e) in
         (ap Mending.Contradictory h ∙ B .0, (decided false e, B .1))
 
-    pub edit-done : (end : List ℕ) → isCodeword byteEdition m w c word ≡ true → end ≡ editedWord m w c word number b
-        → (Mending.Done ≡ editOf m w c word number) × ((0 ≡ editRefusal m w c word number) × (end ≡ editedBuffer m w c word number b))
+    pub edit-done : (end : List ℕ) → isCodeword byteEdition m w c word ≡ true → end ≡ editedIn byteEdition m w c word number b
+        → (Mending.Done ≡ editIn byteEdition m w c word number)
+        × ((0 ≡ editRefusalIn byteEdition m w c word number) × (end ≡ editedBufferIn byteEdition m w c word number b))
     edit-done end e h =
         let B = by-number 0 (decided true e) in
         (B .0, (decided true e, h ∙ B .1))

@@ -16,9 +16,11 @@ use Rattle.binary_field.specs.XorLaws.{⊕-zero-l, ⊕-zero-r, ⊕-self, ⊕-lt
 use Rattle.binary_field.specs.ProductLaws.{product-zero, product-one, product-lt}
 use Rattle.binary_field.specs.Sum.{sumBelow}
 use Rattle.binary_field.specs.SumLaws.{sum-none, sum-suc, sum-ext, sum-add, sum-single, sum-lt, sum-zero}
-use Rattle.shape.specs.Shapes.{Good, dataCount}
-use Rattle.places.specs.Places.{isCheck, extractOf}
-use Rattle.places.specs.Laws.{check-inner, check-last, extract-agree}
+use Rattle.shape.specs.Shapes.{byteLimits}
+use Rattle.code.specs.Limits.{dataCount, GoodIn}
+use Rattle.code.specs.Pair.{pairAt}
+use Rattle.code_services.specs.Places.{isCheck, extractOf}
+use Rattle.code_services.specs.PlacesLaws.{check-inner, check-last, extract-agree}
 use Rattle.code.specs.Edition.{times, raised}
 use Rattle.code.specs.Word.{groupSum, localSum, wordSum, coefficient, secondCoefficient, Symbols, Codeword}
 use Rattle.code.specs.WordLaws.{equations, is-codeword}
@@ -31,7 +33,6 @@ use Rattle.code.specs.StretchLaws.{stretch-at, stretch-length, stretch-sum, str
 use Rattle.byte_edition.specs.Edition.{byteEdition}
 use Rattle.byte_edition.specs.EditionLaws.{bytes-sound}
 use Rattle.syndrome.specs.declared.Sums.{Sums}
-use Rattle.candidate.specs.Solved.{pairAt}
 use Rattle.edit.specs.Edit.{placeOf, editedIn}
 use Rattle.edit.specs.PlacesLaws.{group-less, place-less, place-is, extract-set}
 use Rattle.edit.specs.Laws.{edited-encoded}
@@ -51,7 +52,7 @@ group-lt : (w g : ℕ) (x : List ℕ) (h : ℕ → ℕ) → groupSum byteEdition
 unfolding groupSum
 group-lt w g x h = sum-lt 8 w _ (λ j _. product-lt 8 285 (getD x (g * w + j) 0) (h j))
 
-module _ (m w i : ℕ) (good : Good m w (suc i)) (few : suc i ≤ 3) (word : List ℕ) (C : Codeword byteEdition m w (suc i) word) (number b : ℕ)
+module _ (m w i : ℕ) (good : GoodIn byteLimits m w (suc i)) (few : suc i ≤ 3) (word : List ℕ) (C : Codeword byteEdition m w (suc i) word) (number b : ℕ)
     (below : number < dataCount m w (suc i)) (byte : b < 256) (after : List ℕ) (s : Sums)
     (R : Refilled w (suc i) (number / (w - suc i)) (number % (w - suc i)) b (stretch w (number / (w - suc i)) word) after s)
     (each : (p : ℕ) → getD (withStretch w (number / (w - suc i)) word after) p 0 < 256) where
@@ -293,7 +294,8 @@ module _ (m w i : ℕ) (good : Good m w (suc i)) (few : suc i ≤ 3) (word : Lis
   unfolding correctedOf z x g U v H
   changed-suc = edited-encoded bytes-sound good word C number b below byte .only z z-codeword z-data
 
-pub changed : (m w c : ℕ) → Good m w c → c ≤ 3 → (word : List ℕ) → Codeword byteEdition m w c word → (number b : ℕ) → number < dataCount m w c → b < 256
+pub changed : (m w c : ℕ) → GoodIn byteLimits m w c → c ≤ 3 → (word : List ℕ) → Codeword byteEdition m w c word → (number b : ℕ) → number < dataCount m w c
+    → b < 256
     → (after : List ℕ) (s : Sums)
     → Refilled w c (number / (w - c)) (number % (w - c)) b (stretch w (number / (w - c)) word) after s
     → ((p : ℕ) → getD (withStretch w (number / (w - c)) word after) p 0 < 256)

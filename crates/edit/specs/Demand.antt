@@ -6,18 +6,18 @@ use mathlib.Core.Logic.{_⊎_}
 use mathlib.Core.List.{List, [], _∷_}
 use Prim.Native.Nat.{ℕ, zero, suc, _+_, _*_, _/_, _%_, _<_, _≤_, _^_}
 use lib.ListN.{length, getD, set}
-use Rattle.shape.specs.declared.Mending.{Mending}
-use Rattle.shape.specs.Shapes.{GoodIn, SoldIn, dataCount}
-use Rattle.places.specs.Places.{extractOf}
+use Rattle.answers.specs.declared.Mending.{Mending}
+use Rattle.code.specs.Limits.{dataCount, GoodIn, SoldIn}
+use Rattle.code_services.specs.Places.{extractOf}
 use Rattle.code.specs.Edition.{Edition}
 use Rattle.code.specs.Word.{isLocal, Symbols, Codeword}
-use Rattle.word_check.specs.declared.Checked.{Checked}
-use Rattle.encode.specs.Encode.{encodedIn}
-use Rattle.encode.specs.DemandTwo.{Encoded}
+use Rattle.answers.specs.declared.Checked.{Checked}
+use Rattle.code_services.specs.Encode.{encodedIn}
+use Rattle.code_services.specs.EncodeDemand.{Encoded}
 use Rattle.edit.specs.Edit.{placeOf, changedData, editIn, editedBufferIn}
 
 -- what a call that is not refused is lent: "a shape, a codeword, a data number below k and a byte"
-pub record Call (E : Edition) (m w c : ℕ) (word : List ℕ) (number symbol : ℕ) : Type 0 where
+pub record EditCall (E : Edition) (m w c : ℕ) (word : List ℕ) (number symbol : ℕ) : Type 0 where
   pub sold : SoldIn (E .limits) m w c
   pub codeword : Codeword E m w c word
   pub below : number < dataCount m w c
@@ -52,7 +52,7 @@ abbrev pub AllEdited : Edition → ℕ → ℕ → ℕ → List ℕ → List ℕ
 AllEdited E m w c word carried = editedBelow E m w c word carried (dataCount m w c) ≡ encodedIn E m w c carried
 
 -- g is "the lowest group whose present bytes no filling can satisfy locally, or m": where no place is lost, the lowest that breaks its own equations
-pub record Lowest (E : Edition) (m w c : ℕ) (word : List ℕ) (g : ℕ) : Type 0 where
+pub record LowestGroup (E : Edition) (m w c : ℕ) (word : List ℕ) (g : ℕ) : Type 0 where
   pub most : g ≤ m
   pub broken : g < m → isLocal E w c word g ≡ false
   pub lower : (i : ℕ) → i < g → isLocal E w c word i ≡ true
@@ -69,7 +69,7 @@ pub record Refusals (E : Edition) (m w c : ℕ) (word : List ℕ) (number symbol
   pub beyond : SoldIn (E .limits) m w c → length word ≡ m * w → dataCount m w c ≤ number → editIn E m w c word number ≡ Mending.Refused 30
   -- "A word that isn't a codeword is refused 9 as in request 4."
   pub contradictory : SoldIn (E .limits) m w c → Symbols E (m * w) word → number < dataCount m w c → ¬ Codeword E m w c word
-      → (g : ℕ) × (editIn E m w c word number ≡ Mending.Contradictory g) × Lowest E m w c word g
+      → (g : ℕ) × (editIn E m w c word number ≡ Mending.Contradictory g) × LowestGroup E m w c word g
 
 -- what Edit answers to a word, by what Check answers to it
 abbrev pub asChecked : Checked → Mending

@@ -4,16 +4,15 @@ use mathlib.Core.List.{List}
 use Prim.Native.Nat.{ℕ}
 use lib.Dec.{leb}
 use lib.ListN.{length, getD, set, replicate}
-use Rattle.shape.specs.declared.Mending.{Mending}
-use Rattle.shape.specs.Answers.{mendingAt}
-use Rattle.shape.specs.Refusals.{refuse, _orElse_, unlessRefused}
-use Rattle.shape.specs.Shapes.{Limits, byteLimits, dataCount, saleRefusalIn, wordRefusalIn}
-use Rattle.places.specs.Places.{dataPlaces, extractOf}
-use Rattle.byte_edition.specs.Edition.{byteEdition}
+use Rattle.answers.specs.declared.Mending.{Mending}
+use Rattle.answers.specs.Answers.{mendingAt}
+use Rattle.code.specs.Refusals.{refuse, _orElse_, unlessRefused}
+use Rattle.code.specs.Limits.{Limits, dataCount, saleRefusalIn, wordRefusalIn}
+use Rattle.code_services.specs.Places.{dataPlaces, extractOf}
 use Rattle.code.specs.Edition.{Edition}
 use Rattle.code.specs.Word.{isCodeword}
 use Rattle.code.specs.Contradiction.{contradictingGroup}
-use Rattle.encode.specs.Encode.{encodedIn}
+use Rattle.code_services.specs.Encode.{encodedIn}
 
 -- "the data place" of a data number
 unfoldable pub placeOf : ℕ → ℕ → ℕ → ℕ → ℕ
@@ -42,23 +41,3 @@ editIn E m w c word number = mendingAt (editRefusalIn E m w c word number) (cont
 -- the word at the end
 unfoldable pub editedBufferIn : Edition → ℕ → ℕ → ℕ → List ℕ → ℕ → ℕ → List ℕ
 editedBufferIn E m w c word number symbol = unlessRefused (editRefusalIn E m w c word number) (editedIn E m w c word number symbol) word
-
--- Edit in the edition of bytes: the word as it would be encoded
-abbrev pub editedWord : ℕ → ℕ → ℕ → List ℕ → ℕ → ℕ → List ℕ
-editedWord = editedIn byteEdition
-
--- its refusals by shape, length and number, before the word is tested
-abbrev pub numberRefusal : ℕ → ℕ → ℕ → ℕ → ℕ → ℕ
-numberRefusal = numberRefusalIn byteLimits
-
--- its refusals
-abbrev pub editRefusal : ℕ → ℕ → ℕ → List ℕ → ℕ → ℕ
-editRefusal = editRefusalIn byteEdition
-
--- its answer
-abbrev pub editOf : ℕ → ℕ → ℕ → List ℕ → ℕ → Mending
-editOf = editIn byteEdition
-
--- and the word at the end
-abbrev pub editedBuffer : ℕ → ℕ → ℕ → List ℕ → ℕ → ℕ → List ℕ
-editedBuffer = editedBufferIn byteEdition

@@ -17,15 +17,15 @@ use lib.Seq.{getD-set-same, getD-set-other, set-getD, set-comm, ext-getD}
 use Rattle.counting.specs.First.{firstBelow}
 use Rattle.counting.specs.FirstLaws.{first-most, first-before, first-holds}
 use Rattle.counting.specs.CountLaws.{count-ext}
-use Rattle.shape.specs.declared.Mending.{Mending}
-use Rattle.shape.specs.Answers.{mendingAt}
-use Rattle.shape.specs.AnswersLaws.{mending-refused}
-use Rattle.shape.specs.Refusals.{refuse, _orElse_, unlessRefused}
-use Rattle.shape.specs.RefusalsLaws.{orElse-zero, orElse-first, refuse-zero, unless-refused}
-use Rattle.shape.specs.Shapes.{Limits, GoodIn, SoldIn, dataCount, saleRefusalIn, wordRefusalIn}
-use Rattle.shape.specs.Laws.{refusal-of-sold, retired-of-good, good-of-word, word-of-good, word-length}
-use Rattle.places.specs.Places.{isCheck, extractOf, checkMarks}
-use Rattle.places.specs.Laws.{check-inner, check-last, checks-inner, extract-length, extract-below, agree-extract}
+use Rattle.answers.specs.declared.Mending.{Mending}
+use Rattle.answers.specs.Answers.{mendingAt}
+use Rattle.answers.specs.AnswersLaws.{mending-refused}
+use Rattle.code.specs.Refusals.{refuse, _orElse_, unlessRefused}
+use Rattle.code.specs.RefusalsLaws.{orElse-zero, orElse-first, refuse-zero, unless-refused}
+use Rattle.code.specs.Limits.{Limits, dataCount, GoodIn, SoldIn, saleRefusalIn, wordRefusalIn}
+use Rattle.code.specs.LimitsLaws.{refusal-of-sold, retired-of-good, good-of-word, word-of-good, word-length}
+use Rattle.code_services.specs.Places.{isCheck, extractOf, checkMarks}
+use Rattle.code_services.specs.PlacesLaws.{check-inner, check-last, checks-inner, extract-length, extract-below, agree-extract}
 use Rattle.code.specs.Edition.{Edition, Sound}
 use Rattle.code.specs.Word.{isLocal, isCodeword, Symbols, Codeword}
 use Rattle.code.specs.WordLaws.{equations}
@@ -34,11 +34,11 @@ use Rattle.code.specs.DeterminedLaws.{local-unique}
 use Rattle.code.specs.CombinedLaws.{place-less}
 use Rattle.code.specs.Contradiction.{contradictingGroup}
 use Rattle.code.specs.ContradictionLaws.{whole-groups}
-use Rattle.encode.specs.Encode.{encodedIn}
-use Rattle.encode.specs.DemandTwo.{Encoded}
-use Rattle.encode.specs.Laws.{encoded, lost-check}
+use Rattle.code_services.specs.Encode.{encodedIn}
+use Rattle.code_services.specs.EncodeDemand.{Encoded}
+use Rattle.code_services.specs.EncodeLaws.{encoded, lost-check}
 use Rattle.edit.specs.Edit.{placeOf, changedData, editedIn, numberRefusalIn, editRefusalIn, editIn, editedBufferIn}
-use Rattle.edit.specs.Demand.{Call, MayDiffer, Edited, EitherOrder, editedBelow, AllEdited, Lowest, Refusals}
+use Rattle.edit.specs.Demand.{EditCall, MayDiffer, Edited, EitherOrder, editedBelow, AllEdited, LowestGroup, Refusals}
 use Rattle.edit.specs.PlacesLaws.{place-inside, extract-set}
 
 -- a bound on every entry holds after a change
@@ -143,7 +143,7 @@ module _ {L : Limits} (m w c lent number : ℕ) where
   unfolding numberRefusalIn
   number-of-sold s e l = simp (refusal-of-sold m w c s, word-of-good m w c lent (s .good) e, lt-leb (dataCount m w c) number l)
 
-module _ {E : Edition} {m w c : ℕ} {word : List ℕ} {number symbol : ℕ} (K : Call E m w c word number symbol) where
+module _ {E : Edition} {m w c : ℕ} {word : List ℕ} {number symbol : ℕ} (K : EditCall E m w c word number symbol) where
   pub accepted : editRefusalIn E m w c word number ≡ 0
   unfolding editRefusalIn
   accepted =
@@ -203,7 +203,7 @@ module _ (E : Edition) (m w c : ℕ) (word x : List ℕ) where
 -- ---- the demand
 module _ {E : Edition} (S : Sound E) where
   -- a call that is lent what it asks for does what the request says
-  pub edited : {m w c : ℕ} {word : List ℕ} {number symbol : ℕ} → Call E m w c word number symbol → Edited E m w c word number symbol
+  pub edited : {m w c : ℕ} {word : List ℕ} {number symbol : ℕ} → EditCall E m w c word number symbol → Edited E m w c word number symbol
   unfolding editIn editedIn
   edited {m} {w} {c} {word} {number} {symbol} K =
       let g = K .sold .good in
@@ -274,7 +274,7 @@ module _ {E : Edition} (S : Sound E) where
     one-more : (i : ℕ) → i < dataCount m w c → Below i → Below (suc i)
     unfolding editedBelow
     one-more i l B =
-        let K : Call E m w c (editedBelow E m w c word carried i) i (getD carried i 0) =
+        let K : EditCall E m w c (editedBelow E m w c word carried i) i (getD carried i 0) =
         record { sold = s; codeword = B .codeword; below = l; small = small i } in
         let x = extractOf m w c (editedBelow E m w c word carried i) in
         let D = edited K in
@@ -338,13 +338,13 @@ module _ (E : Edition) (m w c : ℕ) (word : List ℕ) (number symbol : ℕ) whe
       (simp (refusal-of-sold m w c s, word-of-good m w c (length word) (s .good) size, le-leb (dataCount m w c) number l))
 
   contradictory : SoldIn (E .limits) m w c → Symbols E (m * w) word → number < dataCount m w c → ¬ Codeword E m w c word
-      → (g : ℕ) × (editIn E m w c word number ≡ Mending.Contradictory g) × Lowest E m w c word g
+      → (g : ℕ) × (editIn E m w c word number ≡ Mending.Contradictory g) × LowestGroup E m w c word g
   unfolding editIn editRefusalIn group
   contradictory s y l n = (
     group,
     ap (λ t. mendingAt (t orElse refuse 9 (not (isCodeword E m w c word))) group) (number-of-sold m w c (length word) number s (y .size) l)
         ∙ ap (λ b. mendingAt (refuse 9 (not b)) group) (no (isCodeword E m w c word) (λ t. n (record { symbols = y; zero = t }))),
-    subst (Lowest E m w c word) (whole-groups E m w c word (y .size) (y .each)) lowest,
+    subst (LowestGroup E m w c word) (whole-groups E m w c word (y .size) (y .each)) lowest,
   )
     where
       no : (b : Bool) → (T b → ⊥) → b ≡ false
@@ -354,7 +354,7 @@ module _ (E : Edition) (m w c : ℕ) (word : List ℕ) (number symbol : ℕ) whe
       f : ℕ → Bool
       f i = not (isLocal E w c word i)
 
-      lowest : Lowest E m w c word (firstBelow m (λ i. not (isLocal E w c word i)))
+      lowest : LowestGroup E m w c word (firstBelow m (λ i. not (isLocal E w c word i)))
       lowest = record {
         most = first-most m f;
         broken = λ h. not-true (isLocal E w c word (firstBelow m f)) (first-holds m f h);

@@ -13,10 +13,10 @@ use lib.ListN.{length, getD, set}
 use lib.Seq.{getD-set-same, getD-set-other, getD-append-seam}
 use Rattle.counting.specs.Count.{totalBelow, countBelow, one}
 use Rattle.counting.specs.CountLaws.{total-append, total-zero}
-use Rattle.shape.specs.Shapes.{Limits, GoodIn, placeCount, dataCount}
-use Rattle.places.specs.Places.{isCheck, othersFrom, dataPlaces, bytesAt, extractOf}
-use Rattle.places.specs.FromLaws.{others-ext, others-length}
-use Rattle.places.specs.Laws.{check-inner, check-last, checks-before, data-length}
+use Rattle.code.specs.Limits.{Limits, placeCount, dataCount, GoodIn}
+use Rattle.code_services.specs.Places.{isCheck, othersFrom, dataPlaces, bytesAt, extractOf}
+use Rattle.code_services.specs.PlacesFromLaws.{others-ext, others-length}
+use Rattle.code_services.specs.PlacesLaws.{check-inner, check-last, checks-before, data-length}
 use Rattle.edit.specs.Edit.{placeOf}
 
 module _ (check : ℕ → Bool) where

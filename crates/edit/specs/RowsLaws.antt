@@ -21,8 +21,9 @@ use Rattle.code.specs.Edition.{times, raised}
 use Rattle.code.specs.Word.{groupSum, localSum, coefficient, secondCoefficient}
 use Rattle.code.specs.Marks.{lost, lostIn}
 use Rattle.byte_edition.specs.Edition.{byteEdition}
-use Rattle.check_rows.specs.Rows.{powerRows, firstRows, secondRows, noRow}
-use Rattle.syndrome.specs.PartsLaws.{power-group, first-group, second-group, second-coefficient-group}
+use Rattle.byte_edition.specs.Rows.{powerRows, firstRows, secondRows, noRow}
+use Rattle.syndrome.specs.PartsLaws.{power-group, first-group, second-group}
+use Rattle.code_engine.specs.PartsLaws.{second-coefficient-group}
 use Rattle.edit.specs.Rows.{tailMarks, localMarks, firstFixes, secondFixes, rowStart, fixOf, fixesAt}
 
 -- ---- the rows

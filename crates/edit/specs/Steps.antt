@@ -8,9 +8,9 @@ use Rattle.code.specs.Edition.{times, raised}
 use Rattle.code.specs.Word.{groupSum, localSum, coefficient, secondCoefficient}
 use Rattle.code.specs.Combined.{combined}
 use Rattle.code.specs.Lone.{lone}
+use Rattle.code.specs.Pair.{pairAt}
 use Rattle.byte_edition.specs.Edition.{byteEdition}
 use Rattle.syndrome.specs.declared.Sums.{Sums}
-use Rattle.candidate.specs.Solved.{pairAt}
 use Rattle.edit.specs.Rows.{fixOf, fixesAt}
 
 -- group g's stretch with b at place j and its last c places filled by its own equations, and what that changes in the two sums across

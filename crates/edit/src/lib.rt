@@ -1,22 +1,23 @@
 // The service Edit: one data byte of a codeword changed, with the checks that hang on it, and nothing else.
 mod rows;
 
-use shape::Mending;
+use answers::Mending;
 use syndrome::Sums;
 ghost use mathlib.Core.Path.{_≡_};
 ghost use Prim.Native.Nat.{_+_, _-_, _*_, _≤_, _<_};
 ghost use lib.Dec.{T};
 ghost use lib.ListN.{length};
-ghost use Rattle.shape.specs.Shapes.{Good, dataCount};
-ghost use Rattle.shape.specs.Answers.{mendingNumber};
+ghost use Rattle.shape.specs.Shapes.{byteLimits};
+ghost use Rattle.answers.specs.Answers.{mendingNumber};
+ghost use Rattle.code.specs.Limits.{dataCount, GoodIn};
 ghost use Rattle.byte_edition.specs.Edition.{byteEdition};
 ghost use Rattle.code.specs.Word.{isCodeword};
-ghost use Rattle.edit.specs.Edit.{numberRefusal, editRefusal, editOf, editedWord, editedBuffer};
+ghost use Rattle.edit.specs.Edit.{editedIn, numberRefusalIn, editRefusalIn, editIn, editedBufferIn};
 ghost use Rattle.edit.specs.Steps.{Refilled, AddedRows, correctedOf};
 
 // The refusal of a call by its shape, its length and its number: 1 to 4, 29, 5, then 30; 0 if there is none.
 fn refusal(m: usize, w: usize, c: usize, lent: usize, number: usize) -> u8
-    ensures { λ r. ⌜ r ≡ numberRefusal m w c lent number ⌝ }
+    ensures { λ r. ⌜ r ≡ numberRefusalIn byteLimits m w c lent number ⌝ }
 {
     let unsold = shape::sale_refusal(m, w, c);
     if unsold != 0 {
@@ -67,7 +68,7 @@ fn add_rows(u: u8, h: &[u8], v: u8, k: &[u8], part: &mut [u8])
 
 // Changes the last group's c+2 checks, so that sums across that were first and second come to zero and the group's own stay.
 fn correct(m: usize, w: usize, c: usize, first: u8, second: u8, word: &mut [u8])
-    requires { ⌜ Good m w c ⌝ }
+    requires { ⌜ GoodIn byteLimits m w c ⌝ }
     requires { ⌜ c ≤ 3 ⌝ }
     requires { ⌜ length (now word) ≡ m * w ⌝ }
     ensures { λ _. ⌜ now (word .exit) ≡ correctedOf m w c first second (now (word .entry)) ⌝ }
@@ -85,12 +86,12 @@ fn correct(m: usize, w: usize, c: usize, first: u8, second: u8, word: &mut [u8])
 
 // Changes a data byte of a codeword, with the checks of its group and of the last.
 fn change(m: usize, w: usize, c: usize, number: usize, byte: u8, word: &mut [u8])
-    requires { ⌜ Good m w c ⌝ }
+    requires { ⌜ GoodIn byteLimits m w c ⌝ }
     requires { ⌜ c ≤ 3 ⌝ }
     requires { ⌜ length (now word) ≡ m * w ⌝ }
     requires { ⌜ number < dataCount m w c ⌝ }
     requires { ⌜ T (isCodeword byteEdition m w c (now word)) ⌝ }
-    ensures { λ _. ⌜ now (word .exit) ≡ editedWord m w c (now (word .entry)) number byte ⌝ }
+    ensures { λ _. ⌜ now (word .exit) ≡ editedIn byteEdition m w c (now (word .entry)) number byte ⌝ }
 {
     let v = w - c;
     let g = number / v;
@@ -103,9 +104,9 @@ fn change(m: usize, w: usize, c: usize, number: usize, byte: u8, word: &mut [u8]
 
 // Changes the data byte of this number in a codeword, and leaves it as encoding the changed data would; or refuses and changes nothing.
 pub fn edit(m: usize, w: usize, c: usize, word: &mut [u8], number: usize, byte: u8) -> Mending
-    ensures answer { λ r. ⌜ r ≡ editOf m w c (now (word .entry)) number ⌝ }
-    ensures number { λ r. ⌜ mendingNumber r ≡ editRefusal m w c (now (word .entry)) number ⌝ }
-    ensures word { λ _. ⌜ now (word .exit) ≡ editedBuffer m w c (now (word .entry)) number byte ⌝ }
+    ensures answer { λ r. ⌜ r ≡ editIn byteEdition m w c (now (word .entry)) number ⌝ }
+    ensures number { λ r. ⌜ mendingNumber r ≡ editRefusalIn byteEdition m w c (now (word .entry)) number ⌝ }
+    ensures word { λ _. ⌜ now (word .exit) ≡ editedBufferIn byteEdition m w c (now (word .entry)) number byte ⌝ }
 {
     let r = refusal(m, w, c, word.len(), number);
     if r != 0 {

@@ -1,3 +1,1 @@
-pub mod Encode
-pub mod DemandTwo
-pub mod Laws
+pub mod ShapesLaws

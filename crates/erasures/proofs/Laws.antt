@@ -13,9 +13,9 @@ use borrow.Author.Tests.{eq-eqb, ne-eqb}
 use Rattle.code.specs.Stretch.{stretch, withStretch}
 use Rattle.code.specs.LentLaws.{stretch-lent, with-lent}
 use Rattle.code.specs.Marks.{lost}
-use Rattle.erasures.specs.Bound.{free, boundOf}
-use Rattle.erasures.specs.Whole.{BoundUpTo}
-use Rattle.erasures.specs.WholeLaws.{upto-more}
+use Rattle.code_engine.specs.Bound.{free, boundOf}
+use Rattle.code_engine.specs.BoundGroups.{BoundUpTo}
+use Rattle.code_engine.specs.BoundGroupsLaws.{upto-more}
 
 module _ (xs : List ℕ) (i : ℕ) (h : i < length xs) where
   pub pass-step : (d : ℕ) → (getD xs i 0 ≡ 1 → ⊥) → take (i + 1) xs ++ boundOf d (drop (i + 1) xs) ≡ take i xs ++ boundOf d (drop i xs)

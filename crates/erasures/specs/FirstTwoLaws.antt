@@ -6,8 +6,8 @@ use Prim.Native.Nat.{ℕ, zero, suc, _+_, _-_, _≤_, _<_}
 use native.Mathlib.Omega.{arith}
 use native.Mathlib.Decide.{ℕ-discrete}
 use lib.ListN.{length}
-use Rattle.erasures.specs.Bound.{free}
-use Rattle.erasures.specs.Places.{NextFree}
+use Rattle.code_engine.specs.Bound.{free}
+use Rattle.code_engine.specs.FreePlaces.{NextFree}
 use Rattle.erasures.specs.FirstTwo.{consIf, firstTwo}
 
 -- of the n places from start on, those of which f is true, in order

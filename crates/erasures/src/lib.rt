@@ -3,9 +3,10 @@ ghost use mathlib.Core.Path.{_≡_};
 ghost use mathlib.Core.Bool.{true, false};
 ghost use Prim.Native.Nat.{ℕ, _/_, _<_};
 ghost use lib.ListN.{length, getD};
-ghost use Rattle.erasures.specs.Bound.{free, boundOf};
-ghost use Rattle.erasures.specs.Whole.{boundGroups};
-ghost use Rattle.erasures.specs.Places.{FreePlaces, NextFree};
+ghost use Rattle.code_engine.specs.Positions.{FoundLost};
+ghost use Rattle.code_engine.specs.Bound.{free, boundOf};
+ghost use Rattle.code_engine.specs.BoundGroups.{boundGroups};
+ghost use Rattle.code_engine.specs.FreePlaces.{FreePlaces, NextFree};
 ghost use Rattle.erasures.specs.FirstTwo.{firstTwo};
 ghost use Rattle.erasures.specs.FirstTwoLaws.{freePlaces};
 
@@ -159,4 +160,28 @@ pub fn free_places(marks: &[u8], bound: &[u8]) -> Free
         first,
         second,
     }
+}
+
+pub fn find(marks: &[u8]) -> Erasures
+    ensures { λ r. ⌜ FoundLost (now (marks .entry)) (r .at) (r .count) ⌝ }
+{
+    let mut at = [0usize; 4];
+    let mut n: usize = 0;
+    let mut i: usize = 0;
+    while i < marks.len() {
+        if marks[i] == 1 {
+            if n < 4 {
+                at[n] = i;
+            }
+            n += 1;
+        }
+        i += 1;
+    }
+    Erasures { at, count: n }
+}
+
+// The positions of the first four lost places, in order, and how many places are lost.
+pub struct Erasures {
+    pub at: [usize; 4],
+    pub count: usize,
 }

@@ -2,34 +2,11 @@
 ghost use mathlib.Core.Path.{_≡_};
 ghost use Prim.Native.Nat.{_≤_, _<_};
 ghost use lib.ListN.{length};
-ghost use Rattle.fill.specs.Filled.{Filled};
-ghost use Rattle.fill.specs.Positions.{Inside, Found};
-ghost use Rattle.fill.specs.Placed.{placed};
-ghost use Rattle.fill.specs.EquationsLaws.{Equation, Equations};
-
-// The positions of the first four lost places, in order, and how many places are lost.
-pub struct Erasures {
-    pub at: [usize; 4],
-    pub count: usize,
-}
-
-pub fn find(marks: &[u8]) -> Erasures
-    ensures { λ r. ⌜ Found (now (marks .entry)) (r .at) (r .count) ⌝ }
-{
-    let mut at = [0usize; 4];
-    let mut n: usize = 0;
-    let mut i: usize = 0;
-    while i < marks.len() {
-        if marks[i] == 1 {
-            if n < 4 {
-                at[n] = i;
-            }
-            n += 1;
-        }
-        i += 1;
-    }
-    Erasures { at, count: n }
-}
+ghost use Rattle.byte_edition.specs.Edition.{byteEdition};
+ghost use Rattle.code_engine.specs.Positions.{Inside, FoundLost};
+ghost use Rattle.code_engine.specs.Placed.{placed};
+ghost use Rattle.code_engine.specs.EquationsLaws.{EquationIn, EquationsIn};
+ghost use Rattle.code_engine.specs.Filled.{FilledIn};
 
 // Writes the right side of row i at position at[i], for each i below t.
 fn place(part: &mut [u8], at: [usize; 4], rows: [[u8; 16]; 4], t: usize)
@@ -47,13 +24,13 @@ fn place(part: &mut [u8], at: [usize; 4], rows: [[u8; 16]; 4], t: usize)
 // The equation e: the powers of the positions' locators, which are 1 for e 0, and the syndrome on the right side.
 fn equation(part: &[u8], at: [usize; 4], t: usize, e: usize) -> [u8; 16]
     requires { ⌜ (t ≤ 4) × (e < 4) × (length (now part) ≤ 16) × Inside (length (now part)) at t ⌝ }
-    ensures { λ r. ⌜ Equation (now (part .entry)) at t e r ⌝ }
+    ensures { λ r. ⌜ EquationIn byteEdition (now (part .entry)) at t e r ⌝ }
 {
-    let syndrome = check_rows::power_sum(part, e);
+    let syndrome = byte_edition::power_sum(part, e);
     if e == 0 {
         return [1, 1, 1, 1, syndrome, 0, 0, 0, 0, 0, 0, 0, 0, 0, 0, 0];
     }
-    let powers = check_rows::power_row(e);
+    let powers = byte_edition::power_row(e);
     [
         powers[at[0] % 16],
         powers[at[1] % 16],
@@ -77,7 +54,7 @@ fn equation(part: &[u8], at: [usize; 4], t: usize, e: usize) -> [u8; 16]
 // The first t equations.
 fn equations_of(part: &[u8], at: [usize; 4], t: usize) -> [[u8; 16]; 4]
     requires { ⌜ (t ≤ 4) × (length (now part) ≤ 16) × Inside (length (now part)) at t ⌝ }
-    ensures { λ r. ⌜ Equations (now (part .entry)) at t r ⌝ }
+    ensures { λ r. ⌜ EquationsIn byteEdition (now (part .entry)) at t r ⌝ }
 {
     let mut rows = [[0u8; 16]; 4];
     let mut e: usize = 0;
@@ -97,18 +74,18 @@ fn sixteen_or_few(places: usize) -> bool {
 // The same; any other part of fewer than sixteen places is padded.
 fn equations(part: &[u8], at: [usize; 4], t: usize) -> [[u8; 16]; 4]
     requires { ⌜ (t ≤ 4) × (length (now part) ≤ 16) × Inside (length (now part)) at t ⌝ }
-    ensures { λ r. ⌜ Equations (now (part .entry)) at t r ⌝ }
+    ensures { λ r. ⌜ EquationsIn byteEdition (now (part .entry)) at t r ⌝ }
 {
     if sixteen_or_few(part.len()) {
         return equations_of(part, at, t);
     }
-    let x = check_rows::padded(part);
+    let x = byte_edition::padded(part);
     equations_of(&x, at, t)
 }
 
 // Fills the lost places, if at most four of at most sixteen are lost; what stood there does not count. Else nothing changes.
 pub fn fill(part: &mut [u8], marks: &[u8])
-    ensures { λ _. ⌜ Filled (now (marks .entry)) (now (part .entry)) (now (part .exit)) ⌝ }
+    ensures { λ _. ⌜ FilledIn byteEdition (now (marks .entry)) (now (part .entry)) (now (part .exit)) ⌝ }
 {
     if 16 < part.len() {
         return;
@@ -116,7 +93,7 @@ pub fn fill(part: &mut [u8], marks: &[u8])
     if marks.len() != part.len() {
         return;
     }
-    let erasures = find(marks);
+    let erasures = erasures::find(marks);
     let t = erasures.count;
     if 4 < t {
         return;

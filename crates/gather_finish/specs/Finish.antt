@@ -5,21 +5,22 @@ use mathlib.Core.List.{List}
 use Prim.Native.Nat.{ℕ, zero, suc}
 use lib.Dec.{eqb}
 use lib.ListN.{length}
-use Rattle.shape.specs.declared.Mending.{Mending}
-use Rattle.shape.specs.Answers.{mendingAt, mendingNumber, mendingGroup}
-use Rattle.shape.specs.Refusals.{refuse, _orElse_, unlessRefused}
+use Rattle.answers.specs.declared.Mending.{Mending}
+use Rattle.answers.specs.Answers.{mendingAt, mendingNumber, mendingGroup}
+use Rattle.code.specs.Refusals.{refuse, _orElse_, unlessRefused}
 use Rattle.code.specs.Outcome.{Outcome}
-use Rattle.recover.specs.Recover.{recoverOf}
+use Rattle.byte_edition.specs.Edition.{byteEdition}
+use Rattle.code_services.specs.Recover.{recoverIn}
 use Rattle.gather_record.specs.declared.Gather.{Gather}
-use Rattle.gather_record.specs.Record.{placesOf, bytesOf, marksOf, gatherRefusal}
+use Rattle.gather_record.specs.Record.{gatherPlaces, gatherBytes, gatherMarks, gatherRefusal}
 
 -- 1 to 4, 6, 22; "at the finish 5 after 22"
 unfoldable pub finishRefusal : ℕ → Gather → ℕ
-finishRefusal size g = gatherRefusal g orElse refuse 5 (not (eqb size (placesOf g)))
+finishRefusal size g = gatherRefusal g orElse refuse 5 (not (eqb size (gatherPlaces g)))
 
 -- "places that never came are lost, and the answer is as recover gives"
-abbrev pub recoveryOf : Gather → Outcome
-recoveryOf g = recoverOf (g .m) (g .w) (g .c) (bytesOf g) (marksOf g)
+abbrev pub gatherRecovery : Gather → Outcome
+gatherRecovery g = recoverIn byteEdition (g .m) (g .w) (g .c) (gatherBytes g) (gatherMarks g)
 
 -- the finished mark is set, and nothing else changes
 abbrev pub closed : Gather → Gather
@@ -36,9 +37,9 @@ pub record Finishing : Type 0 where
 -- 01's rule on refusals and to demand 1's (the gather's own record alone changes), and writes no word."
 abbrev pub finishBy : ℕ → List ℕ → Gather → Finishing
 finishBy zero word g = record {
-  number = (recoveryOf g) .number;
-  group = (recoveryOf g) .group;
-  word = unlessRefused ((recoveryOf g) .number) ((recoveryOf g) .word) word;
+  number = (gatherRecovery g) .number;
+  group = (gatherRecovery g) .group;
+  word = unlessRefused ((gatherRecovery g) .number) ((gatherRecovery g) .word) word;
   gather = closed g;
 }
 finishBy (suc r) word g = record { number = suc r; group = 0; word = word; gather = g }

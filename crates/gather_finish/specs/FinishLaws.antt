@@ -9,25 +9,26 @@ use native.Mathlib.Omega.{arith}
 use borrow.Author.Tests.{eqb-true, eq-eqb, ne-eqb, not-false}
 use lib.Dec.{eqb, ltb}
 use lib.ListN.{length}
-use Rattle.shape.specs.declared.Mending.{Mending}
-use Rattle.shape.specs.Answers.{mendingAt, mendingNumber, mendingGroup}
-use Rattle.shape.specs.AnswersLaws.{mending-number, mending-refused}
-use Rattle.shape.specs.Refusals.{refuse, _orElse_}
-use Rattle.shape.specs.RefusalsLaws.{refuse-zero, orElse-zero, orElse-first}
-use Rattle.shape.specs.Shapes.{shapeRefusal}
+use Rattle.answers.specs.declared.Mending.{Mending}
+use Rattle.answers.specs.Answers.{mendingAt, mendingNumber, mendingGroup}
+use Rattle.answers.specs.AnswersLaws.{mending-number, mending-refused}
+use Rattle.code.specs.Refusals.{refuse, _orElse_}
+use Rattle.code.specs.RefusalsLaws.{refuse-zero, orElse-zero, orElse-first}
+use Rattle.shape.specs.Shapes.{byteLimits}
 use Rattle.shape.specs.Laws.{shape-most}
+use Rattle.code.specs.Limits.{shapeRefusalIn}
 use Rattle.byte_edition.specs.Edition.{byteEdition}
 use Rattle.code.specs.Word.{isCodeword}
 use Rattle.code.specs.Marks.{excess}
 use Rattle.code.specs.Contradiction.{contradictingGroup}
 use Rattle.code.specs.OutcomeLaws.{other-group}
 use Rattle.code.specs.Recovery.{recovered}
-use Rattle.marks.specs.Refusal.{areMarks}
-use Rattle.recover.specs.Recover.{unlessBefore, recoverOf, recoverIn, recoverRefusal}
+use Rattle.code_services.specs.Marks.{areMarks}
+use Rattle.code_services.specs.Recover.{unlessBefore, recoverIn, recoverRefusalIn}
 use Rattle.gather_record.specs.declared.Gather.{Gather}
-use Rattle.gather_record.specs.Record.{placesOf, marksOf, gatherRefusal}
+use Rattle.gather_record.specs.Record.{gatherPlaces, gatherMarks, gatherRefusal}
 use Rattle.gather_record.specs.RecordLaws.{Open, open-parts}
-use Rattle.gather_finish.specs.Finish.{finishRefusal, recoveryOf, closed, finishBy, finishOf, FinishGives}
+use Rattle.gather_finish.specs.Finish.{finishRefusal, gatherRecovery, closed, finishBy, finishOf, FinishGives}
 
 -- ---- the refusals before 8 and 9, case by case
 
@@ -36,19 +37,20 @@ module _ (size : ℕ) (g : Gather) where
   unfolding finishRefusal
   finish-record h = orElse-first _ _ h
 
-  pub finish-length : gatherRefusal g ≡ 0 → (size ≡ placesOf g → ⊥) → finishRefusal size g ≡ 5
+  pub finish-length : gatherRefusal g ≡ 0 → (size ≡ gatherPlaces g → ⊥) → finishRefusal size g ≡ 5
   unfolding finishRefusal
-  finish-length e h = simp (e, ne-eqb size (placesOf g) h)
+  finish-length e h = simp (e, ne-eqb size (gatherPlaces g) h)
 
-  pub finish-fit : gatherRefusal g ≡ 0 → size ≡ placesOf g → finishRefusal size g ≡ 0
+  pub finish-fit : gatherRefusal g ≡ 0 → size ≡ gatherPlaces g → finishRefusal size g ≡ 0
   unfolding finishRefusal
-  finish-fit e h = simp (e, eq-eqb size (placesOf g) h)
+  finish-fit e h = simp (e, eq-eqb size (gatherPlaces g) h)
 
   -- none of them is 8 or 9
   pub finish-numbers : (finishRefusal size g ≤ 6) ⊎ (finishRefusal size g ≡ 22)
   unfolding finishRefusal gatherRefusal
   finish-numbers =
-      go (shapeRefusal (g .m) (g .w) (g .c)) (not (areMarks (marksOf g))) (ltb 1 (g .finished)) (eqb (g .finished) 1) (not (eqb size (placesOf g)))
+      go (shapeRefusalIn byteLimits (g .m) (g .w) (g .c)) (not (areMarks (gatherMarks g))) (ltb 1 (g .finished)) (eqb (g .finished) 1)
+      (not (eqb size (gatherPlaces g)))
       (shape-most (g .m) (g .w) (g .c))
     where
       all : ℕ → Bool → Bool → Bool → Bool → ℕ
@@ -66,7 +68,7 @@ module _ (size : ℕ) (g : Gather) where
 pub record Finishable (size : ℕ) (g : Gather) : Type 0 where
   pub unrefused : gatherRefusal g ≡ 0
   pub opened : Open g
-  pub fits : size ≡ placesOf g
+  pub fits : size ≡ gatherPlaces g
 
 pub finish-parts : (size : ℕ) (g : Gather) → finishRefusal size g ≡ 0 → Finishable size g
 unfolding finishRefusal
@@ -77,9 +79,10 @@ finish-parts size g e =
 -- ---- the group that the recovery's answer carries
 
 -- another number than 9 carries no group
-recovery-group : (m w c : ℕ) (word marks : List ℕ) → ((recoverOf m w c word marks) .number ≡ 9 → ⊥) → (recoverOf m w c word marks) .group ≡ 0
+recovery-group : (m w c : ℕ) (word marks : List ℕ) → ((recoverIn byteEdition m w c word marks) .number ≡ 9 → ⊥)
+    → (recoverIn byteEdition m w c word marks) .group ≡ 0
 unfolding recoverIn
-recovery-group m w c word marks = go (recoverRefusal m w c word marks)
+recovery-group m w c word marks = go (recoverRefusalIn byteLimits m w c word marks)
   where
     go : (r : ℕ) → ((unlessBefore r (recovered byteEdition m w c word marks) word marks) .number ≡ 9 → ⊥)
         → (unlessBefore r (recovered byteEdition m w c word marks) word marks) .group ≡ 0
@@ -123,7 +126,7 @@ module _ (word : List ℕ) (g : Gather) where
       })
 
   pub finish-recovered : finishRefusal (length word) g ≡ 0 → (word′ : List ℕ) (h : Gather) (a : Mending) → word′ ≡ (finishBy 0 word g) .word → h ≡ closed g
-      → a ≡ mendingAt ((recoveryOf g) .number) ((recoveryOf g) .group) → FinishGives (finishOf word g) word′ h a
+      → a ≡ mendingAt ((gatherRecovery g) .number) ((gatherRecovery g) .group) → FinishGives (finishOf word g) word′ h a
   unfolding finishOf
   finish-recovered e word′ h a d k q =
       subst (λ n. FinishGives (finishBy n word g) word′ h a) (sym e)
@@ -131,6 +134,6 @@ module _ (word : List ℕ) (g : Gather) where
         word-is = d;
         gather-is = k;
         answer-is = q;
-        number-is = ap mendingNumber q ∙ mending-number ((recoveryOf g) .number) ((recoveryOf g) .group);
+        number-is = ap mendingNumber q ∙ mending-number ((gatherRecovery g) .number) ((gatherRecovery g) .group);
         group-is = ap mendingGroup q ∙ mending-group _ _ (recovery-group (g .m) (g .w) (g .c) _ _);
       })

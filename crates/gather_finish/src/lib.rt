@@ -1,11 +1,11 @@
 // The service Finish, by value.
+use answers::Mending;
 use gather_record::Gather;
-use shape::Mending;
 ghost use mathlib.Core.Path.{_≡_};
 ghost use lib.ListN.{length};
-ghost use Rattle.shape.specs.Answers.{mendingAt};
-ghost use Rattle.shape.specs.Refusals.{unlessRefused};
-ghost use Rattle.gather_finish.specs.Finish.{finishRefusal, recoveryOf, finishOf, FinishGives};
+ghost use Rattle.answers.specs.Answers.{mendingAt};
+ghost use Rattle.code.specs.Refusals.{unlessRefused};
+ghost use Rattle.gather_finish.specs.Finish.{finishRefusal, gatherRecovery, finishOf, FinishGives};
 
 // What Finish answers, and the record then.
 pub struct AfterFinish {
@@ -38,8 +38,8 @@ fn finish_refusal(gather: Gather, size: usize) -> u8
 // Recovers a copy of what came, and writes it into the word if that is done.
 fn recover_copy(gather: Gather, word: &mut [u8]) -> Mending
     requires { ⌜ finishRefusal (length (now word)) gather ≡ 0 ⌝ }
-    ensures answer { λ r. ⌜ r ≡ mendingAt ((recoveryOf gather) .number) ((recoveryOf gather) .group) ⌝ }
-    ensures word { λ _. ⌜ now (word .exit) ≡ unlessRefused ((recoveryOf gather) .number) ((recoveryOf gather) .word) (now (word .entry)) ⌝ }
+    ensures answer { λ r. ⌜ r ≡ mendingAt ((gatherRecovery gather) .number) ((gatherRecovery gather) .group) ⌝ }
+    ensures word { λ _. ⌜ now (word .exit) ≡ unlessRefused ((gatherRecovery gather) .number) ((gatherRecovery gather) .word) (now (word .entry)) ⌝ }
 {
     let m = gather.m as usize;
     let w = gather.w as usize;

@@ -4,17 +4,18 @@ use mathlib.Core.Logic.{_↔_, _⊎_}
 use mathlib.Core.List.{List}
 use Prim.Native.Nat.{ℕ}
 use lib.ListN.{length}
-use Rattle.shape.specs.Shapes.{Good}
-use Rattle.judge.specs.Judgement.{judgedNumberOf}
+use Rattle.shape.specs.Shapes.{byteLimits}
+use Rattle.code.specs.Limits.{GoodIn}
+use Rattle.code_services.specs.Judge.{judgedNumberIn}
 use Rattle.gather_record.specs.declared.Gather.{Gather}
-use Rattle.gather_record.specs.Record.{Whole, marksOf, gatherRefusal, begun, beginOf}
+use Rattle.gather_record.specs.Record.{Whole, gatherMarks, gatherRefusal, begun, beginOf}
 use Rattle.gather_take.specs.Take.{takeOf}
 use Rattle.gather_finish.specs.Finish.{finishRefusal, closed, Finishing, finishOf}
-use Rattle.gather_history.specs.History.{Call, run, AllAnswer}
+use Rattle.gather_history.specs.History.{GatherCall, run, AllAnswer}
 
 -- "A finished gather takes no more": every take and every finish gets 22 and leaves it as it is, in any list of calls
 abbrev pub ClosedHolds : Type 0
-ClosedHolds = (g : Gather) → gatherRefusal g ≡ 22 → (ks : List Call) → (run ks g ≡ g) × AllAnswer 22 ks g
+ClosedHolds = (g : Gather) → gatherRefusal g ≡ 22 → (ks : List GatherCall) → (run ks g ≡ g) × AllAnswer 22 ks g
 
 -- a finish that is not refused by 1 to 4, 6, 22 or 5 finishes the gather: one that is done, and "a finish that meets 8 or 9" too
 abbrev pub FinishesHolds : Type 0
@@ -23,7 +24,7 @@ FinishesHolds = (g : Gather) (word : List ℕ) → finishRefusal (length word) g
 -- a gather that has begun with a good shape is never refused 1 to 4 or 6: it is open, or it is finished
 abbrev pub GrownHolds : Type 0
 GrownHolds =
-    (m w c : ℕ) → Good m w c → (ks : List Call) → (gatherRefusal (run ks (begun m w c)) ≡ 0) ⊎ (gatherRefusal (run ks (begun m w c)) ≡ 22)
+    (m w c : ℕ) → GoodIn byteLimits m w c → (ks : List GatherCall) → (gatherRefusal (run ks (begun m w c)) ≡ 0) ⊎ (gatherRefusal (run ks (begun m w c)) ≡ 22)
 
 -- What a finish leaves, by its number. Done, it sets the finished mark. "A finish that meets 8 or 9 still finishes the gather [..] (the gather's
 -- own record alone changes), and writes no word." Any other refusal changes nothing.
@@ -43,4 +44,4 @@ RefusalsHold =
 abbrev pub JudgeHolds : Type 0
 JudgeHolds =
     (g : Gather) → Whole g → (word : List ℕ) → finishRefusal (length word) g ≡ 0
-    → ((finishOf word g) .number ≡ 8) ↔ (judgedNumberOf (g .m) (g .w) (g .c) (marksOf g) ≡ 8)
+    → ((finishOf word g) .number ≡ 8) ↔ (judgedNumberIn byteLimits (g .m) (g .w) (g .c) (gatherMarks g) ≡ 8)

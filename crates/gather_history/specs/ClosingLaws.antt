@@ -7,10 +7,11 @@ use Prim.Native.Nat.{ℕ, zero, suc, _*_, _^_, _<_}
 use native.Mathlib.Omega.{arith}
 use lib.Dec.{ltb}
 use lib.ListN.{length, getD, getD-replicate}
-use Rattle.shape.specs.Refusals.{refuse}
-use Rattle.shape.specs.RefusalsLaws.{unless-refused}
-use Rattle.shape.specs.Shapes.{Good, shapeRefusal}
-use Rattle.shape.specs.Laws.{places-most, refusal-of-good, word-of-good}
+use Rattle.code.specs.Refusals.{refuse}
+use Rattle.code.specs.RefusalsLaws.{unless-refused}
+use Rattle.shape.specs.Shapes.{byteLimits}
+use Rattle.code.specs.Limits.{GoodIn, shapeRefusalIn}
+use Rattle.code.specs.LimitsLaws.{refusal-of-good, places-most, word-of-good}
 use Rattle.byte_edition.specs.Edition.{byteEdition}
 use Rattle.code.specs.Word.{isCodeword}
 use Rattle.code.specs.Marks.{excess}
@@ -18,16 +19,16 @@ use Rattle.code.specs.Contradiction.{contradictingGroup}
 use Rattle.code.specs.Outcome.{eight, nine, done}
 use Rattle.code.specs.OutcomeLaws.{cases}
 use Rattle.code.specs.Recovery.{recovered}
-use Rattle.judge.specs.Judgement.{judgedNumberOf, judgedNumberIn}
-use Rattle.recover.specs.Recover.{unlessBefore, recoverRefusal, recoverRefusalIn, recoverIn}
+use Rattle.code_services.specs.Judge.{judgedNumberIn}
+use Rattle.code_services.specs.Recover.{unlessBefore, recoverRefusalIn, recoverIn}
 use Rattle.gather_record.specs.declared.Gather.{Gather}
-use Rattle.gather_record.specs.Record.{Whole, placesOf, bytesOf, marksOf, gatherRefusal, begun, gatheringBy, beginOf}
+use Rattle.gather_record.specs.Record.{Whole, gatherPlaces, gatherBytes, gatherMarks, gatherRefusal, begun, gatheringBy, beginOf}
 use Rattle.gather_record.specs.RecordLaws.{Open, open-unrefused, open-marks, marks-open, begun-whole, bytes-size, marks-number}
 use Rattle.gather_take.specs.Take.{takeRefusal, taken, takeOf}
 use Rattle.gather_take.specs.TakeLaws.{take-record}
-use Rattle.gather_finish.specs.Finish.{finishRefusal, recoveryOf, closed, finishBy, finishOf}
+use Rattle.gather_finish.specs.Finish.{finishRefusal, gatherRecovery, closed, finishBy, finishOf}
 use Rattle.gather_finish.specs.FinishLaws.{finish-record, finish-numbers, finish-parts}
-use Rattle.gather_history.specs.History.{Stretch, numberOf, leaves, Call, Take, Finish, answers, left, run, AllAnswer}
+use Rattle.gather_history.specs.History.{Stretch, takeNumber, leaves, GatherCall, Take, Finish, gatherAnswer, left, run, AllAnswer}
 use Rattle.gather_history.specs.Closing.{ClosedHolds, FinishesHolds, GrownHolds, FinishLeaves, RefusalsHold, JudgeHolds}
 use Rattle.gather_history.specs.StretchOrderLaws.{leaves-same, takeable, inside-or, Stretched, stretched}
 
@@ -46,12 +47,12 @@ module _ (g : Gather) (e : gatherRefusal g ≡ 22) where
   unfolding finishOf
   finish-closed word = ap (λ n. finishBy n word g) (finish-record (length word) g some ∙ e)
 
-  answers-closed : (k : Call) → answers k g ≡ 22
-  unfolding answers
+  answers-closed : (k : GatherCall) → gatherAnswer k g ≡ 22
+  unfolding gatherAnswer
   answers-closed (Take s) = ap (λ o. o .number) (take-closed (s .first) (s .bytes))
   answers-closed (Finish word) = ap (λ o. o .number) (finish-closed word)
 
-  left-closed : (k : Call) → left k g ≡ g
+  left-closed : (k : GatherCall) → left k g ≡ g
   unfolding left
   left-closed (Take s) = ap (λ o. o .gather) (take-closed (s .first) (s .bytes))
   left-closed (Finish word) = ap (λ o. o .gather) (finish-closed word)
@@ -86,21 +87,21 @@ record Fair (g : Gather) : Type 0 where
   whole : Whole g
   refusal : (gatherRefusal g ≡ 0) ⊎ (gatherRefusal g ≡ 22)
 
-taken-open : (s : Stretch) (g : Gather) → Whole g → numberOf s g ≡ 0 → Open (leaves s g)
+taken-open : (s : Stretch) (g : Gather) → Whole g → takeNumber s g ≡ 0 → Open (leaves s g)
 taken-open s g W e =
     let S = stretched s g W e in
     let O = takeable s g e .opened in
-    let good : Good (leaves s g .m) (leaves s g .w) (leaves s g .c) = rw (S .m-same, S .w-same, S .c-same) (O .good) in
+    let good : GoodIn byteLimits (leaves s g .m) (leaves s g .w) (leaves s g .c) = rw (S .m-same, S .w-same, S .c-same) (O .good) in
     record { good = good; marked = marks-open (leaves s g) (S .whole) good (few S O); unfinished = S .finished-same ∙ O .unfinished }
   where
-    few : Stretched s g (leaves s g) → Open g → (p : ℕ) → p < placesOf (leaves s g) → getD (leaves s g .marks) p 0 < 2
+    few : Stretched s g (leaves s g) → Open g → (p : ℕ) → p < gatherPlaces (leaves s g) → getD (leaves s g .marks) p 0 < 2
     few S O p l = elim (inside-or s p) [
       | inl w ↦ (
           let k : getD (leaves s g .marks) p 0 ≡ 0 = ap (λ q. getD (leaves s g .marks) q 0) (w .2) ∙ S .inner (w .0) (w .1) .1 in
           omega arith
           )
       | inr o ↦ (
-          let h : p < placesOf g = subst (λ n. p < n) (ap₂ (λ a b. a * b) (S .m-same) (S .w-same)) l in
+          let h : p < gatherPlaces g = subst (λ n. p < n) (ap₂ (λ a b. a * b) (S .m-same) (S .w-same)) l in
           let k = open-marks g O p h in
           let q = S .outer p o .1 in
           omega arith
@@ -108,9 +109,9 @@ taken-open s g W e =
     ]
 
 fair-take : (s : Stretch) (g : Gather) → Fair g → Fair (leaves s g)
-fair-take s g F = go (numberOf s g) refl
+fair-take s g F = go (takeNumber s g) refl
   where
-    go : (r : ℕ) → numberOf s g ≡ r → Fair (leaves s g)
+    go : (r : ℕ) → takeNumber s g ≡ r → Fair (leaves s g)
     go zero e = record { whole = stretched s g (F .whole) e .whole; refusal = inl (open-unrefused (leaves s g) (taken-open s g (F .whole) e)) }
     go (suc r) e = subst Fair (sym (leaves-same s g r e)) F
 
@@ -125,13 +126,13 @@ fair-finish word g F = go (finishRefusal (length word) g) refl
     }
     go (suc r) e = F
 
-fair-run : (ks : List Call) (g : Gather) → Fair g → Fair (run ks g)
+fair-run : (ks : List GatherCall) (g : Gather) → Fair g → Fair (run ks g)
 unfolding run left
 fair-run [] g F = F
 fair-run (Take s ∷ ks) g F = fair-run ks (leaves s g) (fair-take s g F)
 fair-run (Finish word ∷ ks) g F = fair-run ks ((finishOf word g) .gather) (fair-finish word g F)
 
-begun-open : (m w c : ℕ) → Good m w c → Open (begun m w c)
+begun-open : (m w c : ℕ) → GoodIn byteLimits m w c → Open (begun m w c)
 unfolding begun
 begun-open m w c good = record {
   good = good;
@@ -141,8 +142,8 @@ begun-open m w c good = record {
 }
 
 -- a record that these calls alone have made is never bad
-pub grown : GrownHolds
-grown m w c good ks =
+pub gather-grown : GrownHolds
+gather-grown m w c good ks =
     fair-run ks (begun m w c) (record { whole = begun-whole m w c; refusal = inl (open-unrefused (begun m w c) (begun-open m w c good)) }) .refusal
 
 -- ---- what a refusal leaves
@@ -154,40 +155,40 @@ kept (suc r) new old some = refl
 -- the recovery of an open record gives 8 if the excess is above two, else 9 or 0
 module _ (g : Gather) (W : Whole g) (O : Open g) where
   large : Bool
-  large = ltb 2 (excess (g .m) (g .w) (g .c) (marksOf g))
+  large = ltb 2 (excess (g .m) (g .w) (g .c) (gatherMarks g))
 
-  accepted : recoverRefusal (g .m) (g .w) (g .c) (bytesOf g) (marksOf g) ≡ 0
+  accepted : recoverRefusalIn byteLimits (g .m) (g .w) (g .c) (gatherBytes g) (gatherMarks g) ≡ 0
   unfolding recoverRefusalIn
-  accepted = simp (word-of-good (g .m) (g .w) (g .c) (length (bytesOf g)) (O .good) (bytes-size g (O .good) W), marks-number g (O .good) W, O .marked)
+  accepted = simp (word-of-good (g .m) (g .w) (g .c) (length (gatherBytes g)) (O .good) (bytes-size g (O .good) W), marks-number g (O .good) W, O .marked)
 
-  recovery-is : recoveryOf g ≡ recovered byteEdition (g .m) (g .w) (g .c) (bytesOf g) (marksOf g)
+  recovery-is : gatherRecovery g ≡ recovered byteEdition (g .m) (g .w) (g .c) (gatherBytes g) (gatherMarks g)
   unfolding recoverIn
-  recovery-is = ap (λ r. unlessBefore r (recovered byteEdition (g .m) (g .w) (g .c) (bytesOf g) (marksOf g)) (bytesOf g) (marksOf g)) accepted
+  recovery-is = ap (λ r. unlessBefore r (recovered byteEdition (g .m) (g .w) (g .c) (gatherBytes g) (gatherMarks g)) (gatherBytes g) (gatherMarks g)) accepted
 
-  by-large : ((large ≡ true) × ((recoveryOf g) .number ≡ 8)) ⊎ ((large ≡ false) × (((recoveryOf g) .number ≡ 9) ⊎ ((recoveryOf g) .number ≡ 0)))
+  by-large : ((large ≡ true) × ((gatherRecovery g) .number ≡ 8)) ⊎ ((large ≡ false) × (((gatherRecovery g) .number ≡ 9) ⊎ ((gatherRecovery g) .number ≡ 0)))
   unfolding large
-  by-large = elim (cases (2 ^ byteEdition .bits) (isCodeword byteEdition (g .m) (g .w) (g .c)) (ltb 2 (excess (g .m) (g .w) (g .c) (marksOf g)))
-      (contradictingGroup byteEdition (g .m) (g .w) (g .c) (bytesOf g) (marksOf g)) (bytesOf g) (marksOf g)) [
+  by-large = elim (cases (2 ^ byteEdition .bits) (isCodeword byteEdition (g .m) (g .w) (g .c)) (ltb 2 (excess (g .m) (g .w) (g .c) (gatherMarks g)))
+      (contradictingGroup byteEdition (g .m) (g .w) (g .c) (gatherBytes g) (gatherMarks g)) (gatherBytes g) (gatherMarks g)) [
         | eight e q ↦ inl (e, ap (λ o. o .number) (recovery-is ∙ q))
         | nine e _ q ↦ inr (e, inl (ap (λ o. o .number) (recovery-is ∙ q)))
         | done e x _ q ↦ inr (e, inr (ap (λ o. o .number) (recovery-is ∙ q)))
       ]
 
-  judged-is : judgedNumberOf (g .m) (g .w) (g .c) (marksOf g) ≡ refuse 8 large
+  judged-is : judgedNumberIn byteLimits (g .m) (g .w) (g .c) (gatherMarks g) ≡ refuse 8 large
   unfolding judgedNumberIn large
   judged-is = simp (marks-number g (O .good) W, O .marked)
 
-  recovery-numbers : ((recoveryOf g) .number ≡ 0) ⊎ (((recoveryOf g) .number ≡ 8) ⊎ ((recoveryOf g) .number ≡ 9))
+  recovery-numbers : ((gatherRecovery g) .number ≡ 0) ⊎ (((gatherRecovery g) .number ≡ 8) ⊎ ((gatherRecovery g) .number ≡ 9))
   recovery-numbers = elim by-large [
     | inl h ↦ inr (inl (h .1))
     | inr h ↦ elim (h .1) [ inl n ↦ inr (inr n) | inr z ↦ inl z ]
   ]
 
-  judged-eight : ((recoveryOf g) .number ≡ 8) ↔ (judgedNumberOf (g .m) (g .w) (g .c) (marksOf g) ≡ 8)
+  judged-eight : ((gatherRecovery g) .number ≡ 8) ↔ (judgedNumberIn byteLimits (g .m) (g .w) (g .c) (gatherMarks g) ≡ 8)
   judged-eight = elim by-large [
     | inl h ↦ (λ _. judged-is ∙ ap (refuse 8) (h .0), λ _. h .1)
     | inr h ↦ (
-        let j : judgedNumberOf (g .m) (g .w) (g .c) (marksOf g) ≡ 0 = judged-is ∙ ap (refuse 8) (h .0) in
+        let j : judgedNumberIn byteLimits (g .m) (g .w) (g .c) (gatherMarks g) ≡ 0 = judged-is ∙ ap (refuse 8) (h .0) in
         (λ e. absurd (elim (h .1) [ inl n ↦ omega arith | inr z ↦ omega arith ]), λ e. absurd (omega arith))
         )
   ]
@@ -224,7 +225,7 @@ finish-leaves g W word = go (finishRefusal (length word) g) refl
 pub refusals : RefusalsHold
 unfolding beginOf takeOf
 refusals g = (
-  λ m w c some. kept (shapeRefusal m w c) (begun m w c) g some,
+  λ m w c some. kept (shapeRefusalIn byteLimits m w c) (begun m w c) g some,
   λ first new some. kept (takeRefusal first (length new) g) (taken first new g) g some,
   finish-leaves g,
 )
@@ -233,6 +234,6 @@ refusals g = (
 pub judge-tells : JudgeHolds
 unfolding finishOf
 judge-tells g W word e =
-    let n : (finishOf word g) .number ≡ (recoveryOf g) .number = ap (λ r. (finishBy r word g) .number) e in
+    let n : (finishOf word g) .number ≡ (gatherRecovery g) .number = ap (λ r. (finishBy r word g) .number) e in
     let q = judged-eight g W (finish-parts (length word) g e .opened) in
     (λ h. q .0 (sym n ∙ h), λ h. n ∙ q .1 h)

@@ -8,22 +8,23 @@ use native.Mathlib.Omega.{arith}
 use lib.Dec.{T, eqb}
 use lib.ListN.{length, take, getD, getD-replicate}
 use lib.Seq.{ext-getD, getD-take, length-take-le}
-use Rattle.shape.specs.Refusals.{unlessRefused}
-use Rattle.shape.specs.RefusalsLaws.{unless-refused}
-use Rattle.shape.specs.Shapes.{Good}
-use Rattle.shape.specs.Laws.{places-most}
+use Rattle.code.specs.Refusals.{unlessRefused}
+use Rattle.code.specs.RefusalsLaws.{unless-refused}
+use Rattle.shape.specs.Shapes.{byteLimits}
+use Rattle.code.specs.Limits.{GoodIn}
+use Rattle.code.specs.LimitsLaws.{places-most}
 use Rattle.byte_edition.specs.Edition.{byteEdition}
 use Rattle.code.specs.Marks.{lost, Agree}
 use Rattle.code.specs.Outcome.{Outcome, SameEnd}
-use Rattle.recover.specs.Recover.{recoverOf}
-use Rattle.recover.specs.DemandTwoLaws.{lost-bytes}
+use Rattle.code_services.specs.RecoverDemandLaws.{lost-bytes}
+use Rattle.code_services.specs.Recover.{recoverIn}
 use Rattle.gather_record.specs.declared.Gather.{Gather}
-use Rattle.gather_record.specs.Record.{Whole, placesOf, bytesOf, marksOf, gatherRefusal, begun}
+use Rattle.gather_record.specs.Record.{Whole, gatherPlaces, gatherBytes, gatherMarks, gatherRefusal, begun}
 use Rattle.gather_record.specs.RecordLaws.{Open, open-unrefused, marks-open, begun-whole, bytes-size, marks-size}
-use Rattle.gather_finish.specs.Finish.{finishRefusal, recoveryOf, closed, finishBy, finishOf}
+use Rattle.gather_finish.specs.Finish.{finishRefusal, gatherRecovery, closed, finishBy, finishOf}
 use Rattle.gather_finish.specs.FinishLaws.{finish-fit, finish-parts}
-use Rattle.gather_history.specs.History.{Stretch, after, Unrefused, Brings}
-use Rattle.gather_history.specs.StretchOrder.{Gathered, Holds, FinishesAs, FinishHolds, Alike, IdleHolds}
+use Rattle.gather_history.specs.History.{Stretch, afterStretches, Unrefused, Brings}
+use Rattle.gather_history.specs.StretchOrder.{Gathered, HoldsStretches, FinishesAs, FinishHolds, Alike, IdleHolds}
 use Rattle.gather_history.specs.StretchOrderLaws.{brought-or, brought-inside, gathered}
 
 -- two recoveries that end alike give the same word to a lent one
@@ -36,41 +37,43 @@ same-word a b lent S = go (a .number) refl
         let some : a .number ≡ 0 → ⊥ = λ z. omega arith in
         unless-refused _ _ _ some ∙ sym (unless-refused _ _ _ (λ z. some (S .number ∙ z)))
 
-recovery-of : (g : Gather) (m w c : ℕ) → g .m ≡ m → g .w ≡ w → g .c ≡ c → recoveryOf g ≡ recoverOf m w c (take (m * w) (g .bytes)) (take (m * w) (g .marks))
+recovery-of : (g : Gather) (m w c : ℕ) → g .m ≡ m → g .w ≡ w → g .c ≡ c
+    → gatherRecovery g ≡ recoverIn byteEdition m w c (take (m * w) (g .bytes)) (take (m * w) (g .marks))
 recovery-of g m w c em ew ec = cc
 
-module _ (m w c : ℕ) (good : Good m w c) (ss : List Stretch) (u : Unrefused ss (begun m w c)) where
-  G : Gathered ss (begun m w c) (after ss (begun m w c))
+module _ (m w c : ℕ) (good : GoodIn byteLimits m w c) (ss : List Stretch) (u : Unrefused ss (begun m w c)) where
+  G : Gathered ss (begun m w c) (afterStretches ss (begun m w c))
   G = gathered ss (begun m w c) (begun-whole m w c) u
 
   -- a place that never came is still marked as lost
-  never-marked : (p : ℕ) → p < 240 → ((x : ℕ) → Brings p x ss → ⊥) → getD (after ss (begun m w c) .marks) p 0 ≡ 1
+  never-marked : (p : ℕ) → p < 240 → ((x : ℕ) → Brings p x ss → ⊥) → getD (afterStretches ss (begun m w c) .marks) p 0 ≡ 1
   unfolding begun
   never-marked p l n = G .other p n .1 ∙ getD-replicate 240 p 1 0 l
 
-  m-is : after ss (begun m w c) .m ≡ m
+  m-is : afterStretches ss (begun m w c) .m ≡ m
   unfolding begun
   m-is = G .m-same
 
-  w-is : after ss (begun m w c) .w ≡ w
+  w-is : afterStretches ss (begun m w c) .w ≡ w
   unfolding begun
   w-is = G .w-same
 
-  c-is : after ss (begun m w c) .c ≡ c
+  c-is : afterStretches ss (begun m w c) .c ≡ c
   unfolding begun
   c-is = G .c-same
 
-  now-open : Open (after ss (begun m w c))
+  now-open : Open (afterStretches ss (begun m w c))
   unfolding begun
   now-open =
-      let g : Good (after ss (begun m w c) .m) (after ss (begun m w c) .w) (after ss (begun m w c) .c) = rw (m-is, w-is, c-is) good in
+      let g : GoodIn byteLimits (afterStretches ss (begun m w c) .m) (afterStretches ss (begun m w c) .w) (afterStretches ss (begun m w c) .c) = rw
+      (m-is, w-is, c-is) good in
       record {
         good = g;
-        marked = marks-open (after ss (begun m w c)) (G .whole) g (λ p l. let k = places-most g in few p (omega arith));
+        marked = marks-open (afterStretches ss (begun m w c)) (G .whole) g (λ p l. let k = places-most g in few p (omega arith));
         unfinished = G .finished-same;
       }
     where
-      few : (p : ℕ) → p < 240 → getD (after ss (begun m w c) .marks) p 0 < 2
+      few : (p : ℕ) → p < 240 → getD (afterStretches ss (begun m w c) .marks) p 0 < 2
       few p l = elim (brought-or p ss) [
         | inl b ↦ omega (arith, G .came p (b .0) (b .1) .1)
         | inr n ↦ omega (arith, never-marked p l n)
@@ -80,7 +83,7 @@ module _ (m w c : ℕ) (good : Good m w c) (ss : List Stretch) (u : Unrefused ss
   long = places-most good
 
   -- the record's own word and marks hold what came
-  pub holds-itself : Holds (m * w) ss (take (m * w) (after ss (begun m w c) .bytes)) (take (m * w) (after ss (begun m w c) .marks))
+  pub holds-itself : HoldsStretches (m * w) ss (take (m * w) (afterStretches ss (begun m w c) .bytes)) (take (m * w) (afterStretches ss (begun m w c) .marks))
   unfolding begun
   holds-itself = record {
     word-size = length-take-le (m * w) _ (omega (arith, long, G .whole .bytes-long));
@@ -92,8 +95,8 @@ module _ (m w c : ℕ) (good : Good m w c) (ss : List Stretch) (u : Unrefused ss
     never = λ p l n. getD-take (m * w) _ p 0 l ∙ never-marked p (omega (arith, long)) n;
   }
 
-  module _ (word marks : List ℕ) (H : Holds (m * w) ss word marks) where
-    marks-are : take (m * w) (after ss (begun m w c) .marks) ≡ marks
+  module _ (word marks : List ℕ) (H : HoldsStretches (m * w) ss word marks) where
+    marks-are : take (m * w) (afterStretches ss (begun m w c) .marks) ≡ marks
     marks-are =
         let I = holds-itself in
         ext-getD 0 _ marks (I .marks-size ∙ sym (H .marks-size)) (λ p l. elim (brought-or p ss) [
@@ -101,7 +104,7 @@ module _ (m w c : ℕ) (good : Good m w c) (ss : List Stretch) (u : Unrefused ss
           | inr n ↦ (let k : p < m * w = omega (arith, I .marks-size) in I .never p k n ∙ sym (H .never p k n))
         ])
 
-    words-agree : Agree (length (take (m * w) (after ss (begun m w c) .bytes))) marks (take (m * w) (after ss (begun m w c) .bytes)) word
+    words-agree : Agree (length (take (m * w) (afterStretches ss (begun m w c) .bytes))) marks (take (m * w) (afterStretches ss (begun m w c) .bytes)) word
     words-agree p l e = elim (brought-or p ss) [
       | inl b ↦ holds-itself .came p (b .0) (b .1) .0 ∙ sym (H .came p (b .0) (b .1) .0)
       | inr n ↦ (
@@ -111,19 +114,22 @@ module _ (m w c : ℕ) (good : Good m w c) (ss : List Stretch) (u : Unrefused ss
           )
     ]
 
-    same-end : SameEnd (recoveryOf (after ss (begun m w c))) (recoverOf m w c word marks)
+    same-end : SameEnd (gatherRecovery (afterStretches ss (begun m w c))) (recoverIn byteEdition m w c word marks)
     same-end =
-        subst (λ o. SameEnd o (recoverOf m w c word marks))
-        (sym (recovery-of (after ss (begun m w c)) m w c m-is w-is c-is ∙ ap (recoverOf m w c (take (m * w) (after ss (begun m w c) .bytes))) marks-are))
-        (lost-bytes byteEdition m w c (take (m * w) (after ss (begun m w c) .bytes)) word marks (holds-itself .word-size ∙ sym (H .word-size)) words-agree)
+        subst (λ o. SameEnd o (recoverIn byteEdition m w c word marks))
+        (sym (recovery-of (afterStretches ss (begun m w c)) m w c m-is w-is c-is
+        ∙ ap (recoverIn byteEdition m w c (take (m * w) (afterStretches ss (begun m w c) .bytes))) marks-are))
+        (lost-bytes byteEdition m w c (take (m * w) (afterStretches ss (begun m w c) .bytes)) word marks
+        (holds-itself .word-size ∙ sym (H .word-size)) words-agree)
 
 -- the finish of an open record
-by-recovery : (g : Gather) (lent : List ℕ) (r : Outcome) → finishRefusal (length lent) g ≡ 0 → SameEnd (recoveryOf g) r → FinishesAs (finishOf lent g) lent r
+by-recovery : (g : Gather) (lent : List ℕ) (r : Outcome) → finishRefusal (length lent) g ≡ 0 → SameEnd (gatherRecovery g) r
+    → FinishesAs (finishOf lent g) lent r
 unfolding finishOf
 by-recovery g lent r e S = subst (λ n. FinishesAs (finishBy n lent g) lent r) (sym e) (record {
   number = S .number;
   group = S .group;
-  word = λ z. ap (λ n. unlessRefused n ((recoveryOf g) .word) lent) z ∙ S .word z;
+  word = λ z. ap (λ n. unlessRefused n ((gatherRecovery g) .word) lent) z ∙ S .word z;
   kept = λ n. unless-refused _ _ _ n;
   closed = refl;
 })
@@ -131,35 +137,35 @@ by-recovery g lent r e S = subst (λ n. FinishesAs (finishBy n lent g) lent r) (
 -- the finish answers as Recover does
 pub finish-recovers : FinishHolds
 finish-recovers m w c good ss u word marks H lent size =
-    by-recovery (after ss (begun m w c)) lent (recoverOf m w c word marks)
-    (finish-fit (length lent) (after ss (begun m w c)) (open-unrefused (after ss (begun m w c)) (now-open m w c good ss u))
+    by-recovery (afterStretches ss (begun m w c)) lent (recoverIn byteEdition m w c word marks)
+    (finish-fit (length lent) (afterStretches ss (begun m w c)) (open-unrefused (afterStretches ss (begun m w c)) (now-open m w c good ss u))
     (size ∙ sym (ap₂ (λ a b. a * b) (m-is m w c good ss u) (w-is m w c good ss u))))
     (same-end m w c good ss u word marks H)
 
 -- ---- bytes in places that never came
 
 module _ (g : Gather) (others : List ℕ) (W : Whole g) (size : length others ≡ 240)
-    (agree : (p : ℕ) → p < placesOf g → lost (g .marks) p ≡ false → getD (g .bytes) p 0 ≡ getD others p 0) where
+    (agree : (p : ℕ) → p < gatherPlaces g → lost (g .marks) p ≡ false → getD (g .bytes) p 0 ≡ getD others p 0) where
   abbrev other : Gather
   other = record { m = g .m; w = g .w; c = g .c; finished = g .finished; bytes = others; marks = g .marks }
 
-  recoveries : Good (g .m) (g .w) (g .c) → SameEnd (recoveryOf g) (recoveryOf other)
+  recoveries : GoodIn byteLimits (g .m) (g .w) (g .c) → SameEnd (gatherRecovery g) (gatherRecovery other)
   recoveries good =
       let k = places-most good in
-      lost-bytes byteEdition (g .m) (g .w) (g .c) (bytesOf g) (take (placesOf g) others) (marksOf g)
-      (bytes-size g good W ∙ sym (length-take-le (placesOf g) others (omega (arith, size)))) same
+      lost-bytes byteEdition (g .m) (g .w) (g .c) (gatherBytes g) (take (gatherPlaces g) others) (gatherMarks g)
+      (bytes-size g good W ∙ sym (length-take-le (gatherPlaces g) others (omega (arith, size)))) same
     where
-      same : Agree (length (bytesOf g)) (marksOf g) (bytesOf g) (take (placesOf g) others)
+      same : Agree (length (gatherBytes g)) (gatherMarks g) (gatherBytes g) (take (gatherPlaces g) others)
       same p l e =
-          let h : p < placesOf g = omega (arith, bytes-size g good W) in
-          getD-take (placesOf g) (g .bytes) p 0 h
-          ∙ agree p h (ap (λ b. eqb b 1) (sym (getD-take (placesOf g) (g .marks) p 0 h)) ∙ e)
-          ∙ sym (getD-take (placesOf g) others p 0 h)
+          let h : p < gatherPlaces g = omega (arith, bytes-size g good W) in
+          getD-take (gatherPlaces g) (g .bytes) p 0 h
+          ∙ agree p h (ap (λ b. eqb b 1) (sym (getD-take (gatherPlaces g) (g .marks) p 0 h)) ∙ e)
+          ∙ sym (getD-take (gatherPlaces g) others p 0 h)
 
   alike-by : (word : List ℕ) (r : ℕ) → finishRefusal (length word) g ≡ r → Alike (finishBy r word g) (finishBy r word other)
   alike-by word zero e =
       let S = recoveries (finish-parts (length word) g e .opened .good) in
-      record { number = S .number; group = S .group; word = same-word (recoveryOf g) (recoveryOf other) word S; closed = refl }
+      record { number = S .number; group = S .group; word = same-word (gatherRecovery g) (gatherRecovery other) word S; closed = refl }
   alike-by word (suc r) e = record { number = refl; group = refl; word = refl; closed = refl }
 
   alike : (word : List ℕ) → Alike (finishOf word g) (finishOf word other)

@@ -14,22 +14,22 @@ pub record Stretch : Type 0 where
   pub bytes : List ℕ
 
 -- the number that a take of the stretch gives
-abbrev pub numberOf : Stretch → Gather → ℕ
-numberOf s g = (takeOf (s .first) (s .bytes) g) .number
+abbrev pub takeNumber : Stretch → Gather → ℕ
+takeNumber s g = (takeOf (s .first) (s .bytes) g) .number
 
 -- the record that it leaves
 abbrev pub leaves : Stretch → Gather → Gather
 leaves s g = (takeOf (s .first) (s .bytes) g) .gather
 
 -- the record after a list of stretches, the first first, each on what the one before it left
-unfoldable pub after : List Stretch → Gather → Gather
-after [] g = g
-after (s ∷ ss) g = after ss (leaves s g)
+unfoldable pub afterStretches : List Stretch → Gather → Gather
+afterStretches [] g = g
+afterStretches (s ∷ ss) g = afterStretches ss (leaves s g)
 
 -- "Where no stretch is refused"
 unfoldable pub Unrefused : List Stretch → Gather → Type 0
 Unrefused [] g = Unit
-Unrefused (s ∷ ss) g = (numberOf s g ≡ 0) × Unrefused ss (leaves s g)
+Unrefused (s ∷ ss) g = (takeNumber s g ≡ 0) × Unrefused ss (leaves s g)
 
 -- the stretch, if its number is 0, before the rest
 abbrev pub keepIf : ℕ → Stretch → List Stretch → List Stretch
@@ -39,7 +39,7 @@ keepIf (suc r) s ss = ss
 -- the list without its refused stretches
 unfoldable pub accepted : List Stretch → Gather → List Stretch
 accepted [] g = []
-accepted (s ∷ ss) g = keepIf (numberOf s g) s (accepted ss (leaves s g))
+accepted (s ∷ ss) g = keepIf (takeNumber s g) s (accepted ss (leaves s g))
 
 -- a stretch brings byte x to place p
 pub record BringsOne (p x : ℕ) (s : Stretch) : Type 0 where
@@ -59,26 +59,26 @@ pub record SameBrought (ss us : List Stretch) : Type 0 where
   pub back : (p x : ℕ) → Brings p x us → Brings p x ss
 
 -- The calls on a gather that has begun.
-pub data Call : Type 0 where
-  Take : Stretch → Call
-  Finish : (word : List ℕ) → Call
+pub data GatherCall : Type 0 where
+  Take : Stretch → GatherCall
+  Finish : (word : List ℕ) → GatherCall
 
 -- the number that a call gives
-unfoldable pub answers : Call → Gather → ℕ
-answers (Take s) g = numberOf s g
-answers (Finish word) g = (finishOf word g) .number
+unfoldable pub gatherAnswer : GatherCall → Gather → ℕ
+gatherAnswer (Take s) g = takeNumber s g
+gatherAnswer (Finish word) g = (finishOf word g) .number
 
 -- the record that it leaves
-unfoldable pub left : Call → Gather → Gather
+unfoldable pub left : GatherCall → Gather → Gather
 left (Take s) g = leaves s g
 left (Finish word) g = (finishOf word g) .gather
 
 -- the record after a list of calls, the first first
-unfoldable pub run : List Call → Gather → Gather
+unfoldable pub run : List GatherCall → Gather → Gather
 run [] g = g
 run (k ∷ ks) g = run ks (left k g)
 
 -- every call of a list gives this number
-unfoldable pub AllAnswer : ℕ → List Call → Gather → Type 0
+unfoldable pub AllAnswer : ℕ → List GatherCall → Gather → Type 0
 AllAnswer r [] g = Unit
-AllAnswer r (k ∷ ks) g = (answers k g ≡ r) × AllAnswer r ks (left k g)
+AllAnswer r (k ∷ ks) g = (gatherAnswer k g ≡ r) × AllAnswer r ks (left k g)

@@ -4,14 +4,16 @@ use mathlib.Core.Bool.{false}
 use mathlib.Core.List.{List}
 use Prim.Native.Nat.{ℕ, _*_, _<_}
 use lib.ListN.{length, getD}
-use Rattle.shape.specs.Shapes.{Good}
+use Rattle.shape.specs.Shapes.{byteLimits}
 use Rattle.code.specs.Marks.{lost}
 use Rattle.code.specs.Outcome.{Outcome}
-use Rattle.recover.specs.Recover.{recoverOf}
+use Rattle.code.specs.Limits.{GoodIn}
+use Rattle.byte_edition.specs.Edition.{byteEdition}
+use Rattle.code_services.specs.Recover.{recoverIn}
 use Rattle.gather_record.specs.declared.Gather.{Gather}
-use Rattle.gather_record.specs.Record.{Whole, placesOf, begun}
+use Rattle.gather_record.specs.Record.{Whole, gatherPlaces, begun}
 use Rattle.gather_finish.specs.Finish.{Finishing, finishOf}
-use Rattle.gather_history.specs.History.{Stretch, after, Unrefused, accepted, Brings, SameBrought}
+use Rattle.gather_history.specs.History.{Stretch, afterStretches, Unrefused, accepted, Brings, SameBrought}
 
 -- The record after stretches none of which is refused is given by the places and bytes that came, and by nothing else.
 pub record Gathered (ss : List Stretch) (before now : Gather) : Type 0 where
@@ -27,21 +29,21 @@ pub record Gathered (ss : List Stretch) (before now : Gather) : Type 0 where
 
 -- the statement, of every record
 abbrev pub GatheredHolds : Type 0
-GatheredHolds = (ss : List Stretch) (g : Gather) → Whole g → Unrefused ss g → Gathered ss g (after ss g)
+GatheredHolds = (ss : List Stretch) (g : Gather) → Whole g → Unrefused ss g → Gathered ss g (afterStretches ss g)
 
 -- "Where no stretch is refused, cutting the same bytes differently, or bringing them in another order, gives the same": the very same record, and
 -- so the same number, group and word at the finish
-abbrev pub OrderHolds : Type 0
-OrderHolds =
+abbrev pub StretchOrderHolds : Type 0
+StretchOrderHolds =
     (ss us : List Stretch) (g : Gather) → Whole g → Unrefused ss g → Unrefused us g → SameBrought ss us
-    → (after ss g ≡ after us g) × ((word : List ℕ) → finishOf word (after ss g) ≡ finishOf word (after us g))
+    → (afterStretches ss g ≡ afterStretches us g) × ((word : List ℕ) → finishOf word (afterStretches ss g) ≡ finishOf word (afterStretches us g))
 
 -- "a refused stretch changes nothing": a list leaves what it leaves without its refused stretches, of which none is refused then
 abbrev pub RefusedHolds : Type 0
-RefusedHolds = (ss : List Stretch) (g : Gather) → (after ss g ≡ after (accepted ss g) g) × Unrefused (accepted ss g) g
+RefusedHolds = (ss : List Stretch) (g : Gather) → (afterStretches ss g ≡ afterStretches (accepted ss g) g) × Unrefused (accepted ss g) g
 
 -- A word and marks hold what came: the bytes at their places, "places that never came are lost".
-pub record Holds (n : ℕ) (ss : List Stretch) (word marks : List ℕ) : Type 0 where
+pub record HoldsStretches (n : ℕ) (ss : List Stretch) (word marks : List ℕ) : Type 0 where
   pub word-size : length word ≡ n
   pub marks-size : length marks ≡ n
   pub came : (p x : ℕ) → Brings p x ss → (getD word p 0 ≡ x) × (getD marks p 0 ≡ 0)
@@ -58,8 +60,8 @@ pub record FinishesAs (o : Finishing) (lent : List ℕ) (r : Outcome) : Type 0 w
 -- "at the end, places that never came are lost, and the answer is as recover gives"; whatever stands in `word` at the places that never came
 abbrev pub FinishHolds : Type 0
 FinishHolds =
-    (m w c : ℕ) → Good m w c → (ss : List Stretch) → Unrefused ss (begun m w c) → (word marks : List ℕ) → Holds (m * w) ss word marks
-    → (lent : List ℕ) → length lent ≡ m * w → FinishesAs (finishOf lent (after ss (begun m w c))) lent (recoverOf m w c word marks)
+    (m w c : ℕ) → GoodIn byteLimits m w c → (ss : List Stretch) → Unrefused ss (begun m w c) → (word marks : List ℕ) → HoldsStretches (m * w) ss word marks
+    → (lent : List ℕ) → length lent ≡ m * w → FinishesAs (finishOf lent (afterStretches ss (begun m w c))) lent (recoverIn byteEdition m w c word marks)
 
 -- two finishes give the same number, group and word, and finish the gather or not alike
 pub record Alike (a b : Finishing) : Type 0 where
@@ -72,5 +74,5 @@ pub record Alike (a b : Finishing) : Type 0 where
 abbrev pub IdleHolds : Type 0
 IdleHolds =
     (g : Gather) (others : List ℕ) → Whole g → length others ≡ 240
-    → ((p : ℕ) → p < placesOf g → lost (g .marks) p ≡ false → getD (g .bytes) p 0 ≡ getD others p 0) → (word : List ℕ)
+    → ((p : ℕ) → p < gatherPlaces g → lost (g .marks) p ≡ false → getD (g .bytes) p 0 ≡ getD others p 0) → (word : List ℕ)
     → Alike (finishOf word g) (finishOf word (record { m = g .m; w = g .w; c = g .c; finished = g .finished; bytes = others; marks = g .marks }))

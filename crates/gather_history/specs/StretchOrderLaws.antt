@@ -10,15 +10,15 @@ use borrow.Author.Tests.{eqb-true, not-false}
 use lib.ListN.{length, getD, replicate, length-replicate, getD-replicate}
 use lib.Seq.{ext-getD}
 use Rattle.counting.specs.TestLaws.{none-at}
-use Rattle.shape.specs.Laws.{places-most}
 use Rattle.code.specs.Marks.{lost}
+use Rattle.code.specs.LimitsLaws.{places-most}
 use Rattle.gather_record.specs.declared.Gather.{Gather}
-use Rattle.gather_record.specs.Record.{Whole, placesOf, gatheringBy}
+use Rattle.gather_record.specs.Record.{Whole, gatherPlaces, gatheringBy}
 use Rattle.gather_take.specs.Take.{someCame, takeRefusal, taken, takeOf}
 use Rattle.gather_take.specs.TakeLaws.{Takeable, take-parts}
 use Rattle.gather_finish.specs.Finish.{finishOf}
-use Rattle.gather_history.specs.History.{Stretch, numberOf, leaves, after, Unrefused, keepIf, accepted, BringsOne, Brings, SameBrought}
-use Rattle.gather_history.specs.StretchOrder.{Gathered, GatheredHolds, OrderHolds, RefusedHolds}
+use Rattle.gather_history.specs.History.{Stretch, takeNumber, leaves, afterStretches, Unrefused, keepIf, accepted, BringsOne, Brings, SameBrought}
+use Rattle.gather_history.specs.StretchOrder.{Gathered, GatheredHolds, StretchOrderHolds, RefusedHolds}
 use Rattle.gather_history.specs.PutLaws.{put-length, put-in, put-below, put-above}
 
 -- ---- one stretch
@@ -35,16 +35,16 @@ gathering-kept zero new old n e = let z : 0 ≡ suc n = e in absurd (omega arith
 gathering-kept (suc r) new old n e = refl
 
 module _ (s : Stretch) (g : Gather) where
-  pub number-is : numberOf s g ≡ takeRefusal (s .first) (length (s .bytes)) g
+  pub number-is : takeNumber s g ≡ takeRefusal (s .first) (length (s .bytes)) g
   unfolding takeOf
   number-is = gathering-number (takeRefusal (s .first) (length (s .bytes)) g) (taken (s .first) (s .bytes) g) g
 
   -- a refused stretch changes nothing
-  pub leaves-same : (n : ℕ) → numberOf s g ≡ suc n → leaves s g ≡ g
+  pub leaves-same : (n : ℕ) → takeNumber s g ≡ suc n → leaves s g ≡ g
   unfolding takeOf
   leaves-same n e = gathering-kept (takeRefusal (s .first) (length (s .bytes)) g) (taken (s .first) (s .bytes) g) g n e
 
-  module _ (e : numberOf s g ≡ 0) where
+  module _ (e : takeNumber s g ≡ 0) where
     pub takeable : Takeable (s .first) (length (s .bytes)) g
     takeable = take-parts (s .first) (length (s .bytes)) g (sym number-is ∙ e)
 
@@ -64,7 +64,7 @@ pub record Stretched (s : Stretch) (before now : Gather) : Type 0 where
   pub outer : (p : ℕ) → (p < s .first) ⊎ (s .first + length (s .bytes) ≤ p)
       → (getD (now .bytes) p 0 ≡ getD (before .bytes) p 0) × (getD (now .marks) p 0 ≡ getD (before .marks) p 0)
 
-pub stretched : (s : Stretch) (g : Gather) → Whole g → numberOf s g ≡ 0 → Stretched s g (leaves s g)
+pub stretched : (s : Stretch) (g : Gather) → Whole g → takeNumber s g ≡ 0 → Stretched s g (leaves s g)
 unfolding taken someCame
 stretched s g W e = subst (Stretched s g) (sym (leaves-taken s g e)) (record {
   m-same = refl;
@@ -141,7 +141,7 @@ came-list (s ∷ ss) g W u p z x b =
     ]
 
 -- what comes lies below n
-pub brought-inside : (ss : List Stretch) (g : Gather) → Whole g → Unrefused ss g → (p x : ℕ) → Brings p x ss → p < placesOf g
+pub brought-inside : (ss : List Stretch) (g : Gather) → Whole g → Unrefused ss g → (p x : ℕ) → Brings p x ss → p < gatherPlaces g
 unfolding Brings Unrefused
 brought-inside [] g W u p x b = absurd b
 brought-inside (s ∷ ss) g W u p x b =
@@ -153,7 +153,7 @@ brought-inside (s ∷ ss) g W u p x b =
 
 -- the record after the list is given by what came, and by nothing else
 pub gathered : GatheredHolds
-unfolding after Unrefused Brings
+unfolding afterStretches Unrefused Brings
 gathered [] g W u = record {
   m-same = refl;
   w-same = refl;
@@ -183,8 +183,8 @@ gathered (s ∷ ss) g W u =
     }
   where
     first-came : (s : Stretch) (ss : List Stretch) (g : Gather) → Whole g → Unrefused (s ∷ ss) g → Stretched s g (leaves s g)
-        → Gathered ss (leaves s g) (after ss (leaves s g))
-        → (p x : ℕ) → BringsOne p x s → (getD (after ss (leaves s g) .bytes) p 0 ≡ x) × (getD (after ss (leaves s g) .marks) p 0 ≡ 0)
+        → Gathered ss (leaves s g) (afterStretches ss (leaves s g))
+        → (p x : ℕ) → BringsOne p x s → (getD (afterStretches ss (leaves s g) .bytes) p 0 ≡ x) × (getD (afterStretches ss (leaves s g) .marks) p 0 ≡ 0)
     first-came s ss g W u S G p x one =
         let b : getD (leaves s g .bytes) p 0 ≡ x
         = ap (λ q. getD (leaves s g .bytes) q 0) (one .place) ∙ S .inner (one .index) (one .inside) .0 ∙ one .byte in
@@ -215,17 +215,19 @@ gather-path : (m₁ m₂ w₁ w₂ c₁ c₂ f₁ f₂ : ℕ) (b₁ b₂ k₁ k�
 gather-path m₁ m₂ w₁ w₂ c₁ c₂ f₁ f₂ b₁ b₂ k₁ k₂ em ew ec ef eb ek = cc
 
 -- two lists none of whose stretches is refused, and that bring the same bytes to the same places, leave the same record
-pub same-record : (ss us : List Stretch) (g : Gather) → Whole g → Unrefused ss g → Unrefused us g → SameBrought ss us → after ss g ≡ after us g
+pub same-record : (ss us : List Stretch) (g : Gather) → Whole g → Unrefused ss g → Unrefused us g → SameBrought ss us
+    → afterStretches ss g ≡ afterStretches us g
 same-record ss us g W u v B =
     let S = gathered ss g W u in
     let U = gathered us g W v in
     gather-path _ _ _ _ _ _ _ _ _ _ _ _
     (S .m-same ∙ sym (U .m-same)) (S .w-same ∙ sym (U .w-same)) (S .c-same ∙ sym (U .c-same)) (S .finished-same ∙ sym (U .finished-same))
-    (ext-getD 0 (after ss g .bytes) (after us g .bytes) (S .whole .bytes-long ∙ sym (U .whole .bytes-long)) (λ p _. at S U p .0))
-    (ext-getD 0 (after ss g .marks) (after us g .marks) (S .whole .marks-long ∙ sym (U .whole .marks-long)) (λ p _. at S U p .1))
+    (ext-getD 0 (afterStretches ss g .bytes) (afterStretches us g .bytes) (S .whole .bytes-long ∙ sym (U .whole .bytes-long)) (λ p _. at S U p .0))
+    (ext-getD 0 (afterStretches ss g .marks) (afterStretches us g .marks) (S .whole .marks-long ∙ sym (U .whole .marks-long)) (λ p _. at S U p .1))
   where
-    at : Gathered ss g (after ss g) → Gathered us g (after us g) → (p : ℕ)
-        → (getD (after ss g .bytes) p 0 ≡ getD (after us g .bytes) p 0) × (getD (after ss g .marks) p 0 ≡ getD (after us g .marks) p 0)
+    at : Gathered ss g (afterStretches ss g) → Gathered us g (afterStretches us g) → (p : ℕ)
+        → (getD (afterStretches ss g .bytes) p 0 ≡ getD (afterStretches us g .bytes) p 0)
+        × (getD (afterStretches ss g .marks) p 0 ≡ getD (afterStretches us g .marks) p 0)
     at S U p = elim (brought-or p ss) [
       | inl b ↦ (
           let q = S .came p (b .0) (b .1) in
@@ -240,7 +242,7 @@ same-record ss us g W u v B =
     ]
 
 -- cuts and order make no difference
-pub order : OrderHolds
+pub order : StretchOrderHolds
 order ss us g W u v B =
     let e = same-record ss us g W u v B in
     (e, λ word. ap (finishOf word) e)
@@ -249,14 +251,14 @@ order ss us g W u v B =
 
 -- a list leaves what it leaves without its refused stretches
 pub refused-nothing : RefusedHolds
-unfolding after accepted Unrefused
+unfolding afterStretches accepted Unrefused
 refused-nothing [] g = (refl, tt)
-refused-nothing (s ∷ ss) g = go (numberOf s g) refl (refused-nothing ss (leaves s g))
+refused-nothing (s ∷ ss) g = go (takeNumber s g) refl (refused-nothing ss (leaves s g))
   where
-    go : (r : ℕ) → numberOf s g ≡ r
-        → (after ss (leaves s g) ≡ after (accepted ss (leaves s g)) (leaves s g)) × Unrefused (accepted ss (leaves s g)) (leaves s g)
-        → (after ss (leaves s g) ≡ after (keepIf r s (accepted ss (leaves s g))) g) × Unrefused (keepIf r s (accepted ss (leaves s g))) g
+    go : (r : ℕ) → takeNumber s g ≡ r
+        → (afterStretches ss (leaves s g) ≡ afterStretches (accepted ss (leaves s g)) (leaves s g)) × Unrefused (accepted ss (leaves s g)) (leaves s g)
+        → (afterStretches ss (leaves s g) ≡ afterStretches (keepIf r s (accepted ss (leaves s g))) g) × Unrefused (keepIf r s (accepted ss (leaves s g))) g
     go zero e ih = (ih .0, (e, ih .1))
     go (suc r) e ih =
         let k = leaves-same s g r e in
-        (ih .0 ∙ ap (after (accepted ss (leaves s g))) k, subst (Unrefused (accepted ss (leaves s g))) k (ih .1))
+        (ih .0 ∙ ap (afterStretches (accepted ss (leaves s g))) k, subst (Unrefused (accepted ss (leaves s g))) k (ih .1))

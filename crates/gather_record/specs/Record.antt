@@ -5,24 +5,25 @@ use mathlib.Core.List.{List}
 use Prim.Native.Nat.{ℕ, zero, suc}
 use lib.Dec.{eqb, ltb}
 use lib.ListN.{length, take, replicate}
-use Rattle.shape.specs.declared.Answer.{Answer}
-use Rattle.shape.specs.Answers.{answerAt, answerNumber}
-use Rattle.shape.specs.Refusals.{refuse, _orElse_}
-use Rattle.shape.specs.Shapes.{placeCount, shapeRefusal}
-use Rattle.marks.specs.Refusal.{areMarks}
+use Rattle.answers.specs.declared.Answer.{Answer}
+use Rattle.answers.specs.Answers.{answerAt, answerNumber}
+use Rattle.code.specs.Refusals.{refuse, _orElse_}
+use Rattle.shape.specs.Shapes.{byteLimits}
+use Rattle.code.specs.Limits.{placeCount, shapeRefusalIn}
+use Rattle.code_services.specs.Marks.{areMarks}
 use Rattle.gather_record.specs.declared.Gather.{Gather}
 
 -- n of the record's shape
-abbrev pub placesOf : Gather → ℕ
-placesOf g = placeCount (g .m) (g .w)
+abbrev pub gatherPlaces : Gather → ℕ
+gatherPlaces g = placeCount (g .m) (g .w)
 
 -- its n bytes; what stands past them doesn't matter
-abbrev pub bytesOf : Gather → List ℕ
-bytesOf g = take (placesOf g) (g .bytes)
+abbrev pub gatherBytes : Gather → List ℕ
+gatherBytes g = take (gatherPlaces g) (g .bytes)
 
 -- its n marks: "places that never came are lost", 1; a place that came is 0
-abbrev pub marksOf : Gather → List ℕ
-marksOf g = take (placesOf g) (g .marks)
+abbrev pub gatherMarks : Gather → List ℕ
+gatherMarks g = take (gatherPlaces g) (g .marks)
 
 -- the lengths of a record's arrays
 pub record Whole (g : Gather) : Type 0 where
@@ -32,8 +33,8 @@ pub record Whole (g : Gather) : Type 0 where
 -- "a bad gather record included: 1 to 4, 6": its shape; then a mark, or the finished byte, that is neither 0 nor 1. Then 22, "gather finished".
 unfoldable pub gatherRefusal : Gather → ℕ
 gatherRefusal g =
-    shapeRefusal (g .m) (g .w) (g .c)
-    orElse refuse 6 (not (areMarks (marksOf g)))
+    shapeRefusalIn byteLimits (g .m) (g .w) (g .c)
+    orElse refuse 6 (not (areMarks (gatherMarks g)))
     orElse refuse 6 (ltb 1 (g .finished))
     orElse refuse 22 (eqb (g .finished) 1)
 
@@ -53,7 +54,7 @@ gatheringBy (suc r) new old = record { number = suc r; gather = old }
 
 -- Begin: 1 to 4
 unfoldable pub beginOf : ℕ → ℕ → ℕ → Gather → Gathering
-beginOf m w c g = gatheringBy (shapeRefusal m w c) (begun m w c) g
+beginOf m w c g = gatheringBy (shapeRefusalIn byteLimits m w c) (begun m w c) g
 
 -- what Begin and Take leave and answer
 pub record GatherGives (o : Gathering) (gather : Gather) (answer : Answer) : Type 0 where

@@ -7,20 +7,16 @@ use borrow.Author.Tests.{eqb-false, ltb-false, not-false}
 use lib.Dec.{T, eqb, ltb}
 use lib.ListN.{length, getD}
 use lib.Seq.{length-take-le, getD-take}
-use Rattle.shape.specs.declared.Answer.{Answer}
-use Rattle.shape.specs.Refusals.{refuse, _orElse_}
-use Rattle.shape.specs.RefusalsLaws.{refuse-zero, orElse-zero, orElse-first}
-use Rattle.shape.specs.Shapes.{Good, shapeRefusal}
-use Rattle.shape.specs.Laws.{good-of-refusal, refusal-of-good, places-most, word-of-good}
-use Rattle.marks.specs.Refusal.{areMarks, marksRefusalIn, marksRefusal}
-use Rattle.marks.specs.RefusalLaws.{marks-each, each-mark}
+use Rattle.answers.specs.declared.Answer.{Answer}
+use Rattle.code.specs.Refusals.{refuse, _orElse_}
+use Rattle.code.specs.RefusalsLaws.{refuse-zero, orElse-zero, orElse-first}
+use Rattle.shape.specs.Shapes.{byteLimits}
+use Rattle.code.specs.Limits.{GoodIn, shapeRefusalIn}
+use Rattle.code.specs.LimitsLaws.{good-of-refusal, refusal-of-good, places-most, word-of-good}
+use Rattle.code_services.specs.Marks.{areMarks, marksRefusalIn}
+use Rattle.code_services.specs.MarksLaws.{marks-each, each-mark}
 use Rattle.gather_record.specs.declared.Gather.{Gather}
-use Rattle.gather_record.specs.Record.{placesOf, bytesOf, marksOf, Whole, gatherRefusal, begun, gatheringBy, GatherGives}
-
--- "a refused stretch changes nothing": a refusal leaves the record as it was
-pub gathering-refused : (r : ℕ) → (r ≡ 0 → ⊥) → (new old : Gather) → gatheringBy r new old ≡ record { number = r; gather = old }
-gathering-refused zero some new old = absurd (some refl)
-gathering-refused (suc r) some new old = refl
+use Rattle.gather_record.specs.Record.{gatherPlaces, gatherBytes, gatherMarks, Whole, gatherRefusal, begun, gatheringBy, GatherGives}
 
 pub gives-refused : (r : ℕ) → (r ≡ 0 → ⊥) → (new old : Gather) → GatherGives (gatheringBy r new old) old (Answer.Refused r)
 gives-refused zero some new old = absurd (some refl)
@@ -33,34 +29,35 @@ gives-done r e new old =
 -- ---- the refusal of a record, case by case
 
 module _ (g : Gather) where
-  pub shape-bad : (shapeRefusal (g .m) (g .w) (g .c) ≡ 0 → ⊥) → gatherRefusal g ≡ shapeRefusal (g .m) (g .w) (g .c)
+  pub shape-bad : (shapeRefusalIn byteLimits (g .m) (g .w) (g .c) ≡ 0 → ⊥) → gatherRefusal g ≡ shapeRefusalIn byteLimits (g .m) (g .w) (g .c)
   unfolding gatherRefusal
   shape-bad h = orElse-first _ _ h
 
-  module _ (good : Good (g .m) (g .w) (g .c)) (whole : Whole g) where
-    pub marks-size : length (marksOf g) ≡ g .m * g .w
+  module _ (good : GoodIn byteLimits (g .m) (g .w) (g .c)) (whole : Whole g) where
+    pub marks-size : length (gatherMarks g) ≡ g .m * g .w
     marks-size = let k = places-most good in length-take-le _ (g .marks) (omega (arith, whole .marks-long))
 
-    pub bytes-size : length (bytesOf g) ≡ g .m * g .w
+    pub bytes-size : length (gatherBytes g) ≡ g .m * g .w
     bytes-size = let k = places-most good in length-take-le _ (g .bytes) (omega (arith, whole .bytes-long))
 
-    pub marks-number : marksRefusal (g .m) (g .w) (g .c) (marksOf g) ≡ refuse 6 (not (areMarks (marksOf g)))
+    pub marks-number : marksRefusalIn byteLimits (g .m) (g .w) (g .c) (gatherMarks g) ≡ refuse 6 (not (areMarks (gatherMarks g)))
     unfolding marksRefusalIn
-    marks-number = simp (word-of-good (g .m) (g .w) (g .c) (length (marksOf g)) good marks-size)
+    marks-number = simp (word-of-good (g .m) (g .w) (g .c) (length (gatherMarks g)) good marks-size)
 
-    pub marks-bad : (marksRefusal (g .m) (g .w) (g .c) (marksOf g) ≡ 0 → ⊥) → gatherRefusal g ≡ marksRefusal (g .m) (g .w) (g .c) (marksOf g)
+    pub marks-bad : (marksRefusalIn byteLimits (g .m) (g .w) (g .c) (gatherMarks g) ≡ 0 → ⊥)
+        → gatherRefusal g ≡ marksRefusalIn byteLimits (g .m) (g .w) (g .c) (gatherMarks g)
     unfolding gatherRefusal
     marks-bad h = simp (refusal-of-good (g .m) (g .w) (g .c) good, ← marks-number) (orElse-first _ _ h)
 
-    pub record-good : marksRefusal (g .m) (g .w) (g .c) (marksOf g) ≡ 0
+    pub record-good : marksRefusalIn byteLimits (g .m) (g .w) (g .c) (gatherMarks g) ≡ 0
         → gatherRefusal g ≡ refuse 6 (ltb 1 (g .finished)) orElse refuse 22 (eqb (g .finished) 1)
     unfolding gatherRefusal
     record-good e = simp (refusal-of-good (g .m) (g .w) (g .c) good, sym marks-number ∙ e)
 
 -- a record that is not refused: a good shape, n marks of 0 or 1, not finished
 pub record Open (g : Gather) : Type 0 where
-  pub good : Good (g .m) (g .w) (g .c)
-  pub marked : areMarks (marksOf g) ≡ true
+  pub good : GoodIn byteLimits (g .m) (g .w) (g .c)
+  pub marked : areMarks (gatherMarks g) ≡ true
   pub unfinished : g .finished ≡ 0
 
 pub open-parts : (g : Gather) → gatherRefusal g ≡ 0 → Open g
@@ -82,17 +79,18 @@ unfolding gatherRefusal
 open-unrefused g O = simp (refusal-of-good (g .m) (g .w) (g .c) (O .good), O .marked, O .unfinished)
 
 -- the marks of an open record are 0 or 1, place by place
-pub open-marks : (g : Gather) → Open g → (p : ℕ) → p < placesOf g → getD (g .marks) p 0 < 2
+pub open-marks : (g : Gather) → Open g → (p : ℕ) → p < gatherPlaces g → getD (g .marks) p 0 < 2
 open-marks g O p l =
-    subst (λ n. n < 2) (getD-take (placesOf g) (g .marks) p 0 l) (each-mark (marksOf g) (subst T (sym (O .marked)) tt) p)
+    subst (λ n. n < 2) (getD-take (gatherPlaces g) (g .marks) p 0 l) (each-mark (gatherMarks g) (subst T (sym (O .marked)) tt) p)
 
-pub marks-open : (g : Gather) → Whole g → Good (g .m) (g .w) (g .c) → ((p : ℕ) → p < placesOf g → getD (g .marks) p 0 < 2) → areMarks (marksOf g) ≡ true
-marks-open g W good h = marks-each (marksOf g) each
+pub marks-open : (g : Gather) → Whole g → GoodIn byteLimits (g .m) (g .w) (g .c) → ((p : ℕ) → p < gatherPlaces g → getD (g .marks) p 0 < 2)
+    → areMarks (gatherMarks g) ≡ true
+marks-open g W good h = marks-each (gatherMarks g) each
   where
-    each : (p : ℕ) → p < length (marksOf g) → getD (marksOf g) p 0 < 2
+    each : (p : ℕ) → p < length (gatherMarks g) → getD (gatherMarks g) p 0 < 2
     each p l =
-        let k : p < placesOf g = omega (arith, marks-size g good W) in
-        subst (λ n. n < 2) (sym (getD-take (placesOf g) (g .marks) p 0 k)) (h p k)
+        let k : p < gatherPlaces g = omega (arith, marks-size g good W) in
+        subst (λ n. n < 2) (sym (getD-take (gatherPlaces g) (g .marks) p 0 k)) (h p k)
 
 pub begun-whole : (m w c : ℕ) → Whole (begun m w c)
 unfolding begun

@@ -1,5 +1,5 @@
 // The record of a gather: a word that comes in stretches. Its refusals, and the service Begin.
-use shape::Answer;
+use answers::Answer;
 ghost use mathlib.Core.Path.{_≡_};
 ghost use Rattle.gather_record.specs.Record.{gatherRefusal, beginOf, GatherGives};
 

@@ -6,9 +6,9 @@ use lib.Dec.{ltb}
 use lib.ListN.{length, take, drop, replicate}
 use Rattle.counting.specs.Test.{anyBelow}
 use Rattle.code.specs.Marks.{lost}
-use Rattle.shape.specs.Refusals.{refuse, _orElse_}
+use Rattle.code.specs.Refusals.{refuse, _orElse_}
 use Rattle.gather_record.specs.declared.Gather.{Gather}
-use Rattle.gather_record.specs.Record.{placesOf, gatherRefusal, Gathering, gatheringBy}
+use Rattle.gather_record.specs.Record.{gatherPlaces, gatherRefusal, Gathering, gatheringBy}
 
 -- some place of a stretch came before: its mark says not lost
 unfoldable pub someCame : List ℕ → ℕ → ℕ → Bool
@@ -18,7 +18,7 @@ someCame marks first count = anyBelow count (λ i. not (lost marks (first + i)))
 unfoldable pub takeRefusal : ℕ → ℕ → Gather → ℕ
 takeRefusal first count g =
     gatherRefusal g
-    orElse refuse 23 (ltb (placesOf g) (first + count))
+    orElse refuse 23 (ltb (gatherPlaces g) (first + count))
     orElse refuse 24 (someCame (g .marks) first count)
 
 -- a list with another stretch from a first place on

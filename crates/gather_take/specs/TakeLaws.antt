@@ -13,11 +13,11 @@ use lib.Seq.{getD-take, getD-drop, length-take-le, drop-drop}
 use Rattle.counting.specs.Test.{anyBelow}
 use Rattle.counting.specs.TestLaws.{any-intro}
 use Rattle.code.specs.Marks.{lost}
-use Rattle.shape.specs.declared.Answer.{Answer}
-use Rattle.shape.specs.Refusals.{refuse}
-use Rattle.shape.specs.RefusalsLaws.{refuse-zero, orElse-zero, orElse-first}
+use Rattle.answers.specs.declared.Answer.{Answer}
+use Rattle.code.specs.Refusals.{refuse}
+use Rattle.code.specs.RefusalsLaws.{refuse-zero, orElse-zero, orElse-first}
 use Rattle.gather_record.specs.declared.Gather.{Gather}
-use Rattle.gather_record.specs.Record.{placesOf, gatherRefusal, GatherGives}
+use Rattle.gather_record.specs.Record.{gatherPlaces, gatherRefusal, GatherGives}
 use Rattle.gather_record.specs.RecordLaws.{gives-done, Open, open-parts}
 use Rattle.gather_take.specs.Take.{someCame, takeRefusal, putAt, taken, takeOf}
 
@@ -66,19 +66,19 @@ module _ (first count : ℕ) (g : Gather) where
   unfolding takeRefusal
   take-record h = orElse-first _ _ h
 
-  pub take-beyond : gatherRefusal g ≡ 0 → placesOf g < first + count → takeRefusal first count g ≡ 23
+  pub take-beyond : gatherRefusal g ≡ 0 → gatherPlaces g < first + count → takeRefusal first count g ≡ 23
   unfolding takeRefusal
-  take-beyond e h = simp (e, lt-ltb (placesOf g) (first + count) h)
+  take-beyond e h = simp (e, lt-ltb (gatherPlaces g) (first + count) h)
 
-  pub take-within : gatherRefusal g ≡ 0 → first + count ≤ placesOf g → takeRefusal first count g ≡ refuse 24 (someCame (g .marks) first count)
+  pub take-within : gatherRefusal g ≡ 0 → first + count ≤ gatherPlaces g → takeRefusal first count g ≡ refuse 24 (someCame (g .marks) first count)
   unfolding takeRefusal
-  take-within e h = simp (e, le-ltb (placesOf g) (first + count) h)
+  take-within e h = simp (e, le-ltb (gatherPlaces g) (first + count) h)
 
 -- a stretch that is not refused
 pub record Takeable (first count : ℕ) (g : Gather) : Type 0 where
   pub unrefused : gatherRefusal g ≡ 0
   pub opened : Open g
-  pub inside : first + count ≤ placesOf g
+  pub inside : first + count ≤ gatherPlaces g
   pub new : someCame (g .marks) first count ≡ false
 
 pub take-parts : (first count : ℕ) (g : Gather) → takeRefusal first count g ≡ 0 → Takeable first count g
@@ -89,7 +89,7 @@ take-parts first count g e =
     record {
       unrefused = e₁ .0;
       opened = open-parts g (e₁ .0);
-      inside = ltb-false (placesOf g) (first + count) (refuse-zero 22 _ (e₂ .0));
+      inside = ltb-false (gatherPlaces g) (first + count) (refuse-zero 22 _ (e₂ .0));
       new = refuse-zero 23 _ (e₂ .1);
     }
 

@@ -1,10 +1,10 @@
 // The service Take, by value.
+use answers::Answer;
 use gather_record::After;
 use gather_record::Gather;
-use shape::Answer;
 ghost use mathlib.Core.Path.{_≡_};
 ghost use lib.ListN.{length};
-ghost use Rattle.shape.specs.Answers.{answerAt};
+ghost use Rattle.answers.specs.Answers.{answerAt};
 ghost use Rattle.gather_record.specs.Record.{GatherGives};
 ghost use Rattle.gather_take.specs.Take.{someCame, takeRefusal, takeOf};
 

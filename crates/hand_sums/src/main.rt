@@ -26,12 +26,12 @@ fn locator_line() {
 
 fn describe_line(m: usize, w: usize, c: usize) {
     match shape::describe(m, w, c) {
-        shape::Described::Figures { n, k, sure } => {
+        answers::Described::Figures { n, k, sure } => {
             number(n as u64, b" bytes, ");
             number(k as u64, b" data, sure ");
             number(sure as u64, b"\n");
         }
-        shape::Described::Refused(r) => refused_line(r),
+        answers::Described::Refused(r) => refused_line(r),
     }
 }
 
@@ -42,23 +42,23 @@ fn refused_line(r: u8) {
 
 fn check_line(word: &[u8]) {
     match word_check::check(2, 3, 1, word) {
-        word_check::Checked::Codeword => {
+        answers::Checked::Codeword => {
             io::write_all(STDOUT_FILENO, b"codeword\n");
         }
-        word_check::Checked::Other(group) => {
+        answers::Checked::Other(group) => {
             io::write_all(STDOUT_FILENO, b"no codeword ");
             number(group as u64, b"\n");
         }
-        word_check::Checked::Refused(r) => refused_line(r),
+        answers::Checked::Refused(r) => refused_line(r),
     }
 }
 
 fn judge_line(marks: &[u8]) {
     match judge::judge(2, 3, 1, marks) {
-        judge::Judged::Determined => {
+        answers::Judged::Determined => {
             io::write_all(STDOUT_FILENO, b"determined\n");
         }
-        judge::Judged::Refused(r) => refused_line(r),
+        answers::Judged::Refused(r) => refused_line(r),
     }
 }
 
@@ -72,24 +72,24 @@ fn bytes_line(bytes: &[u8]) {
     io::write_all(STDOUT_FILENO, b"\n");
 }
 
-fn answer_line(answer: shape::Answer, word: &[u8]) {
+fn answer_line(answer: answers::Answer, word: &[u8]) {
     match answer {
-        shape::Answer::Done => {
+        answers::Answer::Done => {
             io::write_all(STDOUT_FILENO, b"done:");
             bytes_line(word);
         }
-        shape::Answer::Refused(r) => refused_line(r),
+        answers::Answer::Refused(r) => refused_line(r),
     }
 }
 
-fn mending_line(mending: shape::Mending, word: &[u8]) {
+fn mending_line(mending: answers::Mending, word: &[u8]) {
     match mending {
-        shape::Mending::Done => answer_line(shape::Answer::Done, word),
-        shape::Mending::Contradictory(group) => {
+        answers::Mending::Done => answer_line(answers::Answer::Done, word),
+        answers::Mending::Contradictory(group) => {
             io::write_all(STDOUT_FILENO, b"refused 9 ");
             number(group as u64, b"\n");
         }
-        shape::Mending::Refused(r) => refused_line(r),
+        answers::Mending::Refused(r) => refused_line(r),
     }
 }
 

@@ -1,17 +1,14 @@
 // The service Judge.
+use answers::Judged;
 ghost use mathlib.Core.Path.{_≡_};
-ghost use Rattle.judge.specs.Judgement.{judgedOf, judgedNumber, judgedNumberOf};
-
-// The present places determine the codeword, or the number of a refusal.
-pub enum Judged {
-    Determined,
-    Refused(u8),
-}
+ghost use Rattle.shape.specs.Shapes.{byteLimits};
+ghost use Rattle.answers.specs.Figures.{judgedNumber};
+ghost use Rattle.code_services.specs.Judge.{judgedNumberIn, judgedIn};
 
 // Whether a pattern of losses leaves a codeword determined.
 pub fn judge(m: usize, w: usize, c: usize, marks: &[u8]) -> Judged
-    ensures answer { λ r. ⌜ r ≡ judgedOf m w c (now (marks .entry)) ⌝ }
-    ensures number { λ r. ⌜ judgedNumber r ≡ judgedNumberOf m w c (now (marks .entry)) ⌝ }
+    ensures answer { λ r. ⌜ r ≡ judgedIn byteLimits m w c (now (marks .entry)) ⌝ }
+    ensures number { λ r. ⌜ judgedNumber r ≡ judgedNumberIn byteLimits m w c (now (marks .entry)) ⌝ }
 {
     let r = marks::marks_refusal(m, w, c, marks);
     if r != 0 {

@@ -1,3 +1,1 @@
-pub mod Refusal
-pub mod RefusalLaws
-pub mod CountsLaws
+pub mod NumbersLaws

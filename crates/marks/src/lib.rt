@@ -2,9 +2,10 @@
 ghost use mathlib.Core.Path.{_≡_};
 ghost use Prim.Native.Nat.{_-_, _*_, _/_, _≤_, min};
 ghost use lib.ListN.{length};
-ghost use Rattle.shape.specs.Shapes.{Good};
+ghost use Rattle.shape.specs.Shapes.{byteLimits};
 ghost use Rattle.code.specs.Marks.{lostIn, excess};
-ghost use Rattle.marks.specs.Refusal.{areMarks, marksRefusal};
+ghost use Rattle.code.specs.Limits.{GoodIn};
+ghost use Rattle.code_services.specs.Marks.{areMarks, marksRefusalIn};
 
 // Whether every mark is 0 or 1. Computes the largest of all marks: a loop without an early exit is fast.
 pub fn are_marks(marks: &[u8]) -> bool
@@ -26,7 +27,7 @@ pub fn are_marks(marks: &[u8]) -> bool
 
 // The refusal, 1 to 6, of a service that is lent marks; 0 if there is none.
 pub fn marks_refusal(m: usize, w: usize, c: usize, marks: &[u8]) -> u8
-    ensures { λ r. ⌜ r ≡ marksRefusal m w c (now (marks .entry)) ⌝ }
+    ensures { λ r. ⌜ r ≡ marksRefusalIn byteLimits m w c (now (marks .entry)) ⌝ }
 {
     let r = shape::word_refusal(m, w, c, marks.len());
     if r != 0 {
@@ -108,8 +109,8 @@ pub fn pattern_excess(w: usize, c: usize, marks: &[u8]) -> usize
 
 // The excess of the marks of a good shape. A shape that is not good, or marks of another length, have none.
 pub fn excess_of(m: usize, w: usize, c: usize, marks: &[u8]) -> usize
-    ensures { λ r. ⌜ (Good m w c → length (now (marks .entry)) ≡ m * w → r ≡ excess m w c (now (marks .entry))) ⌝ }
-    ensures { λ r. ⌜ ((Good m w c → length (now (marks .entry)) ≡ m * w → ⊥) → r ≡ 0) ⌝ }
+    ensures { λ r. ⌜ (GoodIn byteLimits m w c → length (now (marks .entry)) ≡ m * w → r ≡ excess m w c (now (marks .entry))) ⌝ }
+    ensures { λ r. ⌜ ((GoodIn byteLimits m w c → length (now (marks .entry)) ≡ m * w → ⊥) → r ≡ 0) ⌝ }
 {
     if shape::word_refusal(m, w, c, marks.len()) != 0 {
         return 0;

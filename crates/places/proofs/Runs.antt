@@ -3,7 +3,8 @@ use mathlib.Core.Path.{_≡_, sym, ap, ap₂, _∙_}
 use mathlib.Core.Bool.{Bool, true, false}
 use mathlib.Core.List.{List, [], _∷_, _++_, append-assoc, append-nil}
 use Prim.Native.Nat.{ℕ, zero, suc, _+_, _-_, _*_, _/_, _≤_, _<_}
-use native.Mathlib.Nat.{add-zero, zero-add, suc-add, add-suc, add-comm, suc-mul, add-mul, zero-mul, one-mul, sub-zero, le-of-suc-le-suc, mul-le-mul-right, div-lt-iff-lt-mul}
+use native.Mathlib.Nat.{add-zero, zero-add, suc-add, add-suc, add-comm, suc-mul, add-mul, zero-mul, one-mul, sub-zero, le-of-suc-le-suc, mul-le-mul-right}
+use native.Mathlib.Nat.{div-lt-iff-lt-mul}
 use native.Mathlib.Numerals.{add-one}
 use native.Mathlib.Decide.{ℕ-discrete, decLt}
 use native.Mathlib.Omega.{arith}
@@ -11,11 +12,11 @@ use lib.Dec.{eqb, ltb, leb}
 use lib.ListN.{length, getD, take, drop, replicate, length-append, length-replicate, length-take, length-drop, drop-of-length-le}
 use lib.Seq.{take-at, drop-at, take-all, length-take-le, drop-cons, drop-drop}
 use borrow.Author.Tests.{le-leb, lt-leb, lt-ltb, le-ltb, eq-eqb, ne-eqb}
-use Rattle.shape.specs.Shapes.{Limits, GoodIn, dataCount}
-use Rattle.marks.specs.CountsLaws.{group-next, groups-passed}
-use Rattle.places.specs.Places.{isCheck, othersFrom, dataPlaces, bytesAt, extractOf, spreadFrom, placedOf, mark, marksFrom, checkMarks}
-use Rattle.places.specs.Laws.{check-inner, check-last}
-use Rattle.places.specs.Runs.{dataOf, dataIn}
+use Rattle.code.specs.Limits.{Limits, dataCount, GoodIn}
+use Rattle.code_engine.specs.GroupsLaws.{group-next, groups-passed}
+use Rattle.code_services.specs.Places.{isCheck, othersFrom, dataPlaces, bytesAt, extractOf, spreadFrom, placedOf, mark, marksFrom, checkMarks}
+use Rattle.code_services.specs.PlacesLaws.{check-inner, check-last}
+use Rattle.code_services.specs.PlacesRuns.{dataOf, dataIn}
 
 -- nothing is read of no places
 nothing : (check : ℕ → Bool) (word : List ℕ) (p : ℕ) (x : List ℕ) → x ++ bytesAt word (othersFrom check p 0) ≡ x

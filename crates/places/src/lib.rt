@@ -1,14 +1,15 @@
 // Which places of a word carry data: taking the data out, putting it in, and marking the check places.
-use shape::Answer;
+use answers::Answer;
 ghost use mathlib.Core.Path.{_≡_};
 ghost use mathlib.Core.List.{_++_};
 ghost use Prim.Native.Nat.{_-_, _≤_};
 ghost use lib.ListN.{length, replicate};
-ghost use Rattle.shape.specs.Shapes.{Good, placeCount, dataCount, bufferRefusal};
-ghost use Rattle.shape.specs.Answers.{answerNumber};
-ghost use Rattle.places.specs.Places.{extractOf, placedOf, extractedOf, extractedData, placedWord, markedChecks};
-ghost use Rattle.places.specs.Places.{checkMarksRefusal, checkMarksAnswer, checkMarksBuffer};
-ghost use Rattle.places.specs.Runs.{dataOf, dataIn, withChecks};
+ghost use Rattle.shape.specs.Shapes.{byteLimits};
+ghost use Rattle.answers.specs.Answers.{answerNumber};
+ghost use Rattle.code.specs.Limits.{placeCount, dataCount, GoodIn, bufferRefusalIn};
+ghost use Rattle.code_services.specs.Places.{extractOf, placedOf};
+ghost use Rattle.code_services.specs.Places.{extractedIn, extractedDataIn, placedWordIn, markedChecksIn, checkMarksRefusalIn, checkMarksAnswerIn, checkMarksBufferIn};
+ghost use Rattle.code_services.specs.PlacesRuns.{dataOf, dataIn, withChecks};
 
 // How many places of a group carry data, in the last group and in another; none where its checks are too many.
 fn data_of(w: usize, c: usize, last: bool) -> usize
@@ -30,7 +31,7 @@ pub fn data_in(m: usize, w: usize, c: usize, g: usize) -> usize
 
 // Copies the data bytes of word, in word order, group by group.
 fn copy_data(m: usize, w: usize, c: usize, word: &[u8], bytes: &mut [u8])
-    requires { ⌜ Good m w c ⌝ }
+    requires { ⌜ GoodIn byteLimits m w c ⌝ }
     requires { ⌜ length (now word) ≡ placeCount m w ⌝ }
     requires { ⌜ length (now bytes) ≡ dataCount m w c ⌝ }
     ensures { λ _. ⌜ now (bytes .exit) ≡ extractOf m w c (now (word .entry)) ⌝ }
@@ -50,9 +51,9 @@ fn copy_data(m: usize, w: usize, c: usize, word: &[u8], bytes: &mut [u8])
 
 // The service Extract.
 pub fn extract(m: usize, w: usize, c: usize, word: &[u8], bytes: &mut [u8]) -> Answer
-    ensures answer { λ r. ⌜ r ≡ extractedOf m w c (now (word .entry)) (now (bytes .entry)) ⌝ }
-    ensures number { λ r. ⌜ answerNumber r ≡ bufferRefusal m w c (length (now (word .entry))) (length (now (bytes .entry))) ⌝ }
-    ensures buffer { λ _. ⌜ now (bytes .exit) ≡ extractedData m w c (now (word .entry)) (now (bytes .entry)) ⌝ }
+    ensures answer { λ r. ⌜ r ≡ extractedIn byteLimits m w c (now (word .entry)) (now (bytes .entry)) ⌝ }
+    ensures number { λ r. ⌜ answerNumber r ≡ bufferRefusalIn byteLimits m w c (length (now (word .entry))) (length (now (bytes .entry))) ⌝ }
+    ensures buffer { λ _. ⌜ now (bytes .exit) ≡ extractedDataIn byteLimits m w c (now (word .entry)) (now (bytes .entry)) ⌝ }
 {
     let r = shape::buffer_refusal(m, w, c, word.len(), bytes.len());
     if r != 0 {
@@ -74,7 +75,7 @@ fn spread_part(bytes: &[u8], part: &mut [u8])
 
 // Writes data into the data places, in word order, and 0 into the check places, group by group.
 fn spread_data(m: usize, w: usize, c: usize, bytes: &[u8], word: &mut [u8])
-    requires { ⌜ Good m w c ⌝ }
+    requires { ⌜ GoodIn byteLimits m w c ⌝ }
     requires { ⌜ length (now word) ≡ placeCount m w ⌝ }
     requires { ⌜ length (now bytes) ≡ dataCount m w c ⌝ }
     ensures { λ _. ⌜ now (word .exit) ≡ placedOf m w c (now (bytes .entry)) ⌝ }
@@ -93,7 +94,7 @@ fn spread_data(m: usize, w: usize, c: usize, bytes: &[u8], word: &mut [u8])
 
 // The word with data in its data places and 0 in its check places; nothing is written where the shape or a length is wrong.
 pub fn place(m: usize, w: usize, c: usize, bytes: &[u8], word: &mut [u8])
-    ensures { λ _. ⌜ now (word .exit) ≡ placedWord m w c (now (bytes .entry)) (now (word .entry)) ⌝ }
+    ensures { λ _. ⌜ now (word .exit) ≡ placedWordIn byteLimits m w c (now (bytes .entry)) (now (word .entry)) ⌝ }
 {
     if shape::buffer_refusal(m, w, c, word.len(), bytes.len()) != 0 {
         return;
@@ -129,7 +130,7 @@ pub fn mark_groups(w: usize, c: usize, marks: &mut [u8])
 
 // Marks with the check places lost; nothing is written where the shape or the length is wrong.
 pub fn mark_checks(m: usize, w: usize, c: usize, marks: &mut [u8])
-    ensures { λ _. ⌜ now (marks .exit) ≡ markedChecks m w c (now (marks .entry)) ⌝ }
+    ensures { λ _. ⌜ now (marks .exit) ≡ markedChecksIn byteLimits m w c (now (marks .entry)) ⌝ }
 {
     if shape::word_refusal(m, w, c, marks.len()) != 0 {
         return;
@@ -139,18 +140,18 @@ pub fn mark_checks(m: usize, w: usize, c: usize, marks: &mut [u8])
 
 // The refusal of Check marks by the shape and the length of the marks: 1 to 4, 29, then 5; 0 if there is none.
 fn check_marks_refusal(m: usize, w: usize, c: usize, marks: usize) -> u8
-    ensures { λ r. ⌜ r ≡ checkMarksRefusal m w c marks ⌝ }
+    ensures { λ r. ⌜ r ≡ checkMarksRefusalIn byteLimits m w c marks ⌝ }
 {
     let unsold = shape::sale_refusal(m, w, c);
     let lengths = shape::word_refusal(m, w, c, marks);
-    shape::or_else(unsold, lengths)
+    answers::or_else(unsold, lengths)
 }
 
 // The service Check marks: 1 at each check place and 0 at each other.
 pub fn check_marks(m: usize, w: usize, c: usize, marks: &mut [u8]) -> Answer
-    ensures answer { λ r. ⌜ r ≡ checkMarksAnswer m w c (now (marks .entry)) ⌝ }
-    ensures number { λ r. ⌜ answerNumber r ≡ checkMarksRefusal m w c (length (now (marks .entry))) ⌝ }
-    ensures marks { λ _. ⌜ now (marks .exit) ≡ checkMarksBuffer m w c (now (marks .entry)) ⌝ }
+    ensures answer { λ r. ⌜ r ≡ checkMarksAnswerIn byteLimits m w c (now (marks .entry)) ⌝ }
+    ensures number { λ r. ⌜ answerNumber r ≡ checkMarksRefusalIn byteLimits m w c (length (now (marks .entry))) ⌝ }
+    ensures marks { λ _. ⌜ now (marks .exit) ≡ checkMarksBufferIn byteLimits m w c (now (marks .entry)) ⌝ }
 {
     let refused = check_marks_refusal(m, w, c, marks.len());
     if refused != 0 {

@@ -9,23 +9,25 @@ use native.Mathlib.Omega.{arith}
 use native.Mathlib.Decide.{decLt, ℕ-discrete}
 use borrow.Author.Tests.{leb-true, leb-false}
 use lib.ListN.{length}
-use Rattle.shape.specs.Refusals.{refuse, _orElse_}
-use Rattle.shape.specs.RefusalsLaws.{orElse-zero, orElse-first}
-use Rattle.marks.specs.Refusal.{areMarks, marksRefusal, marksRefusalIn}
-use Rattle.marks.specs.RefusalLaws.{good-of-marks, marks-most}
+use Rattle.code.specs.Refusals.{refuse, _orElse_}
+use Rattle.code.specs.RefusalsLaws.{orElse-zero, orElse-first}
+use Rattle.code.specs.Limits.{shapeRefusalIn, wordRefusalIn}
+use Rattle.marks.specs.NumbersLaws.{marks-most}
+use Rattle.code_services.specs.Marks.{areMarks, marksRefusalIn}
+use Rattle.code_services.specs.MarksLaws.{good-of-marks}
 use Rattle.code.specs.Marks.{excess, lostIn}
-use Rattle.shape.specs.Shapes.{byteLimits, wordRefusalIn, shapeRefusalIn}
+use Rattle.shape.specs.Shapes.{byteLimits}
 use Rattle.counting.specs.Count.{totalBelow}
-use Rattle.judge.specs.Judgement.{judgedNumberOf, judgedNumberIn}
-use Rattle.judge.specs.Laws.{zero-excess}
+use Rattle.code_services.specs.Judge.{judgedNumberIn}
+use Rattle.code_services.specs.JudgeLaws.{zero-excess}
 use Rattle.profile.specs.declared.PlaceSet.{PlaceSet}
 use Rattle.profile.specs.declared.Profiled.{Profiled}
 use Rattle.profile.specs.declared.Found.{Found}
-use Rattle.number_sets.specs.Sets.{setsOf, setsBelow, firstIn}
-use Rattle.number_sets.specs.SetsLaws.{sets-found, sets-none, sets-before, below-found, below-none, before-total}
+use Rattle.counting.specs.Sets.{setsOf, setsBelow, firstIn}
+use Rattle.counting.specs.SetsLaws.{sets-found, sets-none, sets-before, below-found, below-none, before-total}
 use Rattle.profile.specs.Profile.{outside, covers, shownSet, Fits, Shown}
 use Rattle.profile.specs.ProfileLaws.{same-set, excess-outside}
-use Rattle.profile.specs.Profiled.{placesOf, placeNumbers, noSet, profiledNumberOf, profiledAt, profiledOf, profiledNumber, profiledPlaces}
+use Rattle.profile.specs.Profiled.{placeSetOf, placeNumbers, noSet, profiledNumberOf, profiledAt, profiledOf, profiledNumber, profiledPlaces}
 use Rattle.profile.specs.Search.{foundAt}
 
 pub profiled-refused : (r : ℕ) (o : Option (List ℕ)) → (r ≡ 0 → ⊥) → profiledAt r o ≡ Profiled.Refused r
@@ -35,7 +37,7 @@ profiled-refused (suc r) o h = refl
 module _ (m w c : ℕ) (marks : List ℕ) where
   pub profiled-number : profiledNumber (profiledOf m w c marks) ≡ profiledNumberOf m w c marks
   unfolding profiledOf profiledNumberOf
-  profiled-number = go (marksRefusal m w c marks) (shownSet m w c marks)
+  profiled-number = go (marksRefusalIn byteLimits m w c marks) (shownSet m w c marks)
     where
       go : (r : ℕ) (o : Option (List ℕ)) → profiledNumber (profiledAt r o) ≡ r orElse refuse 28 (noSet o)
       go zero none = refl
@@ -97,7 +99,7 @@ module _ (m w c : ℕ) (marks : List ℕ) where
           ]
 
   -- the code's answer by what its search finds
-  module _ (accepted : marksRefusal m w c marks ≡ 0) where
+  module _ (accepted : marksRefusalIn byteLimits m w c marks ≡ 0) where
     pub number-of : profiledNumberOf m w c marks ≡ refuse 28 (noSet (shownSet m w c marks))
     unfolding profiledNumberOf
     number-of = rw accepted
@@ -111,7 +113,7 @@ module _ (m w c : ℕ) (marks : List ℕ) where
       where
         go : (o : Option (List ℕ)) → shownSet m w c marks ≡ o → Found.Set p ≡ foundAt o → Profiled.Places p ≡ profiledOf m w c marks
         go none d e = let z : _≡_ {A = ℕ} 0 1 = cc in absurd (omega arith)
-        go (some s) d e = let q : p ≡ placesOf s = cc in ap Profiled.Places q ∙ sym (answer-of (some s) d)
+        go (some s) d e = let q : p ≡ placeSetOf s = cc in ap Profiled.Places q ∙ sym (answer-of (some s) d)
 
     pub answered-none : Found.Nothing ≡ foundAt (shownSet m w c marks) → Profiled.Refused 28 ≡ profiledOf m w c marks
     answered-none e = go (shownSet m w c marks) refl e
@@ -159,13 +161,13 @@ module _ (m w c : ℕ) (marks : List ℕ) where
         from none d h = none-number d
         from (some s) d h = let S = shown-is s d in let x = h s (S .size) in let y = S .leaves in absurd (omega arith)
 
-  accepted-of : profiledNumberOf m w c marks ≡ 0 → marksRefusal m w c marks ≡ 0
+  accepted-of : profiledNumberOf m w c marks ≡ 0 → marksRefusalIn byteLimits m w c marks ≡ 0
   unfolding profiledNumberOf
-  accepted-of z = orElse-zero (marksRefusal m w c marks) _ z .0
+  accepted-of z = orElse-zero (marksRefusalIn byteLimits m w c marks) _ z .0
 
-  accepted-none : profiledNumberOf m w c marks ≡ 28 → marksRefusal m w c marks ≡ 0
+  accepted-none : profiledNumberOf m w c marks ≡ 28 → marksRefusalIn byteLimits m w c marks ≡ 0
   unfolding profiledNumberOf
-  accepted-none = go (marksRefusal m w c marks) (marks-most m w c marks) (noSet (shownSet m w c marks))
+  accepted-none = go (marksRefusalIn byteLimits m w c marks) (marks-most m w c marks) (noSet (shownSet m w c marks))
     where
       go : (r : ℕ) → r ≤ 6 → (b : Bool) → (r orElse refuse 28 b) ≡ 28 → r ≡ 0
       go zero l b e = refl
@@ -181,7 +183,7 @@ module _ (m w c : ℕ) (marks : List ℕ) where
       let l = S .size in
       subst (Shown m w c marks) (sym (ap profiledPlaces (answer-of a (some (x .0)) (x .1)) ∙ numbers (x .0) (omega arith))) S
     where
-      numbers : (s : List ℕ) → length s ≤ 4 → placeNumbers (placesOf s) ≡ s
+      numbers : (s : List ℕ) → length s ≤ 4 → placeNumbers (placeSetOf s) ≡ s
       numbers [] l = refl
       numbers (a ∷ []) l = refl
       numbers (a ∷ b ∷ []) l = refl
@@ -190,7 +192,7 @@ module _ (m w c : ℕ) (marks : List ℕ) where
       numbers (a ∷ b ∷ d ∷ e ∷ f ∷ s) l = absurd (omega arith)
 
   -- "Yes must mean the general judge gives 0."
-  pub yes-judged : profiledNumberOf m w c marks ≡ 0 → judgedNumberOf m w c marks ≡ 0
+  pub yes-judged : profiledNumberOf m w c marks ≡ 0 → judgedNumberIn byteLimits m w c marks ≡ 0
   yes-judged z =
       let a = accepted-of z in
       let x = zero-set a z in
@@ -200,19 +202,19 @@ module _ (m w c : ℕ) (marks : List ℕ) where
       zero-excess byteLimits m w c marks a .1 (omega arith)
 
   -- a 28 is given only where 1 to 6 don't apply, and then no such set is
-  pub none-fits : profiledNumberOf m w c marks ≡ 28 → (marksRefusal m w c marks ≡ 0) × ((t : List ℕ) → length t ≤ c → 2 < outside m w marks t)
+  pub none-fits : profiledNumberOf m w c marks ≡ 28 → (marksRefusalIn byteLimits m w c marks ≡ 0) × ((t : List ℕ) → length t ≤ c → 2 < outside m w marks t)
   none-fits e = let a = accepted-none e in (a, none-exactly a .0 e)
 
   -- "1 to 6 as in 01": as Judge gives them
-  pub refused-alike : (marksRefusal m w c marks ≡ 0 → ⊥) → profiledNumberOf m w c marks ≡ judgedNumberOf m w c marks
+  pub refused-alike : (marksRefusalIn byteLimits m w c marks ≡ 0 → ⊥) → profiledNumberOf m w c marks ≡ judgedNumberIn byteLimits m w c marks
   unfolding profiledNumberOf judgedNumberIn
-  refused-alike h = orElse-first (marksRefusal m w c marks) _ h ∙ sym (orElse-first (marksRefusal m w c marks) _ h)
+  refused-alike h = orElse-first (marksRefusalIn byteLimits m w c marks) _ h ∙ sym (orElse-first (marksRefusalIn byteLimits m w c marks) _ h)
 
 -- "The reverse isn't so": two groups of four places with one check, which lose the first two and the last two of their places
 pub crossed : List ℕ
 crossed = 1 ∷ 1 ∷ 0 ∷ 0 ∷ 0 ∷ 0 ∷ 1 ∷ 1 ∷ []
 
-pub reverse-fails : (judgedNumberOf 2 4 1 crossed ≡ 0) × (profiledNumberOf 2 4 1 crossed ≡ 28)
+pub reverse-fails : (judgedNumberIn byteLimits 2 4 1 crossed ≡ 0) × (profiledNumberOf 2 4 1 crossed ≡ 28)
 unfolding crossed judgedNumberIn profiledNumberOf marksRefusalIn wordRefusalIn shapeRefusalIn areMarks excess lostIn totalBelow shownSet firstIn setsBelow
     setsOf outside
 reverse-fails = (refl, refl)

@@ -8,7 +8,7 @@ use lib.Dec.{leb}
 use lib.ListN.{length}
 use Rattle.counting.specs.Count.{countBelow}
 use Rattle.code.specs.Marks.{lost}
-use Rattle.number_sets.specs.Sets.{isIn, IsSet, Before, setsBelow, firstIn}
+use Rattle.counting.specs.Sets.{isIn, IsSet, Before, setsBelow, firstIn}
 
 -- how many lost places lie outside a set of place numbers; p % w is the number of place p in its group
 unfoldable pub outside : ℕ → ℕ → List ℕ → List ℕ → ℕ

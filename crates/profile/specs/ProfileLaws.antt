@@ -8,9 +8,9 @@ use lib.Arith.{digits-mod}
 use lib.ListN.{length}
 use Rattle.counting.specs.Count.{one, totalBelow, countBelow}
 use Rattle.counting.specs.CountLaws.{total-ext, total-le, total-sum, total-rows}
-use Rattle.number_sets.specs.AscendingLaws.{in-few, ascending, ascending-set, ascending-few, ascending-in}
+use Rattle.counting.specs.AscendingLaws.{in-few, ascending, ascending-set, ascending-few, ascending-in}
 use Rattle.code.specs.Marks.{lost, lostIn, groupExcess, excess}
-use Rattle.number_sets.specs.Sets.{isIn, IsSet}
+use Rattle.counting.specs.Sets.{isIn, IsSet}
 use Rattle.profile.specs.Profile.{outside}
 
 -- group by group

@@ -9,8 +9,8 @@ use lib.ListN.{getD}
 use Rattle.counting.specs.Count.{totalBelow, countBelow}
 use Rattle.code.specs.Marks.{lost}
 use Rattle.profile.specs.declared.Found.{Found}
-use Rattle.number_sets.specs.Sets.{isIn, setsOf, firstIn}
-use Rattle.profile.specs.Profiled.{placesOf}
+use Rattle.counting.specs.Sets.{isIn, setsOf, firstIn}
+use Rattle.profile.specs.Profiled.{placeSetOf}
 
 -- how many groups have lost their place j
 unfoldable pub lostAt : ℕ → ℕ → List ℕ → ℕ → ℕ
@@ -35,4 +35,4 @@ NoneSmaller counts w size left out = (k : ℕ) → k < size → foundIn counts w
 -- the set that is found, if there is one
 abbrev pub foundAt : Option (List ℕ) → Found
 foundAt none = Found.Nothing
-foundAt (some s) = Found.Set (placesOf s)
+foundAt (some s) = Found.Set (placeSetOf s)

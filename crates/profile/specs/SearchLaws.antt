@@ -15,12 +15,12 @@ use Rattle.counting.specs.CountLaws.{total-none, total-suc, total-ext, total-ze
 use Rattle.code.specs.Marks.{lost}
 use Rattle.profile.specs.declared.PlaceSet.{PlaceSet}
 use Rattle.profile.specs.declared.Found.{Found}
-use Rattle.number_sets.specs.Sets.{isIn, setsOf, setsBelow, firstIn}
-use Rattle.number_sets.specs.AscendingLaws.{not-in}
-use Rattle.number_sets.specs.SetsLaws.{step-some, step-none, empty-true, no-numbers, sets-ext, below-more, below-none, below-stays, below-ext}
+use Rattle.counting.specs.Sets.{isIn, setsOf, setsBelow, firstIn}
+use Rattle.counting.specs.AscendingLaws.{not-in}
+use Rattle.counting.specs.SetsLaws.{step-some, step-none, empty-true, no-numbers, sets-ext, below-more, below-none, below-stays, below-ext}
 use Rattle.profile.specs.Profile.{outside, covers, shownSet}
 use Rattle.profile.specs.ProfileLaws.{outside-groups}
-use Rattle.profile.specs.Profiled.{placesOf}
+use Rattle.profile.specs.Profiled.{placeSetOf}
 use Rattle.profile.specs.Search.{lostAt, outsideFrom, within, foundIn, NoneSmaller, foundAt}
 
 -- rows and columns
@@ -209,15 +209,15 @@ module _ (counts : List ℕ) (w size : ℕ) (before : firstIn (within counts 0 w
 pub record IsFound (o : Option (List ℕ)) (p : PlaceSet) : Type 0 where
   pub s : List ℕ
   pub found : o ≡ some s
-  pub shows : p ≡ placesOf s
+  pub shows : p ≡ placeSetOf s
 
 pub found-set : (o : Option (List ℕ)) (p : PlaceSet) → Found.Set p ≡ foundAt o → IsFound o p
 found-set none p e = let z : _≡_ {A = ℕ} 0 1 = cc in absurd (omega arith)
 found-set (some s) p e = record { s = s; found = refl; shows = cc }
 
 -- the set with j before its numbers
-pub shows-first : (j : ℕ) (t : List ℕ) (p r : PlaceSet) → p ≡ placesOf t
-    → r ≡ record { count = p .count + 1; first = j; second = p .first; third = p .second; fourth = p .third } → r ≡ placesOf (j ∷ t)
+pub shows-first : (j : ℕ) (t : List ℕ) (p r : PlaceSet) → p ≡ placeSetOf t
+    → r ≡ record { count = p .count + 1; first = j; second = p .first; third = p .second; fourth = p .third } → r ≡ placeSetOf (j ∷ t)
 shows-first j t p r e f =
     f ∙ ap (λ p. record { count = p .count + 1; first = j; second = p .first; third = p .second; fourth = p .third }) e
     ∙ ap (λ n. record { count = n; first = j; second = getD t 0 0; third = getD t 1 0; fourth = getD t 2 0 }) (add-one (length t))

@@ -3,9 +3,9 @@ ghost use mathlib.Core.Path.{_≡_};
 ghost use mathlib.Core.List.{[]};
 ghost use Prim.Native.Nat.{ℕ, _+_, _*_, _≤_, _<_};
 ghost use lib.ListN.{length, getD};
-ghost use Rattle.number_sets.specs.Sets.{setsBelow, firstIn};
+ghost use Rattle.counting.specs.Sets.{setsBelow, firstIn};
 ghost use Rattle.profile.specs.Search.{lostAt, within, foundIn, NoneSmaller, foundAt};
-ghost use Rattle.profile.specs.Profiled.{placesOf, profiledOf, profiledNumber, profiledNumberOf};
+ghost use Rattle.profile.specs.Profiled.{placeSetOf, profiledOf, profiledNumber, profiledNumberOf};
 
 // A set of at most four place numbers, ascending: how many, and each, 0 past the last.
 pub struct PlaceSet {
@@ -69,7 +69,7 @@ fn wide(n: u8) -> usize
 
 // The set of no numbers.
 fn no_places() -> PlaceSet
-    ensures { λ r. ⌜ r ≡ placesOf [] ⌝ }
+    ensures { λ r. ⌜ r ≡ placeSetOf [] ⌝ }
 {
     PlaceSet {
         count: 0,

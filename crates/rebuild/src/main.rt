@@ -1,20 +1,20 @@
 // The program: blocks from standard input, rebuilt, to standard output. `block_input` defines what is written; this file only reads and writes.
 use block_input::Verdict;
-use command_line::Request;
 use libc::STDERR_FILENO;
-use print::Line;
+use program_io::Request;
+use text_lines::Line;
 ghost use Prim.Native.Nat.{_≤_};
 ghost use lib.ListN.{length};
 
 // Writes all of the bytes to standard output, or says on standard error why not.
 fn put(bytes: &[u8]) -> bool {
-    standard_io::write_out(bytes, b"rebuild: standard output")
+    program_io::write_out(bytes, b"rebuild: standard output")
 }
 
 // Writes the first bytes of some to standard error.
 fn say_error(bytes: &[u8], length: usize) {
     if length <= bytes.len() {
-        standard_io::write_some(STDERR_FILENO, &bytes[..length]);
+        program_io::write_some(STDERR_FILENO, &bytes[..length]);
     }
 }
 
@@ -29,11 +29,11 @@ fn say(bytes: &[u8], length: usize) {
 // Writes to standard error which of the three lines cannot be read.
 fn say_unreadable(line: u8) {
     if line == 1 {
-        standard_io::write_some(STDERR_FILENO, b"line 1 cannot be read as a shape line");
+        program_io::write_some(STDERR_FILENO, b"line 1 cannot be read as a shape line");
     } else if line == 2 {
-        standard_io::write_some(STDERR_FILENO, b"line 2 cannot be read as a marks line");
+        program_io::write_some(STDERR_FILENO, b"line 2 cannot be read as a marks line");
     } else {
-        standard_io::write_some(STDERR_FILENO, b"line 3 cannot be read as a length line");
+        program_io::write_some(STDERR_FILENO, b"line 3 cannot be read as a length line");
     }
 }
 
@@ -41,22 +41,22 @@ fn say_unreadable(line: u8) {
 fn say_text(number: u8) {
     let mut text = [0u8; 64];
     let length = release::number_text(number as usize, &mut text);
-    standard_io::write_some(STDERR_FILENO, &text[..length]);
+    program_io::write_some(STDERR_FILENO, &text[..length]);
 }
 
 // Writes to standard error what the number of a refusal means here; a 14 is about this line.
 fn explain(number: u8, line: u8) {
-    standard_io::write_some(STDERR_FILENO, b"rebuild: ");
+    program_io::write_some(STDERR_FILENO, b"rebuild: ");
     if number == 5 {
-        standard_io::write_some(STDERR_FILENO, b"there is not one mark for each block");
+        program_io::write_some(STDERR_FILENO, b"there is not one mark for each block");
     } else if number == 6 {
-        standard_io::write_some(STDERR_FILENO, b"a mark is neither 0 nor 1");
+        program_io::write_some(STDERR_FILENO, b"a mark is neither 0 nor 1");
     } else if number == 14 {
         say_unreadable(line);
     } else {
         say_text(number);
     }
-    standard_io::write_some(STDERR_FILENO, b"\n");
+    program_io::write_some(STDERR_FILENO, b"\n");
 }
 
 // Writes the line of a refusal, and what its number means; a 14 is about this line.
@@ -75,11 +75,11 @@ fn finish(input: &mut [u8]) {
             }
         }
         Verdict::Contradictory { word, group } => refuse(
-            print::contradictory_word(word, group),
+            text_lines::contradictory_word(word, group),
             9,
             0,
         ),
-        Verdict::Refused(r) => refuse(print::refused(r), r, block_input::line_refused(input)),
+        Verdict::Refused(r) => refuse(text_lines::refused(r), r, block_input::line_refused(input)),
     }
 }
 
@@ -95,7 +95,7 @@ fn turn(input: &mut [u8], used: usize) -> Run
     requires { ⌜ used ≤ length (now input) ⌝ }
     ensures { λ r. ⌜ r .used ≤ length (now (input .entry)) ⌝ }
 {
-    let got = standard_io::read_some(&mut input[used..]);
+    let got = program_io::read_some(&mut input[used..]);
     if got < 0 {
         os::fail(b"rebuild: standard input");
         return Run {
@@ -115,7 +115,7 @@ fn turn(input: &mut [u8], used: usize) -> Run
     let r = block_input::refusal_so_far(&input[..all]);
     if r != 0 {
         refuse(
-            print::refused(r),
+            text_lines::refused(r),
             r,
             block_input::line_refused(&input[..all]),
         );
@@ -177,12 +177,12 @@ Standard error is empty if the blocks were rebuilt.\n\
 
 // An entry of the list of numbers.
 fn entry(number: u8, advice: &[u8]) -> bool {
-    command_line::entry(number, advice, b"rebuild: standard output")
+    program_io::entry(number, advice, b"rebuild: standard output")
 }
 
 // The same with what the number means in this program.
 fn entry_as(number: u8, meaning: &[u8], advice: &[u8]) -> bool {
-    command_line::entry_as(number, meaning, advice, b"rebuild: standard output")
+    program_io::entry_as(number, meaning, advice, b"rebuild: standard output")
 }
 
 // The entries of the refusals of the marks and of losses.
@@ -222,7 +222,7 @@ If the blocks cannot be rebuilt, rebuild writes no block, but one line: refused 
 one of these numbers.\n\
 \n",
     )
-        && command_line::shape_entries(b"rebuild: standard output")
+        && program_io::shape_entries(b"rebuild: standard output")
         && loss_entries()
         && entry(
             14,
@@ -239,7 +239,7 @@ After the length line come the m*w blocks of L bytes each and nothing else; L is
 }
 
 fn main() {
-    match command_line::asked() {
+    match program_io::asked() {
         Request::Run => run_all(),
         Request::Help => {
             write_help();
@@ -251,7 +251,7 @@ fn main() {
             write_numbers();
         }
         Request::Unknown => {
-            standard_io::write_some(STDERR_FILENO, b"rebuild: unknown argument: try --help\n");
+            program_io::write_some(STDERR_FILENO, b"rebuild: unknown argument: try --help\n");
         }
     }
 }

@@ -1,24 +1,25 @@
 // The service Recover.
-use shape::Mending;
+use answers::Mending;
+use answers::Tested;
 use syndrome::Sums;
-use syndrome::Tested;
 ghost use mathlib.Core.Path.{_≡_};
 ghost use mathlib.Core.Bool.{true, false};
 ghost use Prim.Native.Nat.{_*_, _≤_, _<_};
 ghost use lib.ListN.{length};
-ghost use Rattle.shape.specs.Shapes.{Good};
-ghost use Rattle.shape.specs.Answers.{mendingAt, mendingNumber};
+ghost use Rattle.shape.specs.Shapes.{byteLimits};
+ghost use Rattle.answers.specs.Answers.{mendingAt, mendingNumber};
+ghost use Rattle.code.specs.Limits.{GoodIn};
 ghost use Rattle.byte_edition.specs.Edition.{byteEdition};
 ghost use Rattle.code.specs.Word.{isLocal};
 ghost use Rattle.code.specs.Marks.{lostIn, excess};
 ghost use Rattle.syndrome.specs.Across.{acrossOf};
-ghost use Rattle.syndrome.specs.Tests.{brokenGroup, testedOf};
-ghost use Rattle.recover.specs.Recover.{recoverRefusal, recoverOf};
-ghost use Rattle.recover.specs.Attempt.{FullSatisfied, Attempt};
+ghost use Rattle.code_engine.specs.Tests.{brokenGroupIn, testedIn};
+ghost use Rattle.code_services.specs.Recover.{recoverRefusalIn, recoverIn};
+ghost use Rattle.code_services.specs.Attempt.{FullSatisfiedIn, AttemptIn};
 
 // The refusal of a call by its shape, its lengths and its marks, 1 to 6; 0 if there is none.
 pub fn refusal(m: usize, w: usize, c: usize, word: &[u8], marks: &[u8]) -> u8
-    ensures { λ r. ⌜ r ≡ recoverRefusal m w c (now (word .entry)) (now (marks .entry)) ⌝ }
+    ensures { λ r. ⌜ r ≡ recoverRefusalIn byteLimits m w c (now (word .entry)) (now (marks .entry)) ⌝ }
 {
     let r = shape::word_refusal(m, w, c, word.len());
     if r != 0 {
@@ -42,11 +43,11 @@ pub fn filled_zero(marks: &[u8], part: &[u8], c: usize) -> bool
 
 // The lowest group whose local sums are not all zero, m if there is none, of a word in which those with c or more lost places are satisfied.
 fn broken_group(m: usize, w: usize, c: usize, marks: &[u8], word: &[u8]) -> usize
-    requires { ⌜ Good m w c ⌝ }
+    requires { ⌜ GoodIn byteLimits m w c ⌝ }
     requires { ⌜ length (now marks) ≡ m * w ⌝ }
     requires { ⌜ length (now word) ≡ m * w ⌝ }
-    requires { ⌜ FullSatisfied m w c (now marks) (now word) ⌝ }
-    ensures { λ r. ⌜ r ≡ brokenGroup m w c (now (word .entry)) ⌝ }
+    requires { ⌜ FullSatisfiedIn byteEdition m w c (now marks) (now word) ⌝ }
+    ensures { λ r. ⌜ r ≡ brokenGroupIn byteEdition m w c (now (word .entry)) ⌝ }
 {
     let mut g: usize = 0;
     while g < m {
@@ -62,12 +63,12 @@ fn broken_group(m: usize, w: usize, c: usize, marks: &[u8], word: &[u8]) -> usiz
 
 // The test of such a word's equations, with its sums across.
 fn test(m: usize, w: usize, c: usize, marks: &[u8], word: &[u8], s: Sums) -> Tested
-    requires { ⌜ Good m w c ⌝ }
+    requires { ⌜ GoodIn byteLimits m w c ⌝ }
     requires { ⌜ length (now marks) ≡ m * w ⌝ }
     requires { ⌜ length (now word) ≡ m * w ⌝ }
-    requires { ⌜ FullSatisfied m w c (now marks) (now word) ⌝ }
+    requires { ⌜ FullSatisfiedIn byteEdition m w c (now marks) (now word) ⌝ }
     requires { ⌜ s ≡ acrossOf m w c (now word) ⌝ }
-    ensures { λ r. ⌜ r ≡ testedOf m w c (now (word .entry)) ⌝ }
+    ensures { λ r. ⌜ r ≡ testedIn byteEdition m w c (now (word .entry)) ⌝ }
 {
     let group = broken_group(m, w, c, marks, word);
     if group != m {
@@ -90,11 +91,11 @@ fn test(m: usize, w: usize, c: usize, marks: &[u8], word: &[u8], s: Sums) -> Tes
 
 // Writes the candidate, made in found, into the word if it is a codeword; else it names the group that contradicts.
 fn attempt(m: usize, w: usize, c: usize, word: &mut [u8], marks: &[u8], found: &mut [u8]) -> Tested
-    requires { ⌜ Good m w c ⌝ }
+    requires { ⌜ GoodIn byteLimits m w c ⌝ }
     requires { ⌜ length (now word) ≡ m * w ⌝ }
     requires { ⌜ length (now marks) ≡ m * w ⌝ }
     requires { ⌜ length (now found) ≡ m * w ⌝ }
-    ensures { λ r. ⌜ Attempt m w c (now (marks .entry)) (now (word .entry)) (now (word .exit)) r ⌝ }
+    ensures { λ r. ⌜ AttemptIn byteEdition m w c (now (marks .entry)) (now (word .entry)) (now (word .exit)) r ⌝ }
 {
     let s = candidate::candidate(m, w, c, word, marks, found);
     let tested = test(m, w, c, marks, found, s);
@@ -108,11 +109,11 @@ fn attempt(m: usize, w: usize, c: usize, word: &mut [u8], marks: &[u8], found: &
 
 // What comes after the test of the excess: the codeword that agrees is written and all marks are cleared, or it answers 9 with the group that contradicts and changes nothing.
 fn recover_determined(m: usize, w: usize, c: usize, word: &mut [u8], marks: &mut [u8]) -> Mending
-    requires { ⌜ recoverRefusal m w c (now word) (now marks) ≡ 0 ⌝ }
+    requires { ⌜ recoverRefusalIn byteLimits m w c (now word) (now marks) ≡ 0 ⌝ }
     requires { ⌜ excess m w c (now marks) ≤ 2 ⌝ }
-    ensures answer { λ r. ⌜ r ≡ mendingAt ((recoverOf m w c (now (word .entry)) (now (marks .entry))) .number) ((recoverOf m w c (now (word .entry)) (now (marks .entry))) .group) ⌝ }
-    ensures word { λ _. ⌜ now (word .exit) ≡ (recoverOf m w c (now (word .entry)) (now (marks .entry))) .word ⌝ }
-    ensures marks { λ _. ⌜ now (marks .exit) ≡ (recoverOf m w c (now (word .entry)) (now (marks .entry))) .marks ⌝ }
+    ensures answer { λ r. ⌜ r ≡ mendingAt ((recoverIn byteEdition m w c (now (word .entry)) (now (marks .entry))) .number) ((recoverIn byteEdition m w c (now (word .entry)) (now (marks .entry))) .group) ⌝ }
+    ensures word { λ _. ⌜ now (word .exit) ≡ (recoverIn byteEdition m w c (now (word .entry)) (now (marks .entry))) .word ⌝ }
+    ensures marks { λ _. ⌜ now (marks .exit) ≡ (recoverIn byteEdition m w c (now (word .entry)) (now (marks .entry))) .marks ⌝ }
     ensures never_eight { λ r. ⌜ (mendingNumber r ≡ 8 → ⊥) ⌝ }
 {
     let n = word.len();
@@ -128,9 +129,9 @@ fn recover_determined(m: usize, w: usize, c: usize, word: &mut [u8], marks: &mut
 
 // Recovers the whole word from its present bytes, or refuses and changes nothing.
 pub fn recover(m: usize, w: usize, c: usize, word: &mut [u8], marks: &mut [u8]) -> Mending
-    ensures answer { λ r. ⌜ r ≡ mendingAt ((recoverOf m w c (now (word .entry)) (now (marks .entry))) .number) ((recoverOf m w c (now (word .entry)) (now (marks .entry))) .group) ⌝ }
-    ensures word { λ _. ⌜ now (word .exit) ≡ (recoverOf m w c (now (word .entry)) (now (marks .entry))) .word ⌝ }
-    ensures marks { λ _. ⌜ now (marks .exit) ≡ (recoverOf m w c (now (word .entry)) (now (marks .entry))) .marks ⌝ }
+    ensures answer { λ r. ⌜ r ≡ mendingAt ((recoverIn byteEdition m w c (now (word .entry)) (now (marks .entry))) .number) ((recoverIn byteEdition m w c (now (word .entry)) (now (marks .entry))) .group) ⌝ }
+    ensures word { λ _. ⌜ now (word .exit) ≡ (recoverIn byteEdition m w c (now (word .entry)) (now (marks .entry))) .word ⌝ }
+    ensures marks { λ _. ⌜ now (marks .exit) ≡ (recoverIn byteEdition m w c (now (word .entry)) (now (marks .entry))) .marks ⌝ }
 {
     let r = refusal(m, w, c, word, marks);
     if r != 0 {

@@ -5,15 +5,15 @@ use Prim.Native.Nat.{ℕ, _+_, _-_}
 use Prim.Native.String.{String}
 use lib.Dec.{ltb}
 use lib.ListN.{take, drop, getD}
-use Rattle.release.specs.Texts.{bytesOf, texts, other}
+use Rattle.release.specs.Texts.{textBytes, texts, other}
 
 -- texts end to end, and last that of any other number
 abbrev pub endToEnd : List String → List ℕ
-endToEnd [] = bytesOf other
-endToEnd (t ∷ ts) = bytesOf t ++ endToEnd ts
+endToEnd [] = textBytes other
+endToEnd (t ∷ ts) = textBytes t ++ endToEnd ts
 
-unfoldable pub joined : List ℕ
-joined = endToEnd texts
+unfoldable pub joinedTexts : List ℕ
+joinedTexts = endToEnd texts
 
 -- where each starts, and where the last one ends
 unfoldable pub starts : List ℕ
@@ -27,4 +27,4 @@ rowOf number = cond (ltb number 32) number 32
 
 -- what stands in a row
 abbrev pub rowText : ℕ → List ℕ
-rowText i = take (getD starts (i + 1) 0 - getD starts i 0) (drop (getD starts i 0) joined)
+rowText i = take (getD starts (i + 1) 0 - getD starts i 0) (drop (getD starts i 0) joinedTexts)

@@ -11,8 +11,8 @@ use Rattle.counting.specs.Test.{allBelow}
 use Rattle.counting.specs.TestLaws.{and-l, and-r, all-at}
 use Rattle.text.specs.Fields.{same}
 use Rattle.text.specs.FieldLaws.{same-eq}
-use Rattle.release.specs.Texts.{bytesOf, texts, other, textOf}
-use Rattle.release.specs.Joined.{joined, starts, rowOf, rowText}
+use Rattle.release.specs.Texts.{textBytes, texts, other, numberText}
+use Rattle.release.specs.Joined.{joinedTexts, starts, rowOf, rowText}
 
 is-true : (b : Bool) → T b → b ≡ true
 is-true true t = refl
@@ -23,13 +23,13 @@ inOrder : ℕ → Bool
 inOrder i = leb (getD starts i 0) (getD starts (i + 1) 0) && leb (getD starts (i + 1) 0) 1247
 
 holdsText : ℕ → Bool
-holdsText i = eqb (getD starts (i + 1) 0 - getD starts i 0) (length (textOf i)) && same (rowText i) (textOf i)
+holdsText i = eqb (getD starts (i + 1) 0 - getD starts i 0) (length (numberText i)) && same (rowText i) (numberText i)
 
 rowRight : ℕ → Bool
 rowRight i = inOrder i && holdsText i
 
 rule : T (allBelow 33 rowRight)
-unfolding rowRight inOrder holdsText joined starts textOf texts same
+unfolding rowRight inOrder holdsText joinedTexts starts numberText texts same
 rule = tt
 
 pub row-below : (number : ℕ) → rowOf number < 33
@@ -40,19 +40,19 @@ row-below number = elim (decLt number 32) [
 ]
 
 -- the text of a number is that of its row
-row-text : (number : ℕ) → textOf (rowOf number) ≡ textOf number
-unfolding rowOf textOf texts
+row-text : (number : ℕ) → numberText (rowOf number) ≡ numberText number
+unfolding rowOf numberText texts
 row-text number = elim (decLt number 32) [
   | yes h ↦ rw (lt-ltb number 32 h) refl
-  | no h ↦ let l : 32 ≤ number = omega arith in rw (le-ltb number 32 l) (ap bytesOf (sym (List·getD-eq-default texts other l)))
+  | no h ↦ let l : 32 ≤ number = omega arith in rw (le-ltb number 32 l) (ap textBytes (sym (List·getD-eq-default texts other l)))
 ]
 
 -- what stands from a to e is the text of a number
 pub record Row (number a e : ℕ) : Type 0 where
   pub order : a ≤ e
   pub most : e ≤ 1247
-  pub size : e - a ≡ length (textOf number)
-  pub text : take (e - a) (drop a joined) ≡ textOf number
+  pub size : e - a ≡ length (numberText number)
+  pub text : take (e - a) (drop a joinedTexts) ≡ numberText number
 
 row-of : (number : ℕ) → Row number (getD starts (rowOf number) 0) (getD starts (rowOf number + 1) 0)
 unfolding rowRight inOrder holdsText
@@ -64,8 +64,8 @@ row-of number =
     record {
       order = leb→le _ _ (and-l (leb (getD starts i 0) (getD starts (i + 1) 0)) _ o);
       most = leb→le _ _ (and-r (leb (getD starts i 0) (getD starts (i + 1) 0)) _ o);
-      size = eqb→eq _ _ (and-l (eqb (getD starts (i + 1) 0 - getD starts i 0) (length (textOf i))) _ h) ∙ ap length (row-text number);
-      text = same-eq _ _ (is-true _ (and-r (eqb (getD starts (i + 1) 0 - getD starts i 0) (length (textOf i))) _ h)) ∙ row-text number;
+      size = eqb→eq _ _ (and-l (eqb (getD starts (i + 1) 0 - getD starts i 0) (length (numberText i))) _ h) ∙ ap length (row-text number);
+      text = same-eq _ _ (is-true _ (and-r (eqb (getD starts (i + 1) 0 - getD starts i 0) (length (numberText i))) _ h)) ∙ row-text number;
     }
 
 pub row-at : (number i a e : ℕ) → i ≡ rowOf number → a ≡ getD starts i 0 → e ≡ getD starts (i + 1) 0 → Row number a e
@@ -75,14 +75,14 @@ row-at number i a e ei ea ee =
 
 -- every text fits in 64 bytes with a zero byte after it
 shortText : ℕ → Bool
-shortText i = ltb (length (textOf i)) 64
+shortText i = ltb (length (numberText i)) 64
 
 short-rule : T (allBelow 33 shortText)
-unfolding shortText textOf texts
+unfolding shortText numberText texts
 short-rule = tt
 
-pub text-short : (number : ℕ) → length (textOf number) < 64
+pub text-short : (number : ℕ) → length (numberText number) < 64
 unfolding shortText
 text-short number =
     let t = is-true _ (all-at 33 shortText short-rule (rowOf number) (row-below number)) in
-    subst (λ x. length x < 64) (row-text number) (ltb-true (length (textOf (rowOf number))) 64 t)
+    subst (λ x. length x < 64) (row-text number) (ltb-true (length (numberText (rowOf number))) 64 t)

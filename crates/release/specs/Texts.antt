@@ -8,9 +8,9 @@ use lib.ListN.{length, take, getD}
 use Rattle.text.specs.Written.{written}
 
 -- a text as bytes
-abbrev pub bytesOf : String → List ℕ
-bytesOf string.[] = []
-bytesOf (string._∷_ x s) = code x ∷ bytesOf s
+abbrev pub textBytes : String → List ℕ
+textBytes string.[] = []
+textBytes (string._∷_ x s) = code x ∷ textBytes s
 
 -- the texts of 0 to 31, in this order
 unfoldable pub texts : List String
@@ -54,8 +54,8 @@ abbrev pub other : String
 other = "not a number of this library"
 
 -- the text of a number
-unfoldable pub textOf : ℕ → List ℕ
-textOf number = bytesOf (getD texts number other)
+unfoldable pub numberText : ℕ → List ℕ
+numberText number = textBytes (getD texts number other)
 
 -- a buffer with a text at its start, cut where it has no room, and a zero byte after it; one of no bytes stays
 abbrev pub lentText : List ℕ → List ℕ → List ℕ

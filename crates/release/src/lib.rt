@@ -3,8 +3,8 @@ ghost use mathlib.Core.Path.{_≡_};
 ghost use Prim.Native.Nat.{_-_, _≤_};
 ghost use lib.ListN.{length, take, drop, getD};
 ghost use Rattle.release.specs.Version.{libraryVersion, deskLayout, gatherLayout};
-ghost use Rattle.release.specs.Texts.{textOf, lentText};
-ghost use Rattle.release.specs.Joined.{joined, starts, rowOf};
+ghost use Rattle.release.specs.Texts.{numberText, lentText};
+ghost use Rattle.release.specs.Joined.{joinedTexts, starts, rowOf};
 
 // The texts of 0 to 31, and that of any other number, end to end.
 const ALL: [u8; 1247] = *b"\
@@ -130,22 +130,22 @@ fn lend(text: &[u8], out: &mut [u8])
         return;
     }
     let n = least(text.len(), out.len() - 1);
-    let end = cells::put_text(out, 0, &text[..n]);
+    let end = text::put_text(out, 0, &text[..n]);
     out[end] = 0;
 }
 
 // The same with a part of the texts.
 fn lend_part(a: usize, e: usize, out: &mut [u8])
     requires { ⌜ (a ≤ e) × (e ≤ 1247) ⌝ }
-    ensures { λ _. ⌜ now (out .exit) ≡ lentText (take (e - a) (drop a joined)) (now (out .entry)) ⌝ }
+    ensures { λ _. ⌜ now (out .exit) ≡ lentText (take (e - a) (drop a joinedTexts)) (now (out .entry)) ⌝ }
 {
     lend(&ALL[a..e], out);
 }
 
 // Puts the text of a number at the start of a buffer, cut where it has no room, with a zero byte after it, and gives the length of the whole text.
 pub fn number_text(number: usize, out: &mut [u8]) -> usize
-    ensures size { λ r. ⌜ r ≡ length (textOf number) ⌝ }
-    ensures out { λ _. ⌜ now (out .exit) ≡ lentText (textOf number) (now (out .entry)) ⌝ }
+    ensures size { λ r. ⌜ r ≡ length (numberText number) ⌝ }
+    ensures out { λ _. ⌜ now (out .exit) ≡ lentText (numberText number) (now (out .entry)) ⌝ }
 {
     let i = row(number);
     let a = start(i);

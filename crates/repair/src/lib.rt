@@ -1,13 +1,13 @@
 // The service Repair: one group, by its own equations.
-use shape::Mending;
+use answers::Mending;
 ghost use mathlib.Core.Path.{_≡_};
 ghost use Prim.Native.Nat.{_≤_, _<_};
 ghost use lib.ListN.{length};
-ghost use Rattle.shape.specs.Answers.{mendingAt};
+ghost use Rattle.answers.specs.Answers.{mendingAt};
 ghost use Rattle.byte_edition.specs.Edition.{byteEdition};
 ghost use Rattle.code.specs.Marks.{lostIn};
 ghost use Rattle.code.specs.Repair.{repaired};
-ghost use Rattle.repair.specs.Repair.{PartAttempt, repairRefusal, repairOf};
+ghost use Rattle.code_services.specs.Repair.{repairIn, PartAttemptIn};
 
 // Fills the lost places of a stretch in found, and writes it into the stretch if it satisfies all of the group's equations.
 fn attempt(c: usize, part: &mut [u8], marks: &[u8], found: &mut [u8]) -> bool
@@ -17,7 +17,7 @@ fn attempt(c: usize, part: &mut [u8], marks: &[u8], found: &mut [u8]) -> bool
     requires { ⌜ length (now marks) ≡ length (now part) ⌝ }
     requires { ⌜ length (now found) ≡ length (now part) ⌝ }
     requires { ⌜ lostIn (length (now part)) (now marks) 0 ≤ c ⌝ }
-    ensures { λ r. ⌜ PartAttempt (length (now (part .entry))) c (now (marks .entry)) (now (part .entry)) (now (part .exit)) r ⌝ }
+    ensures { λ r. ⌜ PartAttemptIn byteEdition (length (now (part .entry))) c (now (marks .entry)) (now (part .entry)) (now (part .exit)) r ⌝ }
 {
     buffers::copy(part, found);
     fill::fill(found, marks);
@@ -54,9 +54,9 @@ fn repair_part(c: usize, g: usize, part: &mut [u8], marks: &mut [u8]) -> Mending
 
 // Repairs group g of the word, or refuses and changes nothing.
 pub fn repair(m: usize, w: usize, c: usize, g: usize, word: &mut [u8], marks: &mut [u8]) -> Mending
-    ensures answer { λ r. ⌜ r ≡ mendingAt ((repairOf m w c g (now (word .entry)) (now (marks .entry))) .number) ((repairOf m w c g (now (word .entry)) (now (marks .entry))) .group) ⌝ }
-    ensures word { λ _. ⌜ now (word .exit) ≡ (repairOf m w c g (now (word .entry)) (now (marks .entry))) .word ⌝ }
-    ensures marks { λ _. ⌜ now (marks .exit) ≡ (repairOf m w c g (now (word .entry)) (now (marks .entry))) .marks ⌝ }
+    ensures answer { λ r. ⌜ r ≡ mendingAt ((repairIn byteEdition m w c g (now (word .entry)) (now (marks .entry))) .number) ((repairIn byteEdition m w c g (now (word .entry)) (now (marks .entry))) .group) ⌝ }
+    ensures word { λ _. ⌜ now (word .exit) ≡ (repairIn byteEdition m w c g (now (word .entry)) (now (marks .entry))) .word ⌝ }
+    ensures marks { λ _. ⌜ now (marks .exit) ≡ (repairIn byteEdition m w c g (now (word .entry)) (now (marks .entry))) .marks ⌝ }
 {
     let r = recover::refusal(m, w, c, word, marks);
     if r != 0 {

@@ -1,7 +1,10 @@
 // The shape of a word: how many groups, how wide each is, and how many local checks each has.
+use answers::Described;
 ghost use mathlib.Core.Path.{_≡_};
-ghost use Rattle.shape.specs.Refusals.{_orElse_};
-ghost use Rattle.shape.specs.Shapes.{placeCount, dataCount, sureCount, shapeRefusal, retiredRefusal, saleRefusal, wordRefusal, bufferRefusal, madeOf, describedOf, describedNumber, describedFigures, figuresOf};
+ghost use Rattle.code.specs.Refusals.{_orElse_};
+ghost use Rattle.code.specs.Limits.{placeCount, dataCount, sureCount, shapeRefusalIn, retiredRefusal, saleRefusalIn, wordRefusalIn, bufferRefusalIn};
+ghost use Rattle.answers.specs.Figures.{describedNumber, describedFigures, describedIn, figuresIn};
+ghost use Rattle.shape.specs.Shapes.{madeOf, byteLimits};
 
 // m groups of w places, with c local checks in each.
 pub struct Shape {
@@ -16,25 +19,6 @@ pub enum Made {
     Refused(u8),
 }
 
-// The answer of a service that has no figures: done, or the number of a refusal.
-pub enum Answer {
-    Done,
-    Refused(u8),
-}
-
-// The answer of a service that mends: done, contradictory with the number of a group, or the number of another refusal.
-pub enum Mending {
-    Done,
-    Contradictory(u8),
-    Refused(u8),
-}
-
-// The figures of a good shape, or the number of a refusal.
-pub enum Described {
-    Figures { n: usize, k: usize, sure: usize },
-    Refused(u8),
-}
-
 impl Shape {
     pub const MAX_GROUPS: usize = 15;
 
@@ -43,9 +27,6 @@ impl Shape {
     pub const MAX_WIDTH: usize = 16;
 
     pub const MAX_PLACES: usize = 240;
-
-    // Out of sale: nothing new is encoded with so many checks, and old words with them stay readable.
-    pub const RETIRED_CHECKS: usize = 4;
 
     // The shape of these numbers, if it is good. A number of any size is tested before it is narrowed.
     pub fn new(m: usize, w: usize, c: usize) -> Made
@@ -113,9 +94,9 @@ impl Shape {
 
 // The service Describe.
 pub fn describe(m: usize, w: usize, c: usize) -> Described
-    ensures answer { λ r. ⌜ r ≡ describedOf m w c ⌝ }
-    ensures number { λ r. ⌜ describedNumber r ≡ shapeRefusal m w c ⌝ }
-    ensures figures { λ r. ⌜ describedFigures r ≡ figuresOf m w c ⌝ }
+    ensures answer { λ r. ⌜ r ≡ describedIn byteLimits m w c ⌝ }
+    ensures number { λ r. ⌜ describedNumber r ≡ shapeRefusalIn byteLimits m w c ⌝ }
+    ensures figures { λ r. ⌜ describedFigures r ≡ figuresIn byteLimits m w c ⌝ }
 {
     match Shape::new(m, w, c) {
         Made::Good(s) => Described::Figures {
@@ -127,16 +108,9 @@ pub fn describe(m: usize, w: usize, c: usize) -> Described
     }
 }
 
-// The first of two refusals, 0 being none.
-pub fn or_else(first: u8, second: u8) -> u8
-    ensures { λ r. ⌜ r ≡ first orElse second ⌝ }
-{
-    if first != 0 { first } else { second }
-}
-
 // The refusal of a shape, 1 to 4; 0 if it is good.
 pub fn shape_refusal(m: usize, w: usize, c: usize) -> u8
-    ensures { λ r. ⌜ r ≡ shapeRefusal m w c ⌝ }
+    ensures { λ r. ⌜ r ≡ shapeRefusalIn byteLimits m w c ⌝ }
 {
     match Shape::new(m, w, c) {
         Made::Refused(r) => r,
@@ -144,25 +118,18 @@ pub fn shape_refusal(m: usize, w: usize, c: usize) -> u8
     }
 }
 
-// 29 for a number of checks that is out of sale; else 0.
-pub fn retired_refusal(c: usize) -> u8
-    ensures { λ r. ⌜ r ≡ retiredRefusal c ⌝ }
-{
-    if c == Shape::RETIRED_CHECKS { 29 } else { 0 }
-}
-
 // The refusal, 1 to 4 and then 29, of a service that makes something new of a shape; 0 if there is none.
 pub fn sale_refusal(m: usize, w: usize, c: usize) -> u8
-    ensures { λ r. ⌜ r ≡ saleRefusal m w c ⌝ }
+    ensures { λ r. ⌜ r ≡ saleRefusalIn byteLimits m w c ⌝ }
 {
     let bad = shape_refusal(m, w, c);
-    let retired = retired_refusal(c);
-    or_else(bad, retired)
+    let retired = answers::retired_refusal(c);
+    answers::or_else(bad, retired)
 }
 
 // The refusal, 1 to 5, of a service that is lent a word or marks of this length; 0 if there is none.
 pub fn word_refusal(m: usize, w: usize, c: usize, word: usize) -> u8
-    ensures { λ r. ⌜ r ≡ wordRefusal m w c word ⌝ }
+    ensures { λ r. ⌜ r ≡ wordRefusalIn byteLimits m w c word ⌝ }
 {
     match Shape::new(m, w, c) {
         Made::Refused(r) => r,
@@ -177,7 +144,7 @@ pub fn word_refusal(m: usize, w: usize, c: usize, word: usize) -> u8
 
 // The refusal, 1 to 5, of a service that is lent a word and data of these lengths; 0 if there is none.
 pub fn buffer_refusal(m: usize, w: usize, c: usize, word: usize, bytes: usize) -> u8
-    ensures { λ r. ⌜ r ≡ bufferRefusal m w c word bytes ⌝ }
+    ensures { λ r. ⌜ r ≡ bufferRefusalIn byteLimits m w c word bytes ⌝ }
 {
     match Shape::new(m, w, c) {
         Made::Refused(r) => r,

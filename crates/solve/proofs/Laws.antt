@@ -20,9 +20,9 @@ use Rattle.binary_field.specs.Product.{product}
 use native.Mathlib.Decide.{ℕ-discrete, decLt}
 use Rattle.binary_field.specs.Inverse.{inverse}
 use Rattle.code.specs.Stretch.{stretch, withStretch}
-use Rattle.solve.specs.Elimination.{row, entry, scaled, added, exchanged, normalized, clearedRow, cleared, pivotFrom, pivot, eliminateColumn}
-use Rattle.solve.specs.Elimination.{eliminatedTo, eliminated}
-use Rattle.solve.specs.RowsLaws.{length-scaled, length-added, cleared-pivot}
+use Rattle.code_engine.specs.Elimination.{row, entry, scaled, added, exchanged, normalized, clearedRow, cleared, pivotFrom, pivot, eliminateColumn}
+use Rattle.code_engine.specs.Elimination.{eliminatedTo, eliminated}
+use Rattle.code_engine.specs.EliminationRowsLaws.{length-scaled, length-added, cleared-pivot}
 use Rattle.solve.specs.Flat.{rowsOf}
 use Rattle.solve.specs.FlatLaws.{row-of, entry-of, row-long, rows-with}
 

@@ -8,7 +8,7 @@ use lib.ListN.{length, getD, set, length-set}
 use lib.Seq.{ext-getD, getD-set-same, getD-set-other}
 use Rattle.code.specs.Stretch.{stretch, withStretch}
 use Rattle.code.specs.StretchLaws.{stretch-at, stretch-length, with-length, with-inside, with-before, with-after}
-use Rattle.solve.specs.Elimination.{row, entry}
+use Rattle.code_engine.specs.Elimination.{row, entry}
 use Rattle.solve.specs.Flat.{rowsOf}
 
 pub rows-length : (x : List ℕ) → length (rowsOf x) ≡ 4

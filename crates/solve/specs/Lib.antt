@@ -1,12 +1,2 @@
 pub mod Flat
 pub mod FlatLaws
-pub mod Elimination
-pub mod Rows
-pub mod RowsLaws
-pub mod Steps
-pub mod StepsLaws
-pub mod Kernel
-pub mod KernelLaws
-pub mod Solution
-pub mod SolutionLaws
-pub mod BytesLaws

@@ -4,7 +4,7 @@
 ghost use mathlib.Core.Path.{_≡_};
 ghost use Prim.Native.Nat.{_≤_, _<_, min};
 ghost use lib.ListN.{length, set};
-ghost use Rattle.solve.specs.Elimination.{row, scaled, added, exchanged, normalized, clearedRow, cleared, pivot, eliminateColumn, eliminated};
+ghost use Rattle.code_engine.specs.Elimination.{row, scaled, added, exchanged, normalized, clearedRow, cleared, pivot, eliminateColumn, eliminated};
 ghost use Rattle.solve.specs.Flat.{rowsOf};
 
 // A row times f.

@@ -1,37 +1,24 @@
 -- Sums of a word by groups, as the loops gather them.
-use mathlib.Core.Path.{_≡_, refl, sym, ap, ap₂, _∙_}
-use mathlib.Core.Bool.{Bool, true, false}
+use mathlib.Core.Path.{_≡_, sym, ap, ap₂, _∙_}
 use mathlib.Core.List.{List}
 use Prim.Native.Nat.{ℕ, suc, _+_, _-_, _*_, _<_, _≤_}
-use native.Mathlib.Numerals.{add-one}
 use native.Mathlib.Decide.{decLt}
 use native.Mathlib.Omega.{arith}
-use lib.Bits.{bitXor}
-use lib.Dec.{T, eqb}
-use lib.ListN.{length, getD, take, drop, length-take, List·getD-eq-default}
+use lib.Dec.{eqb}
+use lib.ListN.{length, getD, take, length-take, List·getD-eq-default}
 use lib.Seq.{getD-take, length-take-le}
 use Rattle.counting.specs.Test.{allBelow}
-use Rattle.binary_field.specs.Xor.{_⊕_}
-use Rattle.binary_field.specs.XorLaws.{⊕-bits}
-use Rattle.binary_field.specs.ProductLaws.{product-left-comm}
 use Rattle.binary_field.specs.Sum.{innerProduct}
-use Rattle.binary_field.specs.SumLaws.{sum-none, sum-suc, sum-ext, sum-scale}
-use Rattle.code.specs.Edition.{Edition, times, raised}
+use Rattle.binary_field.specs.SumLaws.{sum-ext}
+use Rattle.code.specs.Edition.{times, raised}
 use Rattle.byte_edition.specs.Edition.{byteEdition}
-use Rattle.code.specs.Word.{groupSum, localSum, wordSum, coefficient, secondCoefficient, isLocal}
-use Rattle.code.specs.StretchLaws.{own-place, stretch-sum}
-use Rattle.code.specs.Lent.{LentIn}
-use Rattle.code.specs.LentLaws.{part-stretch, part-length}
-use Rattle.check_rows.specs.Rows.{powerRows, firstRows, secondRows, noRow}
-use Rattle.check_rows.specs.RowsLaws.{power-at, first-at, second-at}
-use Rattle.check_rows.specs.Padded.{Padded}
-use Rattle.check_rows.specs.PaddedLaws.{padded-group}
+use Rattle.code.specs.Word.{groupSum, localSum, coefficient, secondCoefficient, isLocal}
+use Rattle.code.specs.StretchLaws.{own-place}
+use Rattle.byte_edition.specs.Rows.{powerRows, firstRows, secondRows, noRow}
+use Rattle.byte_edition.specs.RowsLaws.{power-at, first-at, second-at}
+use Rattle.code_engine.specs.Padded.{Padded}
+use Rattle.byte_edition.specs.PaddedLaws.{padded-group}
 use Rattle.syndrome.specs.Across.{plainSums, groupSums}
-
--- a test that would show what is not so
-pub is-false : (b : Bool) → (T b → ⊥) → b ≡ false
-is-false true h = absurd (h tt)
-is-false false h = refl
 
 -- ---- one group, from its stretch
 -- an inner product with a row of coefficients is a sum over the group
@@ -41,15 +28,6 @@ unfolding innerProduct groupSum
 inner-group part row h narrow same =
     sum-ext (length part) _ _
     (λ j l. ap₂ (times byteEdition) (ap (λ n. getD part n 0) (sym (own-place (length part) j))) (same j (omega arith)))
-
--- the factor 2^g of a group stands before its sum
-pub second-coefficient-group : (E : Edition) (w c g : ℕ) (part : List ℕ)
-    → times E (raised E 2 g) (groupSum E w part 0 (λ j. raised E (coefficient E c j) (E .small))) ≡ groupSum E w part 0 (secondCoefficient E c g)
-unfolding groupSum secondCoefficient
-second-coefficient-group E w c g part =
-    sym
-    (sum-ext w _ _ (λ j _. product-left-comm (E .bits) (E .poly) (getD part (0 * w + j) 0) (raised E 2 g) (raised E (coefficient E c j) (E .small)))
-    ∙ sum-scale (E .bits) (E .poly) w (raised E 2 g) _)
 
 -- a stretch that is padded
 module _ {part x : List ℕ} (P : Padded part x) (narrow : length part ≤ 16) (c : ℕ) where
@@ -104,29 +82,3 @@ module _ (part : List ℕ) (narrow : length part ≤ 16) where
         ≡ groupSum byteEdition (length part) part 0 (λ j. raised byteEdition (coefficient byteEdition c j) 16)
     second-group = inner-group part _ _ narrow (λ j l. second-at (c - 1) j (omega arith) l
         ∙ ap (λ n. raised byteEdition (coefficient byteEdition n j) 16) same-count)
-
--- ---- all groups
-pub word-none : (E : Edition) (w : ℕ) (word : List ℕ) (h : ℕ → ℕ → ℕ) → wordSum E 0 w word h ≡ 0
-unfolding wordSum
-word-none E w word h = sum-none _
-
-word-more : (E : Edition) (g w : ℕ) (word : List ℕ) (h : ℕ → ℕ → ℕ) → wordSum E (g + 1) w word h ≡ wordSum E g w word h ⊕ groupSum E w word g (h g)
-unfolding wordSum
-word-more E g w word h = ap (λ n. wordSum E n w word h) (add-one g) ∙ sum-suc g _
-
-module _ (E : Edition) {m w c : ℕ} {word : List ℕ} (L : LentIn (E .limits) m w c word) (g : ℕ) (l : g < m) {part : List ℕ}
-    (is : part ≡ take (g * w + w - g * w) (drop (g * w) word)) where
-  -- one turn of a sum across
-  pub sum-turn : (h : ℕ → ℕ → ℕ) (s r : ℕ) → s ≡ wordSum E g w word h → r ≡ groupSum E (length part) part 0 (h g)
-      → bitXor s r ≡ wordSum E (g + 1) w word h
-  sum-turn h s r p q =
-      ⊕-bits s r
-      ∙ ap₂ _⊕_ p (q ∙ ap₂ (λ n x. groupSum E n x 0 (h g)) (part-length L g l is) (part-stretch L g l is) ∙ stretch-sum E w g word (h g))
-      ∙ sym (word-more E g w word h)
-
-  -- the group's own equations
-  pub part-local : isLocal E (length part) c part 0 ≡ isLocal E w c word g
-  unfolding isLocal
-  part-local =
-      ap₂ (λ n x. isLocal E n c x 0) (part-length L g l is) (part-stretch L g l is)
-      ∙ (λ i. allBelow c (λ e. eqb (stretch-sum E w g word (λ j. raised E (E .locator j) e) i) 0))

@@ -1,28 +1,23 @@
 // The sums of a word's equations (its syndromes), and whether they are all zero.
+use answers::Tested;
 ghost use mathlib.Core.Path.{_≡_};
 ghost use mathlib.Core.Bool.{true, false};
 ghost use Prim.Native.Nat.{ℕ, _*_, _≤_, _<_};
 ghost use lib.ListN.{length, getD};
 ghost use Rattle.binary_field.specs.Xor.{_⊕_};
 ghost use Rattle.binary_field.specs.Product.{double};
-ghost use Rattle.shape.specs.Shapes.{Good};
+ghost use Rattle.shape.specs.Shapes.{byteLimits};
+ghost use Rattle.code.specs.Limits.{GoodIn};
 ghost use Rattle.byte_edition.specs.Edition.{byteEdition};
 ghost use Rattle.code.specs.Word.{isLocal};
 ghost use Rattle.syndrome.specs.Across.{plainSums, groupSums, rowSums, acrossOf, noSums};
-ghost use Rattle.syndrome.specs.Horner.{AddedRows, HornerRows};
-ghost use Rattle.syndrome.specs.Tests.{brokenGroup, testedOf, notTested};
+ghost use Rattle.code_engine.specs.Horner.{AddedRows, HornerRows};
+ghost use Rattle.code_engine.specs.Tests.{notTested, brokenGroupIn, testedIn};
 
 // What the two equations across sum up to.
 pub struct Sums {
     pub first: u8,
     pub second: u8,
-}
-
-// What the test of a word's equations finds: whether it is a codeword, and the lowest group whose local sums are not all zero, or m if there
-// is none.
-pub struct Tested {
-    pub codeword: bool,
-    pub group: usize,
 }
 
 // Whether the first c local sums of at most sixteen places are zero.
@@ -32,7 +27,7 @@ fn zero_sums(part: &[u8], c: usize) -> bool
 {
     let mut e: usize = 0;
     while e < c {
-        if check_rows::power_sum(part, e) != 0 {
+        if byte_edition::power_sum(part, e) != 0 {
             return false;
         }
         e += 1;
@@ -58,7 +53,7 @@ pub fn local_zero(part: &[u8], c: usize) -> bool
     if part.len() < 5 {
         return zero_sums(part, c);
     }
-    let x = check_rows::padded(part);
+    let x = byte_edition::padded(part);
     zero_sums(&x, c)
 }
 
@@ -81,8 +76,8 @@ fn plain_sums(part: &[u8], c: usize) -> Sums
     requires { ⌜ (length (now part) ≤ 16) × (1 ≤ c) × (c ≤ 4) ⌝ }
     ensures { λ r. ⌜ r ≡ plainSums c (now (part .entry)) ⌝ }
 {
-    let first = check_rows::first_sum(part, c - 1);
-    let second = check_rows::second_sum(part, c - 1);
+    let first = byte_edition::first_sum(part, c - 1);
+    let second = byte_edition::second_sum(part, c - 1);
     Sums { first, second }
 }
 
@@ -94,7 +89,7 @@ fn padded_sums(part: &[u8], c: usize) -> Sums
     if part.len() == 16 {
         return plain_sums(part, c);
     }
-    let x = check_rows::padded(part);
+    let x = byte_edition::padded(part);
     plain_sums(&x, c)
 }
 
@@ -172,13 +167,13 @@ fn add_part(x: [u8; 16], y: [u8; 16], part: &[u8]) -> Rows
     if 16 <= part.len() {
         return add_sixteen(x, y, part);
     }
-    let p = check_rows::padded(part);
+    let p = byte_edition::padded(part);
     add_sixteen(x, y, &p)
 }
 
 // The rows of all groups, from the last to the first. What stands past the group's own places is added too, and not read later.
 fn rows_of(m: usize, w: usize, c: usize, word: &[u8]) -> Rows
-    requires { ⌜ Good m w c ⌝ }
+    requires { ⌜ GoodIn byteLimits m w c ⌝ }
     requires { ⌜ length (now word) ≡ m * w ⌝ }
     ensures { λ r. ⌜ HornerRows byteEdition w (now (word .entry)) 0 m (r .plain) (r .weighted) ⌝ }
 {
@@ -200,17 +195,17 @@ fn row_sums(x: [u8; 16], y: [u8; 16], w: usize, c: usize) -> Sums
     requires { ⌜ (w ≤ 16) × (1 ≤ c) × (c ≤ 4) ⌝ }
     ensures { λ r. ⌜ r ≡ rowSums w c x y ⌝ }
 {
-    let p = check_rows::padded(&x[..w]);
-    let q = check_rows::padded(&y[..w]);
-    let first = check_rows::first_sum(&p, c - 1);
-    let second = check_rows::second_sum(&q, c - 1);
+    let p = byte_edition::padded(&x[..w]);
+    let q = byte_edition::padded(&y[..w]);
+    let first = byte_edition::first_sum(&p, c - 1);
+    let second = byte_edition::second_sum(&q, c - 1);
     Sums { first, second }
 }
 
 // The two sums across, of a good shape and a word of its length; 0 for others. By Horner's rule, so that there is one inner product for each.
 pub fn across(m: usize, w: usize, c: usize, word: &[u8]) -> Sums
-    ensures { λ r. ⌜ (Good m w c → length (now (word .entry)) ≡ m * w → r ≡ acrossOf m w c (now (word .entry))) ⌝ }
-    ensures { λ r. ⌜ ((Good m w c → length (now (word .entry)) ≡ m * w → ⊥) → r ≡ noSums) ⌝ }
+    ensures { λ r. ⌜ (GoodIn byteLimits m w c → length (now (word .entry)) ≡ m * w → r ≡ acrossOf m w c (now (word .entry))) ⌝ }
+    ensures { λ r. ⌜ ((GoodIn byteLimits m w c → length (now (word .entry)) ≡ m * w → ⊥) → r ≡ noSums) ⌝ }
 {
     if shape::word_refusal(m, w, c, word.len()) != 0 {
         return Sums {
@@ -226,9 +221,9 @@ pub fn across(m: usize, w: usize, c: usize, word: &[u8]) -> Sums
 
 // The lowest group whose local sums are not all zero; m if there is none.
 fn broken_group(m: usize, w: usize, c: usize, word: &[u8]) -> usize
-    requires { ⌜ Good m w c ⌝ }
+    requires { ⌜ GoodIn byteLimits m w c ⌝ }
     requires { ⌜ length (now word) ≡ m * w ⌝ }
-    ensures { λ r. ⌜ r ≡ brokenGroup m w c (now (word .entry)) ⌝ }
+    ensures { λ r. ⌜ r ≡ brokenGroupIn byteEdition m w c (now (word .entry)) ⌝ }
 {
     let mut g: usize = 0;
     while g < m {
@@ -244,8 +239,8 @@ fn broken_group(m: usize, w: usize, c: usize, word: &[u8]) -> usize
 
 // The test of all the equations of a word of a good shape's length. A shape or length that is refused is no codeword, and its group is 0.
 pub fn test(m: usize, w: usize, c: usize, word: &[u8]) -> Tested
-    ensures { λ r. ⌜ (Good m w c → length (now (word .entry)) ≡ m * w → r ≡ testedOf m w c (now (word .entry))) ⌝ }
-    ensures { λ r. ⌜ ((Good m w c → length (now (word .entry)) ≡ m * w → ⊥) → r ≡ notTested) ⌝ }
+    ensures { λ r. ⌜ (GoodIn byteLimits m w c → length (now (word .entry)) ≡ m * w → r ≡ testedIn byteEdition m w c (now (word .entry))) ⌝ }
+    ensures { λ r. ⌜ ((GoodIn byteLimits m w c → length (now (word .entry)) ≡ m * w → ⊥) → r ≡ notTested) ⌝ }
 {
     if shape::word_refusal(m, w, c, word.len()) != 0 {
         return Tested {

@@ -1,5 +1,5 @@
 -- Numbers as text: "decimal [..] without sign or leading zero", below any bound. Text is a list of bytes in ASCII.
-use mathlib.Core.Bool.{Bool, cond, _&&_}
+use mathlib.Core.Bool.{Bool, cond, _&&_, true, not}
 use mathlib.Core.List.{List, [], _∷_, _++_}
 use Prim.Native.Nat.{ℕ, zero, suc, _+_, _-_, _*_, _/_, _%_}
 use lib.Dec.{eqb, leb, ltb}
@@ -32,3 +32,16 @@ unfoldable pub numberOf : ℕ → List ℕ → ℕ
 numberOf bound [] = unreadable bound
 numberOf bound (x ∷ []) = digitsAfter bound 0 (x ∷ [])
 numberOf bound (x ∷ y ∷ ys) = cond (eqb x 48) (unreadable bound) (digitsAfter bound 0 (x ∷ y ∷ ys))
+
+-- ---- reading, one digit at a time
+
+-- the number a with one digit more, where it is below the bound
+unfoldable pub digitAfter : ℕ → ℕ → ℕ → ℕ
+digitAfter bound a x = cond (isDigit x && ltb (10 * a + (x - 48)) bound) (10 * a + (x - 48)) (unreadable bound)
+
+-- ---- the bytes of a number's text
+
+-- whether a byte stands nowhere in a text
+unfoldable pub without : ℕ → List ℕ → Bool
+without y [] = true
+without y (x ∷ xs) = not (eqb x y) && without y xs

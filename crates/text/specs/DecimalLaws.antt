@@ -8,7 +8,7 @@ use native.Mathlib.Decide.{decLt}
 use borrow.Author.Tests.{lt-ltb, le-ltb, leb-true, ltb-true, eqb-false, eq-eqb, ne-eqb, le-leb}
 use lib.Dec.{T, eqb, leb, ltb, eqb→eq, not-T}
 use lib.ListN.{length, getD, length-append, List·getD-append}
-use Rattle.text.specs.Decimal.{digitsOf, isDigit, unreadable, digitsAfter, numberOf}
+use Rattle.text.specs.Decimal.{digitsOf, isDigit, unreadable, digitsAfter, numberOf, digitAfter, without}
 use Rattle.counting.specs.TestLaws.{and-l, and-r, and-intro}
 
 -- ---- the digits of a number
@@ -54,12 +54,6 @@ digits-some (suc t) n = elim (decLt n 10) [
   | yes h ↦ rw (digits-one (suc t) n h) (omega arith)
   | no h ↦ rw (digits-split t n (omega arith), length-append) (omega arith)
 ]
-
--- ---- reading, one digit at a time
-
--- the number a with one digit more, where it is below the bound
-unfoldable pub digitAfter : ℕ → ℕ → ℕ → ℕ
-digitAfter bound a x = cond (isDigit x && ltb (10 * a + (x - 48)) bound) (10 * a + (x - 48)) (unreadable bound)
 
 pub digit-again : (bound a x : ℕ) (xs : List ℕ) → digitAfter bound a x < bound
     → digitsAfter bound a (x ∷ xs) ≡ digitsAfter bound (digitAfter bound a x) xs
@@ -154,13 +148,6 @@ number-of-digits t bound n m l =
       | no p ↦ (let h = ap length (digits-one t n (omega arith)) in omega arith)
     ])
     ∙ digits-read-back t bound n m l
-
--- ---- the bytes of a number's text
-
--- whether a byte stands nowhere in a text
-unfoldable pub without : ℕ → List ℕ → Bool
-without y [] = true
-without y (x ∷ xs) = not (eqb x y) && without y xs
 
 pub without-append : (y : ℕ) (xs ys : List ℕ) → T (without y xs) → T (without y ys) → T (without y (xs ++ ys))
 unfolding without

@@ -1,7 +1,7 @@
 -- A text's parts, one after the other: each is what stands before the next separator. A line's fields are its parts between tabs.
 use mathlib.Core.Path.{_≡_, refl, sym, ap, ap₂, _∙_}
 use mathlib.Core.Bool.{Bool, true, false, not, cond, _&&_, false≢true}
-use mathlib.Core.List.{List, [], _∷_, _++_, map}
+use mathlib.Core.List.{List, [], _∷_, _++_}
 use Prim.Native.Nat.{ℕ, suc, _+_, _-_, _≤_, _<_}
 use native.Mathlib.Numerals.{add-one}
 use native.Mathlib.Omega.{arith}
@@ -9,23 +9,9 @@ use borrow.Author.Tests.{eqb-true, eq-eqb, ne-eqb}
 use lib.Dec.{T, eqb}
 use lib.ListN.{length, getD, take, drop, length-drop, length-map, drop-of-length-le}
 use lib.Seq.{drop-cons, drop-drop, drop-append-seam}
-use Rattle.text.specs.Fields.{withFirst, parts, same, lostPlace, meaning}
-use Rattle.text.specs.Decimal.{digitsAfter, numberOf}
-use Rattle.text.specs.DecimalLaws.{without}
-
--- the bytes before the first separator
-unfoldable pub upTo : ℕ → List ℕ → List ℕ
-upTo sep [] = []
-upTo sep (x ∷ xs) = cond (eqb x sep) [] (x ∷ upTo sep xs)
-
--- the parts after a separator that stands first
-unfoldable pub later : ℕ → List ℕ → List (List ℕ)
-later sep [] = []
-later sep (x ∷ xs) = parts sep xs
-
--- the bytes before the first tab
-abbrev pub toTab : List ℕ → List ℕ
-toTab = upTo 9
+use Rattle.text.specs.Fields.{withFirst, parts, same, lostPlace, meaning, upTo, later, toTab, endOf, partsFrom, joinedBy}
+use Rattle.text.specs.Decimal.{digitsAfter, numberOf, without}
+use Rattle.text.specs.Records.{valuesFrom}
 
 pub parts-split : (sep : ℕ) (xs : List ℕ) → parts sep xs ≡ upTo sep xs ∷ later sep (drop (length (upTo sep xs)) xs)
 unfolding parts upTo later
@@ -63,10 +49,6 @@ unfolding later
 later-few sep [] = omega arith
 later-few sep (x ∷ xs) = parts-few sep xs
 
--- the end of the part that starts at a place
-unfoldable pub endOf : ℕ → ℕ → List ℕ → ℕ
-endOf sep i text = i + length (upTo sep (drop i text))
-
 pub end-here : (sep : ℕ) (text : List ℕ) (i : ℕ) → length text ≤ i → endOf sep i text ≡ i
 unfolding endOf upTo
 end-here sep text i l = rw (drop-of-length-le text l) (omega arith)
@@ -87,10 +69,6 @@ unfolding endOf
 part-taken sep i text =
     let e : i + length (upTo sep (drop i text)) - i ≡ length (upTo sep (drop i text)) = omega arith in rw e (take-part sep (drop i text))
 
--- the parts that stand after place i, which is a separator or the text's end
-unfoldable pub partsFrom : ℕ → ℕ → List ℕ → List (List ℕ)
-partsFrom sep i text = later sep (drop i text)
-
 pub parts-more : (sep i : ℕ) (text : List ℕ) → i < length text
     → partsFrom sep i text ≡ upTo sep (drop (i + 1) text) ∷ partsFrom sep (endOf sep (i + 1) text) text
 unfolding partsFrom later endOf
@@ -106,10 +84,6 @@ parts-end sep i text l = rw (drop-of-length-le text l)
 pub parts-all : (sep : ℕ) (text : List ℕ) → parts sep text ≡ upTo sep text ∷ partsFrom sep (length (upTo sep text)) text
 unfolding partsFrom
 parts-all sep text = parts-split sep text
-
--- what the fields mean that stand after place i, which is a tab or the line's end
-unfoldable pub valuesFrom : ℕ → List ℕ → List ℕ
-valuesFrom i line = map meaning (partsFrom 9 i line)
 
 pub values-more : (i : ℕ) (line : List ℕ) → i < length line
     → valuesFrom i line ≡ meaning (toTab (drop (i + 1) line)) ∷ valuesFrom (endOf 9 (i + 1) line) line
@@ -185,13 +159,6 @@ front-part sep (x ∷ f) rest t e = go (eqb x sep) t (λ u. front-part sep f res
 
 pub parts-front : (sep : ℕ) (f rest : List ℕ) → T (without sep f) → upTo sep rest ≡ [] → parts sep (f ++ rest) ≡ f ∷ later sep rest
 parts-front sep f rest t e = parts-split sep (f ++ rest) ∙ rw (front-part sep f rest t e, drop-append-seam f rest)
-
--- ---- the parts of a text and the separators between them are the text
-
-unfoldable pub joinedBy : ℕ → List (List ℕ) → List ℕ
-joinedBy sep [] = []
-joinedBy sep (p ∷ []) = p
-joinedBy sep (p ∷ q ∷ ps) = p ++ (sep ∷ joinedBy sep (q ∷ ps))
 
 join-first : (sep x : ℕ) (p : List ℕ) (ps : List (List ℕ)) → joinedBy sep ((x ∷ p) ∷ ps) ≡ x ∷ joinedBy sep (p ∷ ps)
 unfolding joinedBy

@@ -5,8 +5,8 @@ use mathlib.Core.List.{List, [], _∷_, _++_}
 use Prim.Native.Nat.{ℕ}
 use lib.Dec.{T, eqb}
 use Rattle.text.specs.Fields.{withFirst}
-use Rattle.text.specs.DecimalLaws.{without}
 use Rattle.text.specs.Input.{lines}
+use Rattle.text.specs.Decimal.{without}
 
 -- a line that a line feed ends
 pub lines-feed : (line rest : List ℕ) → T (without 10 line) → lines (line ++ (10 ∷ rest)) ≡ line ∷ lines rest

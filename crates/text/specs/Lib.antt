@@ -12,3 +12,4 @@ pub mod RecordLaws
 pub mod ReadBack
 pub mod ReadBackLaws
 pub mod InputLaws
+pub mod PaddedLaws

@@ -8,10 +8,10 @@ use native.Mathlib.Omega.{arith}
 use borrow.Author.Tests.{le-leb, lt-ltb}
 use lib.Dec.{T, eqb}
 use lib.ListN.{length, replicate, length-append}
-use Rattle.text.specs.Decimal.{digitsOf, decimal, numberOf}
-use Rattle.text.specs.DecimalLaws.{digits-of-number, number-never, without, without-append, number-of-digits, digits-most, digits-without}
-use Rattle.text.specs.Fields.{fields, same, lostPlace, meaning}
-use Rattle.text.specs.FieldLaws.{upTo, later, parts-front, same-eq, meaning-of-number}
+use Rattle.text.specs.Decimal.{digitsOf, decimal, numberOf, without}
+use Rattle.text.specs.DecimalLaws.{digits-of-number, number-never, without-append, number-of-digits, digits-most, digits-without}
+use Rattle.text.specs.Fields.{fields, same, lostPlace, meaning, upTo, later}
+use Rattle.text.specs.FieldLaws.{parts-front, same-eq, meaning-of-number}
 use Rattle.text.specs.Records.{wordName, nameKind, lineName, contents, allUnder, lineKind, lineBytes, lineMarks}
 use Rattle.text.specs.Lines.{cellsOf, cells, lineWith, lineOf}
 use Rattle.counting.specs.TestLaws.{and-l, and-r, and-intro}

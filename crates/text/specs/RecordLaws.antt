@@ -7,9 +7,9 @@ use native.Mathlib.Omega.{arith}
 use borrow.Author.Tests.{lt-leb}
 use lib.Dec.{eqb, leb}
 use lib.ListN.{length, take, length-take}
-use Rattle.text.specs.Fields.{same}
-use Rattle.text.specs.Records.{shapeName, dataName, wordName, nameKind, lineName, contents, boundOf, allUnder, lineKind}
-use Rattle.text.specs.FieldLaws.{toTab, take-part, parts-split, partsFrom, valuesFrom, values-few, same-eq}
+use Rattle.text.specs.Fields.{same, toTab, partsFrom}
+use Rattle.text.specs.Records.{shapeName, dataName, wordName, nameKind, lineName, contents, boundOf, allUnder, lineKind, valuesFrom}
+use Rattle.text.specs.FieldLaws.{take-part, parts-split, values-few, same-eq}
 
 pub name-first : (line : List ℕ) → lineName line ≡ toTab line
 unfolding lineName

@@ -4,7 +4,7 @@ use mathlib.Core.List.{List, [], _∷_, map}
 use Prim.Native.Nat.{ℕ, _%_, _/_}
 use lib.Dec.{eqb, leb, ltb}
 use lib.ListN.{length, getD, drop}
-use Rattle.text.specs.Fields.{fields, same, meaning}
+use Rattle.text.specs.Fields.{fields, same, meaning, partsFrom}
 
 -- the three names
 abbrev pub shapeName : List ℕ
@@ -55,3 +55,7 @@ lineBytes line = map (λ v. v % 256) (contents line)
 -- and their marks, 1 for a lost place
 unfoldable pub lineMarks : List ℕ → List ℕ
 lineMarks line = map (λ v. v / 256) (contents line)
+
+-- what the fields mean that stand after place i, which is a tab or the line's end
+unfoldable pub valuesFrom : ℕ → List ℕ → List ℕ
+valuesFrom i line = map meaning (partsFrom 9 i line)

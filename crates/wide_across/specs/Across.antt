@@ -2,12 +2,12 @@
 use mathlib.Core.List.{List}
 use Prim.Native.Nat.{ℕ}
 use Rattle.code.specs.Word.{firstAcross, secondAcross}
-use Rattle.wide_edition.specs.Edition.{wideEdition}
+use Rattle.wide_shape.specs.Edition.{wideEdition}
 use Rattle.wide_across.specs.declared.Sums.{Sums}
 
-abbrev pub acrossOf : ℕ → ℕ → ℕ → List ℕ → Sums
-acrossOf m w c word = record { first = firstAcross wideEdition m w c word; second = secondAcross wideEdition m w c word }
+abbrev pub wideAcross : ℕ → ℕ → ℕ → List ℕ → Sums
+wideAcross m w c word = record { first = firstAcross wideEdition m w c word; second = secondAcross wideEdition m w c word }
 
 -- what is given for a word that is not of a good shape's length
-abbrev pub noSums : Sums
-noSums = record { first = 0; second = 0 }
+abbrev pub noWideSums : Sums
+noWideSums = record { first = 0; second = 0 }

@@ -7,7 +7,7 @@ use Rattle.binary_field.specs.Product.{product}
 use Rattle.binary_field.specs.Sum.{sumBelow}
 use Rattle.code.specs.Edition.{raised}
 use Rattle.code.specs.Word.{coefficient}
-use Rattle.wide_edition.specs.Edition.{wideEdition}
+use Rattle.wide_shape.specs.Edition.{wideEdition}
 use Rattle.wide_across.specs.declared.Sums.{Sums}
 
 -- from a on a row holds the coefficients b and b^256 of the first sixteen places, with c local checks

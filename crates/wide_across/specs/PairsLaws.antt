@@ -19,8 +19,8 @@ use Rattle.code.specs.Word.{groupSum, coefficient}
 use Rattle.code.specs.StretchLaws.{own-place}
 use Rattle.wide_field.specs.LocatorRow.{locatorRow}
 use Rattle.wide_field.specs.LocatorRowLaws.{row-at}
-use Rattle.wide_edition.specs.Edition.{wideEdition}
-use Rattle.wide_edition.specs.EditionLaws.{wide-sound}
+use Rattle.wide_shape.specs.Edition.{wideEdition}
+use Rattle.wide_shape.specs.EditionLaws.{wide-sound}
 use Rattle.wide_sums.specs.PowerSumsLaws.{second-coefficient-at, two-small}
 use Rattle.wide_sums.specs.PowerSums.{EachTimes}
 use Rattle.wide_across.specs.Pairs.{Coefficients, AllCoefficients, Paired}

@@ -1,5 +1,5 @@
 // The sums of the two equations across of a sixteen-bit word, and whether all its equations are met.
-use syndrome::Tested;
+use answers::Tested;
 ghost use mathlib.Core.Path.{_≡_};
 ghost use mathlib.Core.Bool.{false};
 ghost use Prim.Native.Nat.{_*_, _+_, _≤_, _<_};
@@ -7,14 +7,14 @@ ghost use lib.ListN.{length, getD, replicate};
 ghost use Rattle.binary_field.specs.Xor.{_⊕_};
 ghost use Rattle.binary_field.specs.Product.{product};
 ghost use Rattle.code.specs.Edition.{raised};
-ghost use Rattle.shape.specs.Shapes.{GoodIn};
 ghost use Rattle.code.specs.Word.{groupSum, coefficient, secondCoefficient};
-ghost use Rattle.syndrome.specs.Horner.{HornerRows};
-ghost use Rattle.syndrome.specs.Tests.{brokenGroupIn, testedIn, notTested};
-ghost use Rattle.wide_edition.specs.Edition.{wideLimits, wideEdition};
+ghost use Rattle.code.specs.Limits.{GoodIn};
+ghost use Rattle.code_engine.specs.Horner.{HornerRows};
+ghost use Rattle.code_engine.specs.Tests.{brokenGroupIn, testedIn, notTested};
+ghost use Rattle.wide_shape.specs.Edition.{wideLimits, wideEdition};
 ghost use Rattle.wide_across.specs.Fold.{Plus, TwicePlus};
 ghost use Rattle.wide_across.specs.Pairs.{AllCoefficients, Paired, pairedSums, sumsOfPairs};
-ghost use Rattle.wide_across.specs.Across.{acrossOf, noSums};
+ghost use Rattle.wide_across.specs.Across.{wideAcross, noWideSums};
 
 // What the two equations across sum up to.
 pub struct Sums {
@@ -294,7 +294,7 @@ fn folded_sums(m: usize, w: usize, c: usize, word: &[u16], x: &mut [u16], y: &mu
     requires { ⌜ GoodIn wideLimits m w c ⌝ }
     requires { ⌜ length (now word) ≡ m * w ⌝ }
     requires { ⌜ (now x ≡ replicate w 0) × (now y ≡ replicate w 0) ⌝ }
-    ensures { λ r. ⌜ r ≡ acrossOf m w c (now (word .entry)) ⌝ }
+    ensures { λ r. ⌜ r ≡ wideAcross m w c (now (word .entry)) ⌝ }
 {
     fold_groups(m, w, c, word, x, y);
     let p = wide_sums::power_sums(x, c + 2);
@@ -364,7 +364,7 @@ fn short_across(m: usize, w: usize, c: usize, word: &[u16], x: &mut [u16], y: &m
     requires { ⌜ length (now word) ≡ m * w ⌝ }
     requires { ⌜ w ≤ 16 ⌝ }
     requires { ⌜ (now x ≡ replicate w 0) × (now y ≡ replicate w 0) ⌝ }
-    ensures { λ r. ⌜ r ≡ acrossOf m w c (now (word .entry)) ⌝ }
+    ensures { λ r. ⌜ r ≡ wideAcross m w c (now (word .entry)) ⌝ }
 {
     fold_groups(m, w, c, word, x, y);
     paired_sums(c, x, y)
@@ -372,8 +372,8 @@ fn short_across(m: usize, w: usize, c: usize, word: &[u16], x: &mut [u16], y: &m
 
 // The two sums across of a word of a good shape's length; 0 for others.
 pub fn across(m: usize, w: usize, c: usize, word: &[u16]) -> Sums
-    ensures { λ r. ⌜ (GoodIn wideLimits m w c → length (now (word .entry)) ≡ m * w → r ≡ acrossOf m w c (now (word .entry))) ⌝ }
-    ensures { λ r. ⌜ ((GoodIn wideLimits m w c → length (now (word .entry)) ≡ m * w → ⊥) → r ≡ noSums) ⌝ }
+    ensures { λ r. ⌜ (GoodIn wideLimits m w c → length (now (word .entry)) ≡ m * w → r ≡ wideAcross m w c (now (word .entry))) ⌝ }
+    ensures { λ r. ⌜ ((GoodIn wideLimits m w c → length (now (word .entry)) ≡ m * w → ⊥) → r ≡ noWideSums) ⌝ }
 {
     if wide_shape::word_refusal(m, w, c, word.len()) != 0 {
         return Sums {

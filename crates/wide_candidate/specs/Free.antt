@@ -3,8 +3,8 @@ use mathlib.Core.Path.{_≡_}
 use Prim.Native.Nat.{ℕ, _*_, _≤_, _<_}
 use mathlib.Core.List.{List}
 use Rattle.erasures.specs.declared.Free.{Free}
-use Rattle.erasures.specs.Places.{freeAt}
-use Rattle.candidate.specs.Mended.{BoundFew}
+use Rattle.code_engine.specs.FreePlaces.{freeAt}
+use Rattle.code_engine.specs.Mended.{BoundFew}
 
 pub record OneOrTwo (m w c : ℕ) (f : Free) (bound : List ℕ) : Type 0 where
   pub some : 0 < f .count

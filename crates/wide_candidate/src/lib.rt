@@ -5,20 +5,20 @@ ghost use mathlib.Core.Path.{_≡_};
 ghost use mathlib.Core.Bool.{false};
 ghost use Prim.Native.Nat.{ℕ, _*_, _/_, _%_, _≤_, _<_};
 ghost use lib.ListN.{length, replicate};
-ghost use Rattle.shape.specs.Shapes.{GoodIn};
 ghost use Rattle.code.specs.Marks.{lost, lostIn};
-ghost use Rattle.wide_edition.specs.Edition.{wideLimits, wideEdition};
+ghost use Rattle.code.specs.Limits.{GoodIn};
+ghost use Rattle.wide_shape.specs.Edition.{wideLimits, wideEdition};
 ghost use Rattle.binary_field.specs.Xor.{_⊕_};
 ghost use Rattle.code.specs.Edition.{times};
 ghost use Rattle.code.specs.Combined.{combined};
 ghost use Rattle.code.specs.Lone.{lone};
 ghost use Rattle.code.specs.Stretch.{stretch};
-ghost use Rattle.wide_across.specs.Across.{acrossOf, noSums};
-ghost use Rattle.erasures.specs.Whole.{BoundAll};
-ghost use Rattle.candidate.specs.Steps.{Blanked, GroupsFilledIn, DirectionIn, AddedIn};
+ghost use Rattle.wide_across.specs.Across.{wideAcross, noWideSums};
+ghost use Rattle.code_engine.specs.BoundGroups.{BoundAll};
+ghost use Rattle.code_engine.specs.CandidateSteps.{Blanked, GroupsFilledIn, DirectionIn, AddedIn};
 ghost use Rattle.code.specs.Pair.{MetIn};
 ghost use Rattle.wide_candidate.specs.Free.{OneOrTwo};
-ghost use Rattle.candidate.specs.Mended.{BoundFew, MendedOneIn, MendedTwoIn, MendedIn, IsCandidateIn};
+ghost use Rattle.code_engine.specs.Mended.{BoundFew, MendedOneIn, MendedTwoIn, MendedIn, IsCandidateIn};
 
 // Writes word into base, with 0 in the lost places.
 fn blank_lost(word: &[u16], marks: &[u8], base: &mut [u16])
@@ -49,7 +49,7 @@ fn fill_groups(m: usize, w: usize, c: usize, bound: &[u8], base: &mut [u16])
     while g < m {
         let a = g * w;
         let e = a + w;
-        wide_fill::fill(&mut base[a..e], &bound[a..e]);
+        wide_solve::fill(&mut base[a..e], &bound[a..e]);
         g += 1;
     }
 }
@@ -64,7 +64,7 @@ fn direction(j: usize, bound: &[u8], h: &mut [u16])
     ensures { λ _. ⌜ DirectionIn wideEdition (length (now (bound .entry))) j (now (bound .entry)) (now (h .exit)) ⌝ }
 {
     h[j] = 1;
-    wide_fill::fill(h, bound);
+    wide_solve::fill(h, bound);
 }
 
 // Adds u times h to a stretch. Most of a direction is 0, and is left out.
@@ -118,7 +118,7 @@ fn weights(m: usize, w: usize, c: usize, g: usize, h: &[u16]) -> Sums
     requires { ⌜ GoodIn wideLimits m w c ⌝ }
     requires { ⌜ g < m ⌝ }
     requires { ⌜ length (now h) ≡ w ⌝ }
-    ensures { λ r. ⌜ r ≡ acrossOf m w c (lone m w g (now (h .entry))) ⌝ }
+    ensures { λ r. ⌜ r ≡ wideAcross m w c (lone m w g (now (h .entry))) ⌝ }
 {
     wide_across::group_sums(h, c, g)
 }
@@ -130,7 +130,7 @@ fn way(m: usize, w: usize, c: usize, p: usize, bound: &[u8], h: &mut [u16]) -> S
     requires { ⌜ BoundFew m w c p (now bound) ⌝ }
     requires { ⌜ now h ≡ replicate w 0 ⌝ }
     ensures { λ _. ⌜ DirectionIn wideEdition w (p % w) (stretch w (p / w) (now (bound .entry))) (now (h .exit)) ⌝ }
-    ensures { λ r. ⌜ r ≡ acrossOf m w c (lone m w (p / w) (now (h .exit))) ⌝ }
+    ensures { λ r. ⌜ r ≡ wideAcross m w c (lone m w (p / w) (now (h .exit))) ⌝ }
 {
     let g = p / w;
     let j = p % w;
@@ -156,10 +156,10 @@ fn mend_one(
     requires { ⌜ length (now word) ≡ m * w ⌝ }
     requires { ⌜ p < m * w ⌝ }
     requires { ⌜ BoundFew m w c p (now bound) ⌝ }
-    requires { ⌜ s ≡ acrossOf m w c (now word) ⌝ }
+    requires { ⌜ s ≡ wideAcross m w c (now word) ⌝ }
     requires { ⌜ now h ≡ replicate w 0 ⌝ }
     ensures { λ _. ⌜ MendedOneIn wideEdition m w c p (now (bound .entry)) (now (word .entry)) (now (word .exit)) ⌝ }
-    ensures { λ r. ⌜ r ≡ acrossOf m w c (now (word .exit)) ⌝ }
+    ensures { λ r. ⌜ r ≡ wideAcross m w c (now (word .exit)) ⌝ }
 {
     let g = p / w;
     let a = way(m, w, c, p, bound, h);
@@ -187,10 +187,10 @@ fn mend_two(
     requires { ⌜ (p < m * w) × (q < m * w) × (p ≡ q → ⊥) ⌝ }
     requires { ⌜ BoundFew m w c p (now bound) ⌝ }
     requires { ⌜ BoundFew m w c q (now bound) ⌝ }
-    requires { ⌜ s ≡ acrossOf m w c (now word) ⌝ }
+    requires { ⌜ s ≡ wideAcross m w c (now word) ⌝ }
     requires { ⌜ (now h ≡ replicate w 0) × (now k ≡ replicate w 0) ⌝ }
     ensures { λ _. ⌜ MendedTwoIn wideEdition m w c p q (now (bound .entry)) (now (word .entry)) (now (word .exit)) ⌝ }
-    ensures { λ r. ⌜ r ≡ acrossOf m w c (now (word .exit)) ⌝ }
+    ensures { λ r. ⌜ r ≡ wideAcross m w c (now (word .exit)) ⌝ }
 {
     let g = p / w;
     let a = way(m, w, c, p, bound, h);
@@ -220,11 +220,11 @@ fn mend_free(
     requires { ⌜ GoodIn wideLimits m w c ⌝ }
     requires { ⌜ length (now word) ≡ m * w ⌝ }
     requires { ⌜ OneOrTwo m w c f (now bound) ⌝ }
-    requires { ⌜ s ≡ acrossOf m w c (now word) ⌝ }
+    requires { ⌜ s ≡ wideAcross m w c (now word) ⌝ }
     requires { ⌜ (now h ≡ replicate w 0) × (now k ≡ replicate w 0) ⌝ }
     ensures { λ _. ⌜ (f .count ≡ 1 → MendedOneIn wideEdition m w c (f .first) (now (bound .entry)) (now (word .entry)) (now (word .exit))) ⌝ }
     ensures { λ _. ⌜ (f .count ≡ 2 → MendedTwoIn wideEdition m w c (f .first) (f .second) (now (bound .entry)) (now (word .entry)) (now (word .exit))) ⌝ }
-    ensures { λ r. ⌜ r ≡ acrossOf m w c (now (word .exit)) ⌝ }
+    ensures { λ r. ⌜ r ≡ wideAcross m w c (now (word .exit)) ⌝ }
 {
     if f.count == 1 {
         return mend_one(m, w, c, f.first, bound, word, s, h);
@@ -239,7 +239,7 @@ fn mend(m: usize, w: usize, c: usize, marks: &[u8], bound: &[u8], word: &mut [u1
     requires { ⌜ length (now marks) ≡ m * w ⌝ }
     requires { ⌜ BoundAll m w c (now marks) (now bound) ⌝ }
     ensures { λ _. ⌜ MendedIn wideEdition m w c (now (marks .entry)) (now (bound .entry)) (now (word .entry)) (now (word .exit)) ⌝ }
-    ensures { λ r. ⌜ r ≡ acrossOf m w c (now (word .exit)) ⌝ }
+    ensures { λ r. ⌜ r ≡ wideAcross m w c (now (word .exit)) ⌝ }
 {
     let f = erasures::free_places(marks, bound);
     let s = wide_across::across(m, w, c, word);
@@ -272,7 +272,7 @@ fn rebuild(
     requires { ⌜ length (now bound) ≡ m * w ⌝ }
     requires { ⌜ length (now out) ≡ m * w ⌝ }
     ensures { λ _. ⌜ IsCandidateIn wideEdition m w c (now (marks .entry)) (now (word .entry)) (now (out .exit)) ⌝ }
-    ensures { λ r. ⌜ r ≡ acrossOf m w c (now (out .exit)) ⌝ }
+    ensures { λ r. ⌜ r ≡ wideAcross m w c (now (out .exit)) ⌝ }
 {
     buffers::copy(marks, bound);
     erasures::clear_free(w, c, bound);
@@ -286,9 +286,9 @@ fn rebuild(
 // A shape that is not good, or lengths that are not its own, leave out as it is, and the sums are 0.
 pub fn candidate(m: usize, w: usize, c: usize, word: &[u16], marks: &[u8], out: &mut [u16]) -> Sums
     ensures { λ _. ⌜ (GoodIn wideLimits m w c → length (now (word .entry)) ≡ m * w → length (now (marks .entry)) ≡ m * w → length (now (out .entry)) ≡ m * w → IsCandidateIn wideEdition m w c (now (marks .entry)) (now (word .entry)) (now (out .exit))) ⌝ }
-    ensures { λ r. ⌜ (GoodIn wideLimits m w c → length (now (word .entry)) ≡ m * w → length (now (marks .entry)) ≡ m * w → length (now (out .entry)) ≡ m * w → r ≡ acrossOf m w c (now (out .exit))) ⌝ }
+    ensures { λ r. ⌜ (GoodIn wideLimits m w c → length (now (word .entry)) ≡ m * w → length (now (marks .entry)) ≡ m * w → length (now (out .entry)) ≡ m * w → r ≡ wideAcross m w c (now (out .exit))) ⌝ }
     ensures { λ _. ⌜ length (now (out .exit)) ≡ length (now (out .entry)) ⌝ }
-    ensures { λ r. ⌜ ((GoodIn wideLimits m w c → length (now (word .entry)) ≡ m * w → length (now (marks .entry)) ≡ m * w → length (now (out .entry)) ≡ m * w → ⊥) → (now (out .exit) ≡ now (out .entry)) × (r ≡ noSums)) ⌝ }
+    ensures { λ r. ⌜ ((GoodIn wideLimits m w c → length (now (word .entry)) ≡ m * w → length (now (marks .entry)) ≡ m * w → length (now (out .entry)) ≡ m * w → ⊥) → (now (out .exit) ≡ now (out .entry)) × (r ≡ noWideSums)) ⌝ }
 {
     let none = Sums {
         first: 0,

@@ -1,14 +1,14 @@
 // Which places of a word of the sixteen-bit edition carry data: taking the data out, putting it in, and marking the check places.
-use shape::Answer;
+use answers::Answer;
 ghost use mathlib.Core.Path.{_≡_};
 ghost use mathlib.Core.List.{_++_};
 ghost use Prim.Native.Nat.{_-_, _≤_};
 ghost use lib.ListN.{length, replicate};
-ghost use Rattle.shape.specs.Shapes.{GoodIn, placeCount, dataCount, bufferRefusalIn};
-ghost use Rattle.wide_edition.specs.Edition.{wideLimits};
-ghost use Rattle.shape.specs.Answers.{answerNumber};
-ghost use Rattle.places.specs.Places.{extractOf, placedOf, extractedIn, extractedDataIn, placedWordIn, markedChecksIn};
-ghost use Rattle.places.specs.Places.{checkMarksRefusalIn, checkMarksAnswerIn, checkMarksBufferIn};
+ghost use Rattle.code.specs.Limits.{placeCount, dataCount, GoodIn, bufferRefusalIn};
+ghost use Rattle.wide_shape.specs.Edition.{wideLimits};
+ghost use Rattle.answers.specs.Answers.{answerNumber};
+ghost use Rattle.code_services.specs.Places.{extractOf, placedOf, extractedIn, extractedDataIn, placedWordIn, markedChecksIn};
+ghost use Rattle.code_services.specs.Places.{checkMarksRefusalIn, checkMarksAnswerIn, checkMarksBufferIn};
 
 // Copies the data symbols of word, in word order, group by group.
 fn copy_data(m: usize, w: usize, c: usize, word: &[u16], symbols: &mut [u16])
@@ -99,7 +99,7 @@ fn check_marks_refusal(m: usize, w: usize, c: usize, marks: usize) -> u8
 {
     let unsold = wide_shape::sale_refusal(m, w, c);
     let lengths = wide_shape::word_refusal(m, w, c, marks);
-    shape::or_else(unsold, lengths)
+    answers::or_else(unsold, lengths)
 }
 
 // The service Check marks: 1 at each check place and 0 at each other.

@@ -6,10 +6,10 @@ use Prim.Native.Nat.{ℕ, zero, suc, _+_, _*_}
 use native.Mathlib.Omega.{arith}
 use lib.Dec.{eqb, ltb}
 use lib.ListN.{length}
-use Rattle.shape.specs.Refusals.{refuse, _orElse_}
-use Rattle.shape.specs.Shapes.{Limits, placeCount, dataCount, shapeRefusalIn, wordRefusalIn}
-use Rattle.marks.specs.Refusal.{areMarks, marksRefusalIn}
-use Rattle.recover.specs.Recover.{recoverRefusalIn}
+use Rattle.code.specs.Refusals.{refuse, _orElse_}
+use Rattle.code.specs.Limits.{Limits, placeCount, dataCount, shapeRefusalIn, wordRefusalIn}
+use Rattle.code_services.specs.Marks.{areMarks, marksRefusalIn}
+use Rattle.code_services.specs.Recover.{recoverRefusalIn}
 
 -- a number that no part is
 abbrev Not : ℕ → ℕ → Type 0

@@ -1,20 +1,20 @@
 // The service Recover of the sixteen-bit edition.
-use shape::Mending;
-use syndrome::Tested;
+use answers::Mending;
+use answers::Tested;
 use wide_across::Sums;
 ghost use mathlib.Core.Path.{_≡_};
 ghost use mathlib.Core.Bool.{true, false};
 ghost use Prim.Native.Nat.{_*_, _≤_, _<_};
 ghost use lib.ListN.{length};
-ghost use Rattle.wide_edition.specs.Edition.{wideLimits, wideEdition};
-ghost use Rattle.shape.specs.Shapes.{GoodIn};
-ghost use Rattle.shape.specs.Answers.{mendingAt, mendingNumber};
+ghost use Rattle.code.specs.Limits.{GoodIn};
+ghost use Rattle.wide_shape.specs.Edition.{wideLimits, wideEdition};
+ghost use Rattle.answers.specs.Answers.{mendingAt, mendingNumber};
 ghost use Rattle.code.specs.Word.{isLocal};
 ghost use Rattle.code.specs.Marks.{lostIn, excess};
-ghost use Rattle.syndrome.specs.Tests.{brokenGroupIn, testedIn};
-ghost use Rattle.wide_across.specs.Across.{acrossOf};
-ghost use Rattle.recover.specs.Recover.{recoverRefusalIn, recoverIn};
-ghost use Rattle.recover.specs.Attempt.{FullSatisfiedIn, AttemptIn};
+ghost use Rattle.code_engine.specs.Tests.{brokenGroupIn, testedIn};
+ghost use Rattle.wide_across.specs.Across.{wideAcross};
+ghost use Rattle.code_services.specs.Recover.{recoverRefusalIn, recoverIn};
+ghost use Rattle.code_services.specs.Attempt.{FullSatisfiedIn, AttemptIn};
 
 // The refusal of a call by its shape, its lengths and its marks, 1 to 4, 26, 5 and 6; 0 if there is none.
 pub fn refusal(m: usize, w: usize, c: usize, word: &[u16], marks: &[u8]) -> u8
@@ -24,7 +24,7 @@ pub fn refusal(m: usize, w: usize, c: usize, word: &[u16], marks: &[u8]) -> u8
     if r != 0 {
         return r;
     }
-    wide_marks::marks_refusal(m, w, c, marks)
+    wide_shape::marks_refusal(m, w, c, marks)
 }
 
 // Whether the first c local sums of one group's stretch are zero, given that filling it with these marks has already made as many of them zero as
@@ -66,7 +66,7 @@ fn test(m: usize, w: usize, c: usize, marks: &[u8], word: &[u16], s: Sums) -> Te
     requires { ⌜ length (now marks) ≡ m * w ⌝ }
     requires { ⌜ length (now word) ≡ m * w ⌝ }
     requires { ⌜ FullSatisfiedIn wideEdition m w c (now marks) (now word) ⌝ }
-    requires { ⌜ s ≡ acrossOf m w c (now word) ⌝ }
+    requires { ⌜ s ≡ wideAcross m w c (now word) ⌝ }
     ensures { λ r. ⌜ r ≡ testedIn wideEdition m w c (now (word .entry)) ⌝ }
 {
     let group = broken_group(m, w, c, marks, word);

@@ -1,2 +1,4 @@
+pub mod Edition
 pub mod Shapes
 pub mod ShapesLaws
+pub mod EditionLaws

@@ -1,9 +1,14 @@
-// The shape of a word of the sixteen-bit edition, with the bounds of that edition.
-use shape::Described;
+// The sixteen-bit edition: the shape of a word and its refusals, Describe, and Judge.
+use answers::Described;
+use answers::Judged;
 ghost use mathlib.Core.Path.{_≡_};
-ghost use Rattle.shape.specs.Shapes.{placeCount, dataCount, sureCount, shapeRefusalIn, saleRefusalIn, wordRefusalIn, bufferRefusalIn, describedNumber, describedFigures};
-ghost use Rattle.wide_edition.specs.Edition.{wideLimits};
-ghost use Rattle.wide_shape.specs.Shapes.{madeOf, describedOf, figuresOf};
+ghost use Rattle.code.specs.Limits.{placeCount, dataCount, sureCount, shapeRefusalIn, saleRefusalIn, wordRefusalIn, bufferRefusalIn};
+ghost use Rattle.wide_shape.specs.Edition.{wideLimits};
+ghost use Rattle.answers.specs.Figures.{describedNumber, describedFigures, describedIn, figuresIn, judgedNumber};
+ghost use Rattle.wide_shape.specs.Shapes.{wideMadeOf};
+ghost use Rattle.wide_shape.specs.Edition.{wideLimits};
+ghost use Rattle.code_services.specs.Marks.{marksRefusalIn};
+ghost use Rattle.code_services.specs.Judge.{judgedIn, judgedNumberIn};
 
 // m groups of w places, with c local checks in each. A width of 256 needs more than a byte.
 pub struct Shape {
@@ -60,7 +65,7 @@ impl Shape {
 
     // The shape of these numbers, if it is good.
     pub fn new(m: usize, w: usize, c: usize) -> Made
-        ensures { λ r. ⌜ r ≡ madeOf m w c ⌝ }
+        ensures { λ r. ⌜ r ≡ wideMadeOf m w c ⌝ }
     {
         let r = Self::refusal(m, w, c);
         if r != 0 {
@@ -107,9 +112,9 @@ impl Shape {
 
 // The service Describe.
 pub fn describe(m: usize, w: usize, c: usize) -> Described
-    ensures answer { λ r. ⌜ r ≡ describedOf m w c ⌝ }
+    ensures answer { λ r. ⌜ r ≡ describedIn wideLimits m w c ⌝ }
     ensures number { λ r. ⌜ describedNumber r ≡ shapeRefusalIn wideLimits m w c ⌝ }
-    ensures figures { λ r. ⌜ describedFigures r ≡ figuresOf m w c ⌝ }
+    ensures figures { λ r. ⌜ describedFigures r ≡ figuresIn wideLimits m w c ⌝ }
 {
     match Shape::new(m, w, c) {
         Made::Good(s) => Described::Figures {
@@ -126,8 +131,8 @@ pub fn sale_refusal(m: usize, w: usize, c: usize) -> u8
     ensures { λ r. ⌜ r ≡ saleRefusalIn wideLimits m w c ⌝ }
 {
     let bad = Shape::refusal(m, w, c);
-    let retired = shape::retired_refusal(c);
-    shape::or_else(bad, retired)
+    let retired = answers::retired_refusal(c);
+    answers::or_else(bad, retired)
 }
 
 // The refusal, 1 to 4, 26 and then 5, of a service that is lent a word or marks of this length; 0 if there is none.
@@ -150,4 +155,31 @@ pub fn buffer_refusal(m: usize, w: usize, c: usize, word: usize, symbols: usize)
         return r;
     }
     if symbols != m * (w - c) - 2 { 5 } else { 0 }
+}
+
+// The refusal, 1 to 4, 26, 5 and 6, of a service that is lent marks; 0 if there is none.
+pub fn marks_refusal(m: usize, w: usize, c: usize, marks: &[u8]) -> u8
+    ensures { λ r. ⌜ r ≡ marksRefusalIn wideLimits m w c (now (marks .entry)) ⌝ }
+{
+    let r = word_refusal(m, w, c, marks.len());
+    if r != 0 {
+        return r;
+    }
+    if marks::are_marks(marks) { 0 } else { 6 }
+}
+
+// The service Judge: whether a pattern of losses leaves a codeword determined.
+pub fn judge(m: usize, w: usize, c: usize, marks: &[u8]) -> Judged
+    ensures answer { λ r. ⌜ r ≡ judgedIn wideLimits m w c (now (marks .entry)) ⌝ }
+    ensures number { λ r. ⌜ judgedNumber r ≡ judgedNumberIn wideLimits m w c (now (marks .entry)) ⌝ }
+{
+    let r = marks_refusal(m, w, c, marks);
+    if r != 0 {
+        return Judged::Refused(r);
+    }
+    if 2 < marks::pattern_excess(w, c, marks) {
+        Judged::Refused(8)
+    } else {
+        Judged::Determined
+    }
 }

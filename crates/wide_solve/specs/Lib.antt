@@ -4,3 +4,8 @@ pub mod Norm
 pub mod NormLaws
 pub mod Peel
 pub mod PeelLaws
+pub mod Column
+pub mod ColumnLaws
+pub mod One
+pub mod OneLaws
+pub mod SolvedLaws

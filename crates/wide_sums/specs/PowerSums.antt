@@ -6,7 +6,7 @@ use Prim.Native.Nat.{ℕ, _<_}
 use lib.ListN.{length, getD}
 use Rattle.code.specs.Edition.{Edition, times, raised}
 use Rattle.code.specs.Word.{localSum}
-use Rattle.wide_edition.specs.Edition.{wideEdition}
+use Rattle.wide_shape.specs.Edition.{wideEdition}
 
 -- the first n power sums of a stretch
 abbrev pub PowerSums : List ℕ → ℕ → List ℕ → Type 0

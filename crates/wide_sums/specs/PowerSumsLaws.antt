@@ -18,9 +18,9 @@ use Rattle.binary_field.specs.SumLaws.{sum-ext, sum-add, sum-scale}
 use Rattle.code.specs.Edition.{Edition, Sound, times, raised}
 use Rattle.code.specs.Word.{groupSum, localSum, coefficient, secondCoefficient, isLocal}
 use Rattle.code.specs.StretchLaws.{own-place}
-use Rattle.syndrome.specs.PartsLaws.{second-coefficient-group}
-use Rattle.wide_edition.specs.Edition.{wideEdition}
-use Rattle.wide_edition.specs.EditionLaws.{wide-sound}
+use Rattle.wide_shape.specs.Edition.{wideEdition}
+use Rattle.wide_shape.specs.EditionLaws.{wide-sound}
+use Rattle.code_engine.specs.PartsLaws.{second-coefficient-group}
 use Rattle.wide_sums.specs.PowerSums.{PowerSums, EachTimes, IsRow, Raised}
 
 pub raised-none : (part : List ℕ) → ((j : ℕ) → getD part j 0 < 65536) → Raised 0 part part

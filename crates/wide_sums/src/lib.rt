@@ -5,9 +5,9 @@ ghost use Prim.Native.Nat.{_≤_, _<_};
 ghost use lib.Dec.{eqb};
 ghost use lib.ListN.{length, getD, replicate};
 ghost use Rattle.counting.specs.Test.{allBelow};
-ghost use Rattle.check_rows.specs.Padded.{Padded};
+ghost use Rattle.code_engine.specs.Padded.{Padded};
 ghost use Rattle.code.specs.Word.{isLocal};
-ghost use Rattle.wide_edition.specs.Edition.{wideEdition};
+ghost use Rattle.wide_shape.specs.Edition.{wideEdition};
 ghost use Rattle.wide_sums.specs.PowerSums.{PowerSums, EachTimes, IsRow};
 
 // Each symbol of x times that of a row that is as long; with another row x stays as it is.

@@ -1,21 +1,18 @@
 // The service Check.
+use answers::Checked;
 ghost use mathlib.Core.Path.{_≡_};
 ghost use lib.ListN.{length};
-ghost use Rattle.shape.specs.Shapes.{wordRefusal};
-ghost use Rattle.word_check.specs.Checked.{checkedOf, checkedNumber, checkedFigures, checkFiguresOf};
-
-// Whether the word is a codeword; if not, the group that contradicts; or the number of a refusal.
-pub enum Checked {
-    Codeword,
-    Other(u8),
-    Refused(u8),
-}
+ghost use Rattle.shape.specs.Shapes.{byteLimits};
+ghost use Rattle.code.specs.Limits.{wordRefusalIn};
+ghost use Rattle.byte_edition.specs.Edition.{byteEdition};
+ghost use Rattle.answers.specs.Figures.{checkedNumber, checkedFigures};
+ghost use Rattle.code_services.specs.Check.{checkedIn, checkFiguresIn};
 
 // Whether a word is a codeword of the shape.
 pub fn check(m: usize, w: usize, c: usize, word: &[u8]) -> Checked
-    ensures answer { λ r. ⌜ r ≡ checkedOf m w c (now (word .entry)) ⌝ }
-    ensures number { λ r. ⌜ checkedNumber r ≡ wordRefusal m w c (length (now (word .entry))) ⌝ }
-    ensures figures { λ r. ⌜ checkedFigures r ≡ checkFiguresOf m w c (now (word .entry)) ⌝ }
+    ensures answer { λ r. ⌜ r ≡ checkedIn byteEdition m w c (now (word .entry)) ⌝ }
+    ensures number { λ r. ⌜ checkedNumber r ≡ wordRefusalIn byteLimits m w c (length (now (word .entry))) ⌝ }
+    ensures figures { λ r. ⌜ checkedFigures r ≡ checkFiguresIn byteEdition m w c (now (word .entry)) ⌝ }
 {
     let r = shape::word_refusal(m, w, c, word.len());
     if r != 0 {

@@ -5,9 +5,9 @@ use Rattle.bench_field.proofs.bench_dot_tables.Statement.{statement}
 use Rattle.bench_field.proofs.bench_dot_tables.Tie as tie
 use Rattle.bench_field.proofs.bench_dot_tables.Reads as reads
 use Rattle.bench_field.proofs.bench_dot_tables.Lts as lts
-use Rattle.gf256_tables.proofs.product_in.Reads as product-in-reads
-use Rattle.gf256_tables.proofs.logs.Reads as logs-reads
-use Rattle.gf256_tables.proofs.powers.Reads as powers-reads
+use Rattle.bench_field.proofs.product_in.Reads as product-in-reads
+use Rattle.bench_field.proofs.logs.Reads as logs-reads
+use Rattle.bench_field.proofs.powers.Reads as powers-reads
 
 abbrev Inv-loop : tie.InvT-loop
 Inv-loop u v p l r₀ i₀ r i = i ≤ length u

@@ -8,8 +8,8 @@ use borrow.Author.Needs.{needs}
 use Rattle.binary_field.specs.Xor.{_⊕_}
 use Rattle.code.specs.Edition.{times}
 use Rattle.byte_edition.specs.Edition.{byteEdition}
-use Rattle.solve.specs.Elimination.{entry}
-use Rattle.fill.proofs.Laws.{each-set}
+use Rattle.code_engine.specs.Elimination.{entry}
+use Rattle.code_engine.specs.ListsLaws.{each-set}
 use Rattle.block_constants.proofs.clear.Statement.{statement}
 use Rattle.block_constants.proofs.clear.Tie as tie
 use Rattle.block_constants.proofs.clear.Reads as reads

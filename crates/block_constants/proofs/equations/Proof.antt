@@ -4,7 +4,7 @@ use Rattle.block_constants.proofs.equations.Statement.{statement}
 use Rattle.block_constants.proofs.equations.Tie as tie
 use Rattle.block_constants.proofs.equations.Reads as reads
 use Rattle.block_constants.proofs.equations.Lts as lts
-use Rattle.check_rows.proofs.power_row.Reads as power-row-reads
+use Rattle.byte_edition.proofs.power_row.Reads as power-row-reads
 
 -- src/lib.rt:75:9
 power-row-requires : tie.Need-power-row-requires

@@ -11,12 +11,12 @@ use borrow.Author.Tests.{eq-eqb, ne-eqb}
 use Rattle.counting.specs.Count.{countBelow}
 use Rattle.code.specs.Marks.{lost, lostIn}
 use Rattle.byte_edition.specs.Edition.{byteEdition}
-use Rattle.solve.specs.Elimination.{row, entry}
-use Rattle.solve.specs.Rows.{Small}
-use Rattle.solve.proofs.Arrays.{array-system}
+use Rattle.code_engine.specs.Elimination.{row, entry}
+use Rattle.code_engine.specs.EliminationRows.{Small}
+use Rattle.code_engine.proofs.Arrays.{array-system}
+use Rattle.code_engine.specs.PositionsLaws.{lost-below}
 use Rattle.block_constants.specs.Reduced.{ReducedTo}
 use Rattle.block_constants.specs.ReducedLaws.{count-here, count-down, reduced-none, reduced-past, reduced-ext}
-use Rattle.fill.proofs.Laws.{lost-below}
 use Rattle.block_constants.specs.Equations.{equationOf}
 use Rattle.block_constants.specs.EquationsLaws.{equations-step}
 use Rattle.block_constants.proofs.group_rows.Statement.{statement}

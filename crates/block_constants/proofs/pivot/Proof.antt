@@ -4,7 +4,7 @@ use lib.ListN.{getD}
 use Rattle.binary_field.specs.Xor.{_⊕_}
 use Rattle.code.specs.Edition.{times}
 use Rattle.byte_edition.specs.Edition.{byteEdition}
-use Rattle.solve.specs.Elimination.{entry}
+use Rattle.code_engine.specs.Elimination.{entry}
 use borrow.Author.Needs.{needs}
 use Rattle.block_constants.proofs.pivot.Statement.{statement}
 use Rattle.block_constants.proofs.pivot.Tie as tie

@@ -1,4 +1,4 @@
-use Rattle.erasures.specs.WholeLaws.{bound-copy}
+use Rattle.code_engine.specs.BoundGroupsLaws.{bound-copy}
 use mathlib.Core.Path.{sym, _∙_}
 use borrow.Author.Needs.{needs}
 use Rattle.block_engine.proofs.bind.Statement.{statement}

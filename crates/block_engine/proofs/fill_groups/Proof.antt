@@ -2,12 +2,12 @@ use mathlib.Core.Path.{_≡_, refl}
 use mathlib.Core.List.{List}
 use Prim.Native.Nat.{ℕ, _≤_, _*_, _-_}
 use native.Mathlib.Omega.{arith}
-use Rattle.shape.specs.Laws.{places-most}
 use Rattle.code.specs.StretchLaws.{stretch-length}
 use Rattle.code.specs.LentLaws.{stretch-lent}
-use Rattle.block_engine.specs.Steps.{GroupsFilled}
-use Rattle.block_engine.specs.StepsLaws.{row-inside}
-use Rattle.block_engine.specs.PassLaws.{given-end, given-few, groups-more, kept-inside}
+use Rattle.code.specs.LimitsLaws.{places-most}
+use Rattle.block_laws.specs.Steps.{GroupsFilled}
+use Rattle.block_laws.specs.StepsLaws.{row-inside}
+use Rattle.block_laws.specs.PassLaws.{given-end, given-few, groups-more, kept-inside}
 use Rattle.block_engine.proofs.fill_groups.Statement.{statement}
 use Rattle.block_engine.proofs.fill_groups.Tie as tie
 use Rattle.block_engine.proofs.fill_groups.Reads as reads

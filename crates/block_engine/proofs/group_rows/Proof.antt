@@ -3,8 +3,8 @@ use lib.ListN.{length, getD}
 use Rattle.code.specs.Edition.{times}
 use Rattle.code.specs.Marks.{lostIn}
 use Rattle.byte_edition.specs.Edition.{byteEdition}
-use Rattle.solve.specs.Elimination.{entry}
-use Rattle.block_engine.specs.StepsLaws.{reduced-check}
+use Rattle.code_engine.specs.Elimination.{entry}
+use Rattle.block_laws.specs.StepsLaws.{reduced-check}
 use borrow.Author.Needs.{needs}
 use Rattle.block_engine.proofs.group_rows.Statement.{statement}
 use Rattle.block_engine.proofs.group_rows.Tie as tie

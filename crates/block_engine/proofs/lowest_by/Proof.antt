@@ -1,4 +1,4 @@
-use Rattle.block_engine.specs.ReadyLaws.{given-of, lowest-is}
+use Rattle.block_laws.specs.ReadyLaws.{given-of, lowest-is}
 use Rattle.block_engine.proofs.lowest_by.Statement.{statement}
 use Rattle.block_engine.proofs.lowest_by.Tie as tie
 use Rattle.block_engine.proofs.lowest_by.Reads as reads

@@ -4,12 +4,12 @@ use Prim.Native.Nat.{ℕ, suc, _≤_, _*_, _-_}
 use native.Mathlib.Nat.{suc-mul, mul-le-mul-right}
 use native.Mathlib.Omega.{arith}
 use lib.ListN.{length}
-use Rattle.shape.specs.Laws.{places-most}
 use Rattle.code.specs.StretchLaws.{stretch-length, stretch-count}
 use Rattle.code.specs.LentLaws.{stretch-lent, with-lent}
-use Rattle.block_engine.specs.Steps.{AcrossUpTo, KeptUpTo}
-use Rattle.block_engine.specs.StepsLaws.{row-inside}
-use Rattle.block_engine.specs.PassLaws.{across-more, kept-more, kept-inside}
+use Rattle.code.specs.LimitsLaws.{places-most}
+use Rattle.block_laws.specs.Steps.{AcrossUpTo, KeptUpTo}
+use Rattle.block_laws.specs.StepsLaws.{row-inside}
+use Rattle.block_laws.specs.PassLaws.{across-more, kept-more, kept-inside}
 use Rattle.block_engine.proofs.make_rows.Statement.{statement}
 use Rattle.block_engine.proofs.make_rows.Tie as tie
 use Rattle.block_engine.proofs.make_rows.Reads as reads

@@ -1,6 +1,6 @@
 use mathlib.Core.Path.{refl, _∙_}
 use native.Mathlib.Omega.{arith}
-use Rattle.block_engine.specs.ReadyLaws.{coefficients-of}
+use Rattle.block_laws.specs.ReadyLaws.{coefficients-of}
 use borrow.Author.Needs.{needs}
 use Rattle.block_engine.proofs.mend_by.Statement.{statement}
 use Rattle.block_engine.proofs.mend_by.Tie as tie

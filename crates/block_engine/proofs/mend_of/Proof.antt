@@ -1,5 +1,4 @@
 use lib.ListN.{length-take}
-use Rattle.shape.specs.Laws.{places-most}
 use native.Mathlib.Omega.{arith}
 use borrow.Author.Needs.{needs}
 use Rattle.block_engine.proofs.mend_of.Statement.{statement}
@@ -7,6 +6,7 @@ use Rattle.block_engine.proofs.mend_of.Tie as tie
 use Rattle.block_engine.proofs.mend_of.Reads as reads
 use Rattle.block_engine.proofs.mend_of.Lts as lts
 use Rattle.block_engine.proofs.mend_by.Reads as mend-by-reads
+use Rattle.code.specs.LimitsLaws.{places-most}
 
 array-borrow-prefix-bound : tie.Need-array-borrow-prefix-bound
 array-borrow-prefix-bound c = search needs

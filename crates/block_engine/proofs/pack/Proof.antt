@@ -6,9 +6,9 @@ use native.Mathlib.Omega.{arith}
 use lib.ListN.{length, getD}
 use Rattle.code.specs.StretchLaws.{with-length, stretch-length}
 use Rattle.code.specs.LentLaws.{stretch-lent, with-lent}
-use Rattle.solve.specs.Elimination.{entry}
-use Rattle.block_engine.specs.Group.{masked}
-use Rattle.block_engine.specs.StepsLaws.{row-inside, each-stretch}
+use Rattle.code_engine.specs.Elimination.{entry}
+use Rattle.block_laws.specs.Group.{masked}
+use Rattle.block_laws.specs.StepsLaws.{row-inside, each-stretch}
 use Rattle.block_engine.proofs.pack.Statement.{statement}
 use Rattle.block_engine.proofs.pack.Tie as tie
 use Rattle.block_engine.proofs.pack.Reads as reads

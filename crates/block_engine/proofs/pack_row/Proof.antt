@@ -6,8 +6,8 @@ use Prim.Native.Nat.{ℕ, _≤_, _<_, _-_}
 use native.Mathlib.Omega.{arith}
 use lib.ListN.{length, getD, set, length-set}
 use borrow.Author.Tests.{eq-eqb, ne-eqb}
-use Rattle.fill.proofs.Laws.{each-set}
-use Rattle.block_engine.specs.Group.{masked}
+use Rattle.code_engine.specs.ListsLaws.{each-set}
+use Rattle.block_laws.specs.Group.{masked}
 use Rattle.block_engine.proofs.pack_row.Statement.{statement}
 use Rattle.block_engine.proofs.pack_row.Tie as tie
 use Rattle.block_engine.proofs.pack_row.Reads as reads

@@ -7,9 +7,9 @@ use lib.ListN.{length, take, drop}
 use Rattle.code.specs.Stretch.{withStretch}
 use Rattle.code.specs.StretchLaws.{stretch-length, with-length}
 use Rattle.code.specs.LentLaws.{stretch-lent, with-lent}
-use Rattle.solve.specs.Elimination.{entry}
-use Rattle.block_engine.specs.StepsLaws.{mul-within, add-mul}
-use Rattle.block_engine.specs.PassLaws.{across-put}
+use Rattle.code_engine.specs.Elimination.{entry}
+use Rattle.block_laws.specs.StepsLaws.{mul-within, add-mul}
+use Rattle.block_laws.specs.PassLaws.{across-put}
 use borrow.Author.Needs.{needs}
 use Rattle.block_engine.proofs.put_group.Statement.{statement}
 use Rattle.block_engine.proofs.put_group.Tie as tie

@@ -5,10 +5,10 @@ use Prim.Native.Nat.{ℕ, _*_, _≤_, _<_}
 use native.Mathlib.Omega.{arith}
 use lib.ListN.{length, getD}
 use borrow.Author.Needs.{needs}
-use Rattle.shape.specs.Laws.{places-most}
-use Rattle.block_engine.specs.Ready.{Ready}
-use Rattle.block_engine.specs.ReadyLaws.{ready-word, ready-size, ready-all, ready-is}
-use Rattle.block_engine.specs.StepsLaws.{mul-within}
+use Rattle.code.specs.LimitsLaws.{places-most}
+use Rattle.block_laws.specs.Ready.{Ready}
+use Rattle.block_laws.specs.ReadyLaws.{ready-word, ready-size, ready-all, ready-is}
+use Rattle.block_laws.specs.StepsLaws.{mul-within}
 use Rattle.code.specs.LentLaws.{lent}
 use Rattle.block_engine.proofs.ready.Statement.{statement}
 use Rattle.block_engine.proofs.ready.Tie as tie

@@ -1,4 +1,4 @@
-use Rattle.block_engine.specs.ReadyLaws.{given-of, given-after, restored-is}
+use Rattle.block_laws.specs.ReadyLaws.{given-of, given-after, restored-is}
 use borrow.Author.Needs.{needs}
 use Rattle.block_engine.proofs.restore_by.Statement.{statement}
 use Rattle.block_engine.proofs.restore_by.Tie as tie

@@ -9,10 +9,10 @@ use borrow.Author.Tests.{eq-eqb, ne-eqb}
 use Rattle.counting.specs.Count.{countBelow}
 use Rattle.counting.specs.CountLaws.{total-none, count-le}
 use Rattle.code.specs.Marks.{lost, lostIn}
-use Rattle.fill.proofs.Laws.{lost-below}
 use Rattle.block_constants.specs.ReducedLaws.{count-here, count-past}
-use Rattle.block_engine.specs.Steps.{Targets}
-use Rattle.block_engine.specs.PassLaws.{targets-none, targets-past, targets-next}
+use Rattle.code_engine.specs.PositionsLaws.{lost-below}
+use Rattle.block_laws.specs.Steps.{Targets}
+use Rattle.block_laws.specs.PassLaws.{targets-none, targets-past, targets-next}
 use Rattle.block_engine.proofs.targets.Statement.{statement}
 use Rattle.block_engine.proofs.targets.Tie as tie
 use Rattle.block_engine.proofs.targets.Reads as reads

@@ -3,17 +3,17 @@ use native.Mathlib.Omega.{arith}
 use mathlib.Core.List.{List}
 use Prim.Native.Nat.{ℕ, _+_, _*_, _<_, _≤_}
 use lib.ListN.{length, getD, set, length-set}
-use Rattle.erasures.specs.Places.{FreePlaces}
-use Rattle.shape.specs.Laws.{places-most}
-use Rattle.block_engine.specs.RestLaws.{rows-limit, row-limit}
-use Rattle.block_engine.specs.AcrossLaws.{none-limit, one-limit, two-limit}
-use Rattle.block_engine.specs.ReadyLaws.{ready-named}
+use Rattle.code.specs.LimitsLaws.{places-most}
+use Rattle.code_engine.specs.FreePlaces.{FreePlaces}
+use Rattle.block_laws.specs.RestLaws.{rows-limit, row-limit}
+use Rattle.block_laws.specs.AcrossLaws.{none-limit, one-limit, two-limit}
+use Rattle.block_laws.specs.ReadyLaws.{ready-named}
 use borrow.Author.Needs.{needs}
 use Rattle.block_engine.proofs.test_across.Statement.{statement}
 use Rattle.block_engine.proofs.test_across.Tie as tie
 use Rattle.block_engine.proofs.test_across.Reads as reads
 use Rattle.block_engine.proofs.test_across.Lts as lts
-use Rattle.block_free.proofs.test_row.Reads as test-row-reads
+use Rattle.block_constants.proofs.test_row.Reads as test-row-reads
 use Rattle.block_sums.proofs.zero_until.Reads as zero-until-reads
 use Rattle.erasures.proofs.free_places.Reads as free-places-reads
 

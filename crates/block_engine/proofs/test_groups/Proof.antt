@@ -2,14 +2,14 @@ use mathlib.Core.Path.{_≡_}
 use mathlib.Core.List.{List}
 use Prim.Native.Nat.{ℕ, _≤_, _<_, _+_, _*_, _-_}
 use native.Mathlib.Omega.{arith}
-use Rattle.shape.specs.Laws.{places-most}
 use Rattle.code.specs.Stretch.{stretch}
 use Rattle.code.specs.StretchLaws.{stretch-length}
 use Rattle.code.specs.LentLaws.{stretch-lent}
-use Rattle.block_engine.specs.Group.{Mendable}
-use Rattle.block_engine.specs.Steps.{Limit, placeSymbol}
-use Rattle.block_engine.specs.StepsLaws.{row-inside, limit-none, limit-next}
-use Rattle.block_engine.specs.PassLaws.{given-end, given-few, kept-inside}
+use Rattle.code.specs.LimitsLaws.{places-most}
+use Rattle.block_laws.specs.Group.{Mendable}
+use Rattle.block_laws.specs.Steps.{Limit, placeSymbol}
+use Rattle.block_laws.specs.StepsLaws.{row-inside, limit-none, limit-next}
+use Rattle.block_laws.specs.PassLaws.{given-end, given-few, kept-inside}
 use Rattle.block_engine.proofs.test_groups.Statement.{statement}
 use Rattle.block_engine.proofs.test_groups.Tie as tie
 use Rattle.block_engine.proofs.test_groups.Reads as reads

@@ -3,18 +3,18 @@ use native.Mathlib.Omega.{arith}
 use mathlib.Core.List.{List}
 use Prim.Native.Nat.{ℕ, _+_, _*_, _<_, _≤_}
 use lib.ListN.{length, getD, set, length-set}
-use Rattle.erasures.specs.Places.{FreePlaces}
-use Rattle.shape.specs.Laws.{places-most}
-use Rattle.block_engine.specs.RestLaws.{one-written, two-written, aimed-one, aimed-two}
-use Rattle.block_engine.specs.AcrossLaws.{none-free, one-free-at, two-free-at}
-use Rattle.block_engine.specs.ReadyLaws.{ready-all, ready-named}
+use Rattle.code.specs.LimitsLaws.{places-most}
+use Rattle.code_engine.specs.FreePlaces.{FreePlaces}
+use Rattle.block_laws.specs.RestLaws.{one-written, two-written, aimed-one, aimed-two}
+use Rattle.block_laws.specs.AcrossLaws.{none-free, one-free-at, two-free-at}
+use Rattle.block_laws.specs.ReadyLaws.{ready-all, ready-named}
 use borrow.Author.Needs.{needs}
 use Rattle.block_engine.proofs.write_across.Statement.{statement}
 use Rattle.block_engine.proofs.write_across.Tie as tie
 use Rattle.block_engine.proofs.write_across.Reads as reads
 use Rattle.block_engine.proofs.write_across.Lts as lts
-use Rattle.block_free.proofs.value_row.Reads as value-row-reads
-use Rattle.block_free.proofs.value_rows.Reads as value-rows-reads
+use Rattle.block_constants.proofs.value_row.Reads as value-row-reads
+use Rattle.block_constants.proofs.value_rows.Reads as value-rows-reads
 use Rattle.block_sums.proofs.write_sums.Reads as write-sums-reads
 use Rattle.erasures.proofs.free_places.Reads as free-places-reads
 

@@ -1,5 +1,4 @@
-use mathlib.Core.Path.{_≡_}
-use mathlib.Core.Path.{sym, ap, _∙_}
+use mathlib.Core.Path.{_≡_, sym, ap, _∙_}
 use native.Mathlib.Omega.{arith}
 use lib.Seq.{length-take-le}
 use Rattle.block_input.specs.Output.{rebuiltVerdict}

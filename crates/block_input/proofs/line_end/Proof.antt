@@ -1,9 +1,9 @@
 use mathlib.Core.Path.{_∙_}
 use native.Mathlib.Nat.{zero-add}
 use borrow.Author.Needs.{needs}
-use Rattle.text.specs.FieldLaws.{endOf}
 use Rattle.block_input.proofs.line_end.Statement.{statement}
 use Rattle.block_input.proofs.line_end.Tie as tie
+use Rattle.text.specs.Fields.{endOf}
 
 part-end-requires : tie.Need-part-end-requires
 part-end-requires c κs = search needs

@@ -92,7 +92,8 @@ loop-again c =
       s .0 .2,
       written-more (a .args .size) (a .args .first) (a .args .count) (a .args .rows) (a .args .blocks .now) (a .args .constants .now) (a .args .to) (l .x)
           (b10 .before .before .at-most .result) (l .blocks) _ _ (omega arith) (l .inv .4)
-          (s .1 (a .args .constants .now) (a .pre .0 .laid) (λ i. b15 .before .shared-slice-known .given i .fits) (b15 .selectors .ensures .0 (a .pre .0 .few) (a .pre .0 .rows-few) (a .pre .0 .laid)))
+          (s .1 (a .args .constants .now) (a .pre .0 .laid) (λ i. b15 .before .shared-slice-known .given i .fits)
+          (b15 .selectors .ensures .0 (a .pre .0 .few) (a .pre .0 .rows-few) (a .pre .0 .laid)))
           (c .before .before .write-strip .ensures),
     )
 

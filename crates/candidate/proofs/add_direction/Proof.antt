@@ -5,7 +5,7 @@ use native.Mathlib.Omega.{arith}
 use lib.ListN.{take, length-take, length-drop}
 use borrow.Author.Needs.{needs}
 use Rattle.code.specs.LentLaws.{stretch-lent, with-lent}
-use Rattle.candidate.proofs.Laws.{stretch-end, added-combined}
+use Rattle.code_engine.specs.CandidateStepsLaws.{stretch-end, added-combined}
 use Rattle.candidate.proofs.add_direction.Statement.{statement}
 use Rattle.candidate.proofs.add_direction.Tie as tie
 

@@ -8,7 +8,7 @@ use lib.ListN.{length, getD, length-set}
 use borrow.Author.Needs.{needs}
 use borrow.Author.Tests.{eq-eqb}
 use Rattle.code.specs.Marks.{lost}
-use Rattle.fill.proofs.Laws.{each-set}
+use Rattle.code_engine.specs.ListsLaws.{each-set}
 use Rattle.candidate.proofs.blank_lost.Statement.{statement}
 use Rattle.candidate.proofs.blank_lost.Tie as tie
 use Rattle.candidate.proofs.blank_lost.Reads as reads

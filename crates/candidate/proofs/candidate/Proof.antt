@@ -3,10 +3,11 @@ use Prim.Native.Nat.{_*_}
 use native.Mathlib.Omega.{arith}
 use lib.ListN.{length, length-take}
 use borrow.Author.Needs.{needs}
-use Rattle.shape.specs.Shapes.{Good}
-use Rattle.shape.specs.Laws.{word-of-good, places-most}
-use Rattle.code.specs.Lent.{Lent}
+use Rattle.shape.specs.Shapes.{byteLimits}
 use Rattle.code.specs.LentLaws.{lent}
+use Rattle.code.specs.Lent.{LentIn}
+use Rattle.code.specs.Limits.{GoodIn}
+use Rattle.code.specs.LimitsLaws.{places-most, word-of-good}
 use Rattle.candidate.proofs.candidate.Statement.{statement}
 use Rattle.candidate.proofs.candidate.Tie as tie
 
@@ -17,12 +18,12 @@ returns : tie.Need-returns
 returns c =
     let r = c .before in
     let a = r .before .before .before .before .args in
-    let never : Good (a .m) (a .w) (a .c) → length (a .word .now) ≡ a .m * a .w → ⊥ =
+    let never : GoodIn byteLimits (a .m) (a .w) (a .c) → length (a .word .now) ≡ a .m * a .w → ⊥ =
     λ G e. c .if1 .taken (r .word-refusal .ensures ∙ word-of-good (a .m) (a .w) (a .c) (length (a .word .now)) G e) in
     (λ G e _ _. absurd (never G e), (λ G e _ _. absurd (never G e), (refl, λ _. (refl, refl))))
 
 -- past the first test the shape is good, and the word has its length
-shaped : (t : tie.Else1) → let a = t .before .before .before .before .before .args in Lent (a .m) (a .w) (a .c) (a .word .now)
+shaped : (t : tie.Else1) → let a = t .before .before .before .before .before .args in LentIn byteLimits (a .m) (a .w) (a .c) (a .word .now)
 shaped t =
     let r = t .before in
     let a = r .before .before .before .before .args in

@@ -5,9 +5,9 @@ use Prim.Native.Nat.{ℕ, _≤_}
 use lib.ListN.{length, set, replicate, length-take, length-set, length-replicate}
 use lib.Seq.{length-take-le}
 use borrow.Author.Needs.{needs}
-use Rattle.candidate.proofs.Laws.{direction-filled, direction-after}
 use Rattle.candidate.proofs.direction.Statement.{statement}
 use Rattle.candidate.proofs.direction.Tie as tie
+use Rattle.code_engine.specs.CandidateStepsLaws.{direction-filled, direction-after}
 
 array-write-h : tie.Need-array-write-h
 array-write-h c = search needs

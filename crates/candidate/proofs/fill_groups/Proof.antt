@@ -3,15 +3,16 @@ use mathlib.Core.List.{List}
 use Prim.Native.Nat.{ℕ, _-_, _≤_}
 use native.Mathlib.Omega.{arith}
 use borrow.Author.Needs.{needs}
-use Rattle.shape.specs.Laws.{places-most}
-use Rattle.candidate.specs.Steps.{GroupsFilled}
 use Rattle.code.specs.LentLaws.{stretch-lent, with-lent}
-use Rattle.candidate.proofs.Laws.{stretch-end, group-filled}
+use Rattle.code.specs.LimitsLaws.{places-most}
+use Rattle.byte_edition.specs.Edition.{byteEdition}
+use Rattle.code_engine.specs.CandidateSteps.{GroupsFilledIn}
+use Rattle.code_engine.specs.CandidateStepsLaws.{stretch-end, group-filled}
 use Rattle.candidate.proofs.fill_groups.Statement.{statement}
 use Rattle.candidate.proofs.fill_groups.Tie as tie
 
 abbrev Inv-loop : tie.InvT-loop
-Inv-loop m w c bound base₀ g₀ base g = (g ≤ m) × GroupsFilled g w bound base₀ base
+Inv-loop m w c bound base₀ g₀ base g = (g ≤ m) × GroupsFilledIn byteEdition g w bound base₀ base
 
 abbrev μ-loop : tie.MeasureT-loop
 μ-loop m w c bound base₀ g₀ base g = m - g

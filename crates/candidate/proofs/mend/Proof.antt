@@ -2,8 +2,8 @@ use mathlib.Core.Path.{_≡_, refl}
 use Prim.Native.Nat.{_<_}
 use native.Mathlib.Omega.{arith}
 use borrow.Author.Needs.{needs}
-use Rattle.candidate.specs.Mended.{MendedIn}
-use Rattle.candidate.specs.WeightsLaws.{few-at}
+use Rattle.code_engine.specs.Mended.{MendedIn}
+use Rattle.code_engine.specs.WeightsLaws.{few-at}
 use Rattle.candidate.proofs.mend.Statement.{statement}
 use Rattle.candidate.proofs.mend.Tie as tie
 

@@ -5,8 +5,9 @@ use borrow.Author.Needs.{needs}
 use Rattle.binary_field.specs.Product.{product}
 use Rattle.code.specs.Lone.{lone}
 use Rattle.byte_edition.specs.EditionLaws.{bytes-sound}
-use Rattle.candidate.specs.WeightsLaws.{first-weight}
-use Rattle.candidate.proofs.Laws.{group-lt, one-cleared}
+use Rattle.code_engine.specs.WeightsLaws.{first-weight}
+use Rattle.code_engine.specs.CandidateStepsLaws.{group-lt}
+use Rattle.candidate.proofs.Laws.{one-cleared}
 use Rattle.candidate.proofs.mend_one.Statement.{statement}
 use Rattle.candidate.proofs.mend_one.Tie as tie
 

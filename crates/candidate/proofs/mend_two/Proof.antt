@@ -7,9 +7,10 @@ use Rattle.code.specs.Edition.{times}
 use Rattle.code.specs.Lone.{lone}
 use Rattle.byte_edition.specs.Edition.{byteEdition}
 use Rattle.byte_edition.specs.EditionLaws.{bytes-sound}
-use Rattle.candidate.specs.WeightsLaws.{two-weights}
-use Rattle.candidate.specs.SolvedLaws.{combined-length}
-use Rattle.candidate.proofs.Laws.{group-lt, met-sums, two-cleared}
+use Rattle.code_engine.specs.WeightsLaws.{two-weights}
+use Rattle.code_engine.specs.SolvedLaws.{combined-length}
+use Rattle.code_engine.specs.CandidateStepsLaws.{group-lt}
+use Rattle.candidate.proofs.Laws.{met-sums, two-cleared}
 use Rattle.candidate.proofs.mend_two.Statement.{statement}
 use Rattle.candidate.proofs.mend_two.Tie as tie
 

@@ -1,9 +1,9 @@
 use mathlib.Core.Path.{sym, _∙_}
 use borrow.Author.Needs.{needs}
-use Rattle.erasures.specs.Whole.{BoundAll}
+use Rattle.code_engine.specs.BoundGroups.{BoundAll}
 use Rattle.byte_edition.specs.EditionLaws.{bytes-sound}
-use Rattle.candidate.specs.WholeLaws.{is-candidate}
-use Rattle.erasures.specs.WholeLaws.{bound-copy}
+use Rattle.code_engine.specs.CandidateLaws.{is-candidate}
+use Rattle.code_engine.specs.BoundGroupsLaws.{bound-copy}
 use Rattle.candidate.proofs.rebuild.Statement.{statement}
 use Rattle.candidate.proofs.rebuild.Tie as tie
 

@@ -3,7 +3,7 @@ use lib.ListN.{drop, length-take}
 use native.Mathlib.Omega.{arith}
 use borrow.Author.Needs.{needs}
 use Rattle.code.specs.LentLaws.{stretch-lent}
-use Rattle.candidate.proofs.Laws.{group-end, way-asked, way-given}
+use Rattle.code_engine.specs.CandidateStepsLaws.{group-end, way-asked, way-given}
 use Rattle.candidate.proofs.way.Statement.{statement}
 use Rattle.candidate.proofs.way.Tie as tie
 

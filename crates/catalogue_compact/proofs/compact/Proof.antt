@@ -1,7 +1,7 @@
 use Rattle.catalogue_compact.specs.Laws.{compact-number, compact-bad, lines-at, compact-none, compact-room, compact-done}
 use Rattle.catalogue_compact.specs.Compaction.{compactedNumber}
 use Rattle.catalogue_scan.specs.BufferLaws.{at-found, not-found}
-use Rattle.catalogue_write.specs.SpliceLaws.{row-line, row-room}
+use Rattle.catalogue_lines.specs.SpliceLaws.{row-line, row-room}
 use mathlib.Core.List.{[]}
 use lib.Seq.{length-take-le}
 use native.Mathlib.Omega.{arith}

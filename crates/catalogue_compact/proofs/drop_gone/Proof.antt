@@ -1,6 +1,7 @@
-use Rattle.catalogue_compact.specs.Laws.{LinesAt, Dropping, drop-start, buffer-long, drop-end, turn-inside, turn}
+use Rattle.catalogue_compact.specs.Laws.{Dropping, drop-start, buffer-long, drop-end, turn-inside, turn}
 use Rattle.catalogue_text.specs.Catalogue.{Catalogue}
 use Rattle.catalogue_text.specs.Buffers.{catalogueIn}
+use Rattle.catalogue_compact.specs.Compaction.{LinesAt}
 use lib.ListN.{length}
 use lib.Seq.{length-take-le}
 use Prim.Native.Nat.{_-_, _<_}

@@ -3,7 +3,6 @@ use Rattle.text.specs.FieldLaws.{part-taken}
 use Prim.Native.Nat.{_+_}
 use mathlib.Core.Path.{sym, _∙_}
 use native.Mathlib.Omega.{arith}
-use mathlib.Core.Path.{sym}
 use borrow.Author.Needs.{needs}
 use Rattle.catalogue_lines.proofs.field_after.Statement.{statement}
 use Rattle.catalogue_lines.proofs.field_after.Tie as tie

@@ -2,8 +2,8 @@ use mathlib.Core.Path.{_≡_, sym, ap, _∙_}
 use Prim.Native.Nat.{_*_}
 use native.Mathlib.Omega.{arith}
 use borrow.Author.Tests.{le-leb, lt-leb}
-use Rattle.shape.specs.Refusals.{refuse, _orElse_}
-use Rattle.shape.specs.RefusalsLaws.{orElse-first}
+use Rattle.code.specs.Refusals.{refuse, _orElse_}
+use Rattle.code.specs.RefusalsLaws.{orElse-first}
 use Rattle.desk_job.specs.JobLaws.{good-places}
 use Rattle.desk_record.specs.Desks.{jobAt, slotOf}
 use Rattle.desk_record.specs.Refusal.{handleRefusal}

@@ -1,5 +1,5 @@
 use mathlib.Core.Path.{_≡_, refl, sym, ap, _∙_}
-use Rattle.shape.specs.AnswersLaws.{answer-refused}
+use Rattle.answers.specs.AnswersLaws.{answer-refused}
 use Rattle.desk_record.specs.Desks.{slotOf}
 use Rattle.desk_job.specs.Jobs.{emptyJob}
 use Rattle.desk_close.specs.Close.{closeOf, closeBy}

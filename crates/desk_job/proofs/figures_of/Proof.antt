@@ -5,18 +5,19 @@ use native.Mathlib.Nat.{le-trans}
 use native.Mathlib.Omega.{arith}
 use borrow.Author.Needs.{needs}
 use lib.ListN.{length, set}
-use Rattle.shape.specs.Laws.{word-of-good}
+use Rattle.shape.specs.Shapes.{byteLimits}
 use Rattle.code.specs.Marks as Marks
-use Rattle.code.specs.Lent.{Lent}
 use Rattle.code.specs.LentLaws.{lent, end-fits, part-narrow}
-use Rattle.marks.specs.CountsLaws.{excess-none, excess-turn, lost-most}
+use Rattle.code.specs.Lent.{LentIn}
+use Rattle.code.specs.LimitsLaws.{word-of-good}
+use Rattle.code_engine.specs.GroupsLaws.{excess-none, excess-turn, lost-most}
 use Rattle.desk_job.specs.Figures.{lostCounts}
 use Rattle.desk_job.specs.FiguresLaws.{counts-none, counts-turn}
 use Rattle.desk_job.proofs.figures_of.Statement.{statement}
 use Rattle.desk_job.proofs.figures_of.Tie as tie
 
 abbrev Inv-loop : tie.InvT-loop
-Inv-loop m w c marks lost₀ excess₀ g₀ lost excess g = Lent m w c marks × (g ≤ m) × (excess ≤ 16 * g) × (lost ≡ lostCounts g w marks)
+Inv-loop m w c marks lost₀ excess₀ g₀ lost excess g = LentIn byteLimits m w c marks × (g ≤ m) × (excess ≤ 16 * g) × (lost ≡ lostCounts g w marks)
     × (excess ≡ Marks.excess g w c marks)
 
 abbrev μ-loop : tie.MeasureT-loop

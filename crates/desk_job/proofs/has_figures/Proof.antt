@@ -8,7 +8,7 @@ use lib.Seq.{length-take-le}
 use Rattle.counting.specs.Test.{allBelow}
 use Rattle.desk_job.specs.declared.Figures.{Figures}
 use Rattle.desk_job.specs.Figures.{lossFigures}
-use Rattle.desk_job.specs.Jobs.{marksOf}
+use Rattle.desk_job.specs.Jobs.{jobMarks}
 use Rattle.desk_job.specs.JobLaws.{good-places, good-iff, other-excess, counts-decide}
 use borrow.Author.Needs.{needs}
 use Rattle.desk_job.proofs.has_figures.Statement.{statement}
@@ -53,7 +53,7 @@ cast-if1 c = search needs
 -- what was worked from the marks
 worked : (c : tie.After-figures-of) → c .figures-of .result ≡ lossFigures (c .before .before .before .before .before .before .args .job .m)
     (c .before .before .before .before .before .before .args .job .w) (c .before .before .before .before .before .before .args .job .c)
-    (marksOf (c .before .before .before .before .before .before .args .job))
+    (jobMarks (c .before .before .before .before .before .before .args .job))
 worked c =
     let s = c .before .before .before .before .before .before in
     let M = good-iff (s .args .job) .0 (s .pre) .0 in

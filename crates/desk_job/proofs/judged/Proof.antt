@@ -1,8 +1,8 @@
 use mathlib.Core.Path.{sym, ap, _∙_}
-use Rattle.judge.specs.Judgement.{judgedNumber}
 use borrow.Author.Needs.{needs}
 use Rattle.desk_job.proofs.judged.Statement.{statement}
 use Rattle.desk_job.proofs.judged.Tie as tie
+use Rattle.answers.specs.Figures.{judgedNumber}
 
 judge-requires : tie.Need-judge-requires
 judge-requires c κs = search needs

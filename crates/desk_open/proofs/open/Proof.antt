@@ -2,10 +2,10 @@ use mathlib.Core.Path.{_≡_, refl, sym, ap, _∙_, subst}
 use Prim.Native.Nat.{_<_}
 use native.Mathlib.Omega.{arith}
 use Rattle.shape.specs.Shapes.{byteLimits}
-use Rattle.shape.specs.Laws.{places-most}
-use Rattle.marks.specs.Refusal.{Marked}
-use Rattle.marks.specs.RefusalLaws.{marks-of-good}
-use Rattle.judge.specs.Laws.{zero-excess}
+use Rattle.code.specs.LimitsLaws.{places-most}
+use Rattle.code_services.specs.MarksLaws.{marks-of-good}
+use Rattle.code_services.specs.Marks.{MarkedIn}
+use Rattle.code_services.specs.JudgeLaws.{zero-excess}
 use Rattle.desk_job.specs.declared.Figures.{Figures}
 use Rattle.desk_job.specs.Figures.{lossFigures}
 use Rattle.desk_open.specs.Open.{openOf, openBy, newHandle}
@@ -26,7 +26,7 @@ parts c =
     (sym (c .before .before .open-refusal .ensures) ∙ c .before .if1 .left)
 
 marked : (c : tie.After-free-slot)
-    → Marked (c .before .before .before .before .args .m) (c .before .before .before .before .args .w) (c .before .before .before .before .args .c)
+    → MarkedIn byteLimits (c .before .before .before .before .args .m) (c .before .before .before .before .args .w) (c .before .before .before .before .args .c)
     (c .before .before .before .before .args .marks .now)
 marked c =
     let a = c .before .before .before .before .args in

@@ -2,8 +2,9 @@ use mathlib.Core.Path.{_≡_, sym, ap, _∙_}
 use mathlib.Core.Bool.{true, false}
 use borrow.Author.Tests.{not-true, not-false}
 use lib.Dec.{eqb}
-use Rattle.shape.specs.RefusalsLaws.{orElse-first}
-use Rattle.judge.specs.Judgement.{judgedNumberOf}
+use Rattle.code.specs.RefusalsLaws.{orElse-first}
+use Rattle.shape.specs.Shapes.{byteLimits}
+use Rattle.code_services.specs.Judge.{judgedNumberIn}
 use Rattle.desk_record.specs.Desks.{isSound}
 use Rattle.desk_open.specs.Open.{openNumber, freeFrom}
 use borrow.Author.Needs.{needs}
@@ -41,7 +42,7 @@ returns-3 c =
     let b = k .before .before in
     let a = b .before .before .before .args in
     let e : isSound (a .desk) ≡ true = sym (b .before .is-sound .ensures) ∙ not-false _ (b .if1 .left) in
-    let z : judgedNumberOf (a .m) (a .w) (a .c) (a .marks .now) ≡ 0 = sym (k .before .judged .ensures) ∙ k .if2 .left in
+    let z : judgedNumberIn byteLimits (a .m) (a .w) (a .c) (a .marks .now) ≡ 0 = sym (k .before .judged .ensures) ∙ k .if2 .left in
     let t : eqb (a .desk .t) 65535 ≡ true = c .if3 .taken in
     simp (e, z, t)
 
@@ -53,7 +54,7 @@ returns-4 c =
     let b = k .before .before in
     let a = b .before .before .before .args in
     let e : isSound (a .desk) ≡ true = sym (b .before .is-sound .ensures) ∙ not-false _ (b .if1 .left) in
-    let z : judgedNumberOf (a .m) (a .w) (a .c) (a .marks .now) ≡ 0 = sym (k .before .judged .ensures) ∙ k .if2 .left in
+    let z : judgedNumberIn byteLimits (a .m) (a .w) (a .c) (a .marks .now) ≡ 0 = sym (k .before .judged .ensures) ∙ k .if2 .left in
     let t : eqb (a .desk .t) 65535 ≡ false = c .before .if3 .left in
     let f : eqb (freeFrom (a .desk .jobs) 0) 8 ≡ true = ap (λ s. eqb s 8) (sym (h .free-slot .ensures)) ∙ c .if4 .taken in
     simp (e, z, t, f)
@@ -66,7 +67,7 @@ returns-5 c =
     let b = k .before .before in
     let a = b .before .before .before .args in
     let e : isSound (a .desk) ≡ true = sym (b .before .is-sound .ensures) ∙ not-false _ (b .if1 .left) in
-    let z : judgedNumberOf (a .m) (a .w) (a .c) (a .marks .now) ≡ 0 = sym (k .before .judged .ensures) ∙ k .if2 .left in
+    let z : judgedNumberIn byteLimits (a .m) (a .w) (a .c) (a .marks .now) ≡ 0 = sym (k .before .judged .ensures) ∙ k .if2 .left in
     let t : eqb (a .desk .t) 65535 ≡ false = c .before .if3 .left in
     let f : eqb (freeFrom (a .desk .jobs) 0) 8 ≡ false = ap (λ s. eqb s 8) (sym (h .free-slot .ensures)) ∙ c .if4 .left in
     simp (e, z, t, f)

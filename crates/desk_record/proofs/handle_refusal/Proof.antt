@@ -1,7 +1,7 @@
 use mathlib.Core.Path.{_≡_, sym, ap₂, _∙_}
 use mathlib.Core.Bool.{true, false, not}
-use Rattle.shape.specs.Refusals.{refuse, _orElse_}
-use Rattle.shape.specs.RefusalsLaws.{orElse-first}
+use Rattle.code.specs.Refusals.{refuse, _orElse_}
+use Rattle.code.specs.RefusalsLaws.{orElse-first}
 use Rattle.desk_record.specs.Desks.{isOpen}
 use Rattle.desk_record.specs.Refusal.{soundRefusal, handleRefusal}
 use Rattle.desk_record.proofs.handle_refusal.Statement.{statement}

@@ -1,11 +1,11 @@
 use mathlib.Core.Path.{_≡_, refl, sym, ap, _∙_}
 use native.Mathlib.Omega.{arith}
-use Rattle.shape.specs.declared.Mending.{Mending}
-use Rattle.shape.specs.Answers.{mendingAt}
-use Rattle.shape.specs.Refusals.{unlessRefused}
+use Rattle.answers.specs.declared.Mending.{Mending}
+use Rattle.answers.specs.Answers.{mendingAt}
+use Rattle.code.specs.Refusals.{unlessRefused}
 use Rattle.desk_record.specs.Desks.{slotOf, jobAt}
 use Rattle.desk_record.specs.Desks.{withJob}
-use Rattle.desk_serve.specs.Serve.{recoveryOf, jobNumber, serveBy, serveOf}
+use Rattle.desk_serve.specs.Serve.{jobRecovery, jobNumber, serveBy, serveOf}
 use Rattle.desk_serve.specs.ServeLaws.{mending-is, mending-some, job-room, gives-handle, gives-job, serve-job}
 use Rattle.desk_record.specs.RefusalLaws.{open-good}
 use borrow.Author.Needs.{needs}
@@ -47,7 +47,7 @@ served-once-requires c κs =
     let a = k .before .before .before .before .before .before .args in
     let j = jobAt (a .desk) (slotOf (a .handle)) in
     let z : jobNumber j (a .word .now) ≡ 0
-    = mending-is (jobNumber j (a .word .now)) ((recoveryOf j (a .word .now)) .group) (sym (c .enum-told .given .1) ∙ k .serve-job .ensures .0) in
+    = mending-is (jobNumber j (a .word .now)) ((jobRecovery j (a .word .now)) .group) (sym (c .enum-told .given .1) ∙ k .serve-job .ensures .0) in
     job-room j (a .word .now) z
 
 mul-raised : tie.Need-mul-raised
@@ -66,7 +66,7 @@ returns-2 c =
     let a = e₁ .before .before .before .args in
     let j = jobAt (a .desk) (slotOf (a .handle)) in
     let n = jobNumber j (a .word .now) in
-    let g = (recoveryOf j (a .word .now)) .group in
+    let g = (jobRecovery j (a .word .now)) .group in
     let r = c .before .r .given .0 .0 in
     let q : Mending.Refused r ≡ mendingAt n g = sym (c .before .r .given .1) ∙ k .serve-job .ensures .0 in
     gives-job (a .handle) (a .word .now) (a .desk) (sym (e₁ .before .handle-refusal .ensures) ∙ e₁ .if1 .left) (mending-some n g r q) _
@@ -82,7 +82,7 @@ returns-3 c =
     let a = e₁ .before .before .before .args in
     let j = jobAt (a .desk) (slotOf (a .handle)) in
     let n = jobNumber j (a .word .now) in
-    let g = (recoveryOf j (a .word .now)) .group in
+    let g = (jobRecovery j (a .word .now)) .group in
     let r = c .before .group .given .0 .0 in
     let q : Mending.Contradictory r ≡ mendingAt n g = sym (c .before .group .given .1) ∙ k .serve-job .ensures .0 in
     let some : n ≡ 0 → ⊥ = λ z. let e : n ≡ 9 = mending-is n g q in omega arith in
@@ -99,13 +99,13 @@ returns-4 c =
     let a = e₁ .before .before .before .args in
     let j = jobAt (a .desk) (slotOf (a .handle)) in
     let z : jobNumber j (a .word .now) ≡ 0
-    = mending-is (jobNumber j (a .word .now)) ((recoveryOf j (a .word .now)) .group) (sym (c .before .enum-told .given .1) ∙ k .serve-job .ensures .0) in
+    = mending-is (jobNumber j (a .word .now)) ((jobRecovery j (a .word .now)) .group) (sym (c .before .enum-told .given .1) ∙ k .serve-job .ensures .0) in
     let e : serveOf (a .handle) (a .word .now) (a .desk) ≡ serveBy 0 (a .handle) (a .word .now) (a .desk)
     = serve-job (a .handle) (a .word .now) (a .desk) (sym (e₁ .before .handle-refusal .ensures) ∙ e₁ .if1 .left)
     ∙ ap (λ n. serveBy n (a .handle) (a .word .now) (a .desk)) z in
     rw e
     (record {
-      word-is = k .serve-job .ensures .1 ∙ ap (λ n. unlessRefused n ((recoveryOf j (a .word .now)) .word) (a .word .now)) z;
+      word-is = k .serve-job .ensures .1 ∙ ap (λ n. unlessRefused n ((jobRecovery j (a .word .now)) .word) (a .word .now)) z;
       desk-is = ap (withJob (a .desk) (slotOf (a .handle))) (c .served-once .ensures);
       answer-is = refl;
       number-is = refl;

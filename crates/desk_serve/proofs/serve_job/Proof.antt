@@ -4,8 +4,8 @@ use native.Mathlib.Omega.{arith}
 use borrow.Author.Needs.{length-unmapped, needs}
 use lib.ListN.{length}
 use lib.Seq.{length-take-le}
-use Rattle.desk_job.specs.Jobs.{marksOf}
-use Rattle.desk_serve.specs.Serve.{recoveryOf, jobNumber}
+use Rattle.desk_job.specs.Jobs.{jobMarks}
+use Rattle.desk_serve.specs.Serve.{jobRecovery, jobNumber}
 use Rattle.desk_job.specs.JobLaws.{good-places}
 use Rattle.desk_serve.specs.ServeLaws.{recover-unchanged, unless-same, job-length, job-end, job-recovery}
 use Rattle.desk_serve.proofs.serve_job.Statement.{statement}
@@ -63,13 +63,13 @@ returns-3 c =
     let e₂ = k .before .before .before .before in
     let e₁ = e₂ .before .before in
     let a = e₁ .before .before .before .before .before .args in
-    let n : jobNumber (a .job) (a .word .now) ≡ (recoveryOf (a .job) (a .word .now)) .number =
+    let n : jobNumber (a .job) (a .word .now) ≡ (jobRecovery (a .job) (a .word .now)) .number =
     job-recovery (a .job) (a .word .now) (e₁ .if1 .left) (e₂ .if2 .left) in
     rw n (
       k .recover .ensures .0,
       k .recover .ensures .1 .0
-          ∙ unless-same ((recoveryOf (a .job) (a .word .now)) .number) ((recoveryOf (a .job) (a .word .now)) .word) (a .word .now)
-          (recover-unchanged (a .job .m) (a .job .w) (a .job .c) (a .word .now) (marksOf (a .job))),
+          ∙ unless-same ((jobRecovery (a .job) (a .word .now)) .number) ((jobRecovery (a .job) (a .word .now)) .word) (a .word .now)
+          (recover-unchanged (a .job .m) (a .job .w) (a .job .c) (a .word .now) (jobMarks (a .job))),
     )
 
 pub serve-job-spec : {M : Type 1} → statement M

@@ -8,8 +8,7 @@ use Rattle.binary_field.specs.Xor.{_⊕_}
 use Rattle.binary_field.specs.XorLaws.{⊕-bits}
 use Rattle.code.specs.Edition.{times}
 use Rattle.byte_edition.specs.Edition.{byteEdition}
-use Rattle.fill.proofs.Laws.{each-set}
-use Rattle.candidate.proofs.Laws.{rest-set}
+use Rattle.code_engine.specs.ListsLaws.{each-set, rest-set}
 use Rattle.edit.proofs.add_rows.Statement.{statement}
 use Rattle.edit.proofs.add_rows.Tie as tie
 

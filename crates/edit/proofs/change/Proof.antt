@@ -7,7 +7,7 @@ use lib.ListN.{length, getD, take, drop}
 use Rattle.code.specs.Stretch.{stretch, withStretch}
 use Rattle.code.specs.StretchLaws.{stretch-length}
 use Rattle.code.specs.LentLaws.{stretch-lent, with-lent}
-use Rattle.candidate.proofs.Laws.{stretch-end}
+use Rattle.code_engine.specs.CandidateStepsLaws.{stretch-end}
 use Rattle.edit.specs.PlacesLaws.{group-less, place-less}
 use Rattle.edit.specs.Steps.{Refilled, correctedOf}
 use Rattle.edit.specs.ChangeLaws.{changed}

@@ -5,15 +5,16 @@ use native.Mathlib.Omega.{arith}
 use borrow.Author.Tests.{not-true, not-false}
 use lib.Dec.{T}
 use lib.ListN.{length}
-use Rattle.shape.specs.Shapes.{Good, dataCount}
+use Rattle.shape.specs.Shapes.{byteLimits}
+use Rattle.code.specs.Limits.{dataCount}
 use Rattle.byte_edition.specs.Edition.{byteEdition}
 use Rattle.code.specs.ContradictionLaws.{whole-groups}
 use Rattle.code.specs.Word.{isCodeword}
-use Rattle.syndrome.specs.declared.Tested.{Tested}
-use Rattle.syndrome.specs.Tests.{brokenGroupIn, testedOf}
-use Rattle.syndrome.specs.TestsLaws.{broken-most}
-use Rattle.edit.specs.Edit.{numberRefusal}
+use Rattle.answers.specs.declared.Tested.{Tested}
+use Rattle.code_engine.specs.Tests.{brokenGroupIn, testedIn}
+use Rattle.code_engine.specs.TestsLaws.{broken-most}
 use Rattle.edit.specs.Laws.{good-of-number}
+use Rattle.edit.specs.Edit.{numberRefusalIn}
 use Rattle.edit.proofs.Laws.{sold-of-number, edit-refused, edit-contradictory, edit-done}
 use borrow.Author.Needs.{needs}
 use Rattle.edit.proofs.edit.Statement.{statement}
@@ -29,11 +30,12 @@ returns c =
     edit-refused (a .m) (a .w) (a .c) (a .word .now) (a .number) (a .byte) (r .refusal .result) (r .refusal .ensures) (c .if1 .taken)
 
 -- past the first test nothing but the word can be wrong
-fair : (t : tie.Else1) → let a = t .before .before .before .args in numberRefusal (a .m) (a .w) (a .c) (length (a .word .now)) (a .number) ≡ 0
+fair : (t : tie.Else1) → let a = t .before .before .before .args in numberRefusalIn byteLimits (a .m) (a .w) (a .c) (length (a .word .now)) (a .number) ≡ 0
 fair t = sym (t .before .refusal .ensures) ∙ t .if1 .left
 
 -- what the test finds
-found : (t : tie.After-test) → let a = t .before .before .before .before .before .args in t .test .result ≡ testedOf (a .m) (a .w) (a .c) (a .word .now)
+found : (t : tie.After-test) → let a = t .before .before .before .before .before .args in t .test .result
+    ≡ testedIn byteEdition (a .m) (a .w) (a .c) (a .word .now)
 found t =
     let e = t .before .before in
     let a = e .before .before .before .args in

@@ -3,11 +3,12 @@ use Prim.Native.Nat.{_*_, _-_, _≤_}
 use native.Mathlib.Nat.{mul-le-mul}
 use native.Mathlib.Omega.{arith}
 use borrow.Author.Tests.{le-leb, lt-leb}
-use Rattle.shape.specs.Refusals.{refuse}
+use Rattle.code.specs.Refusals.{refuse}
 use lib.Dec.{leb}
-use Rattle.shape.specs.Shapes.{Good, dataCount}
-use Rattle.edit.specs.Edit.{numberRefusal}
-use Rattle.shape.specs.Laws.{good-of-word}
+use Rattle.shape.specs.Shapes.{byteLimits}
+use Rattle.code.specs.Limits.{dataCount, GoodIn}
+use Rattle.code.specs.LimitsLaws.{good-of-word}
+use Rattle.edit.specs.Edit.{numberRefusalIn}
 use Rattle.edit.proofs.Laws.{refused-sale, refused-length, refused-number}
 use borrow.Author.Needs.{needs}
 use Rattle.edit.proofs.refusal.Statement.{statement}
@@ -33,13 +34,13 @@ returns-2 c =
     e ∙ sym (refused-length (a .m) (a .w) (a .c) (a .lent) (a .number) (sym (r .before .sale-refusal .ensures) ∙ r .if1 .left) (λ z. c .if2 .taken (e ∙ z)))
 
 -- past both tests the shape is good
-fair : (t : tie.Else2) → let a = t .before .before .before .before .args in Good (a .m) (a .w) (a .c)
+fair : (t : tie.Else2) → let a = t .before .before .before .before .args in GoodIn byteLimits (a .m) (a .w) (a .c)
 fair t =
     let a = t .before .before .before .before .args in
     good-of-word (a .m) (a .w) (a .c) (a .lent) (sym (t .before .word-refusal .ensures) ∙ t .if2 .left) .0
 
 numbered : (t : tie.Else2) → let a = t .before .before .before .before .args in
-    numberRefusal (a .m) (a .w) (a .c) (a .lent) (a .number) ≡ refuse 30 (leb (dataCount (a .m) (a .w) (a .c)) (a .number))
+    numberRefusalIn byteLimits (a .m) (a .w) (a .c) (a .lent) (a .number) ≡ refuse 30 (leb (dataCount (a .m) (a .w) (a .c)) (a .number))
 numbered t =
     let a = t .before .before .before .before .args in
     refused-number (a .m) (a .w) (a .c) (a .lent) (a .number) (sym (t .before .before .before .sale-refusal .ensures) ∙ t .before .before .if1 .left)

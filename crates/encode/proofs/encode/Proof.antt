@@ -2,14 +2,15 @@ use mathlib.Core.Path.{_≡_, refl, sym, ap, _∙_, subst}
 use Prim.Native.Nat.{_≤_}
 use lib.ListN.{length}
 use lib.Seq.{length-take-le}
-use Rattle.shape.specs.RefusalsLaws.{unless-refused}
-use Rattle.shape.specs.Laws.{places-most}
-use Rattle.shape.specs.Answers.{answerAt}
-use Rattle.shape.specs.AnswersLaws.{answer-refused}
-use Rattle.encode.specs.Encode.{encodeRefusal, encodeIn, encodedBufferIn}
+use Rattle.code.specs.RefusalsLaws.{unless-refused}
+use Rattle.answers.specs.Answers.{answerAt}
+use Rattle.answers.specs.AnswersLaws.{answer-refused}
+use Rattle.shape.specs.Shapes.{byteLimits}
+use Rattle.code.specs.LimitsLaws.{places-most}
+use Rattle.code_services.specs.Encode.{encodeIn, encodedBufferIn, encodeRefusalIn}
 use Rattle.byte_edition.specs.Edition.{byteEdition}
 use Rattle.byte_edition.specs.EditionLaws.{bytes-sound}
-use Rattle.encode.specs.Laws.{good-of-encode, after-size, buffer-end}
+use Rattle.code_services.specs.EncodeLaws.{good-of-encode, after-size, buffer-end}
 use borrow.Author.Needs.{needs}
 use Rattle.encode.proofs.encode.Statement.{statement}
 use Rattle.encode.proofs.encode.Tie as tie
@@ -39,7 +40,7 @@ array-borrow-prefix-marks c =
     let p = c .before .before .before in
     let r = p .before .before .before in
     let a = r .before .before .before .args in
-    let z : encodeRefusal (a .m) (a .w) (a .c) (length (a .word .now)) (length (a .bytes .now)) ≡ 0 = cc in
+    let z : encodeRefusalIn byteLimits (a .m) (a .w) (a .c) (length (a .word .now)) (length (a .bytes .now)) ≡ 0 = cc in
     let g = good-of-encode (a .m) (a .w) (a .c) (length (a .word .now)) (length (a .bytes .now)) z in
     subst (λ n. n ≤ 240) (sym (after-size byteEdition (a .m) (a .w) (a .c) (a .bytes .now) (a .word .now) _ z (p .place .ensures))) (places-most (g .0))
 
@@ -51,7 +52,7 @@ fill-checks-requires c κs =
     let p = c .before .before .before .before in
     let r = p .before .before .before in
     let a = r .before .before .before .args in
-    let z : encodeRefusal (a .m) (a .w) (a .c) (length (a .word .now)) (length (a .bytes .now)) ≡ 0 = cc in
+    let z : encodeRefusalIn byteLimits (a .m) (a .w) (a .c) (length (a .word .now)) (length (a .bytes .now)) ≡ 0 = cc in
     let g = good-of-encode (a .m) (a .w) (a .c) (length (a .word .now)) (length (a .bytes .now)) z in
     (g .0, sym (slice-aggregate-fill-checks c) ∙ after-size byteEdition (a .m) (a .w) (a .c) (a .bytes .now) (a .word .now) _ z (p .place .ensures))
 
@@ -66,7 +67,7 @@ returns-2 c =
     let r = p .before .before .before in
     let k = r .before .before in
     let a = k .before .args in
-    let z : encodeRefusal (a .m) (a .w) (a .c) (length (a .word .now)) (length (a .bytes .now)) ≡ 0 = cc in (
+    let z : encodeRefusalIn byteLimits (a .m) (a .w) (a .c) (length (a .word .now)) (length (a .bytes .now)) ≡ 0 = cc in (
       sym (ap answerAt z),
       (
         sym z,

@@ -1,6 +1,6 @@
 use mathlib.Core.Path.{ap, _∙_}
-use Rattle.places.specs.Laws.{marked-checks}
-use Rattle.recover.specs.Recover.{recoverOf}
+use Rattle.byte_edition.specs.Edition.{byteEdition}
+use Rattle.code_services.specs.PlacesLaws.{marked-checks}
 use borrow.Author.Needs.{needs}
 use Rattle.encode.proofs.fill_checks.Statement.{statement}
 use Rattle.encode.proofs.fill_checks.Tie as tie
@@ -8,6 +8,7 @@ use Rattle.encode.proofs.fill_checks.Reads as reads
 use Rattle.encode.proofs.fill_checks.Lts as lts
 use Rattle.recover.proofs.recover.Reads as recover-reads
 use Rattle.places.proofs.mark_checks.Reads as mark-checks-reads
+use Rattle.code_services.specs.Recover.{recoverIn}
 
 mark-checks-requires : tie.Need-mark-checks-requires
 mark-checks-requires c κs = search needs
@@ -28,7 +29,7 @@ returns c =
     let s = k .before .before .before .before in
     let a = s .args in
     r .recover .ensures .1 .0
-    ∙ ap (λ u. (recoverOf (a .m) (a .w) (a .c) (a .word .now) u) .word)
+    ∙ ap (λ u. (recoverIn byteEdition (a .m) (a .w) (a .c) (a .word .now) u) .word)
     (k .mark-checks .ensures ∙ marked-checks (s .pre .0) (a .marks .now) (s .pre .1))
 
 pub fill-checks-spec : {M : Type 1} → statement M

@@ -1,5 +1,5 @@
 use borrow.Author.Needs.{needs}
-use Rattle.encode.specs.Encode.{encodeRefusalIn}
+use Rattle.code_services.specs.Encode.{encodeRefusalIn}
 use Rattle.encode.proofs.refusal.Statement.{statement}
 use Rattle.encode.proofs.refusal.Tie as tie
 

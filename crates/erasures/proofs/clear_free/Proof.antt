@@ -4,9 +4,9 @@ use native.Mathlib.Nat.{div-zero}
 use native.Mathlib.Omega.{arith}
 use borrow.Author.Needs.{needs}
 use lib.ListN.{length}
-use Rattle.marks.specs.CountsLaws.{group-next, groups-passed}
-use Rattle.erasures.specs.Whole.{boundGroups, BoundUpTo}
-use Rattle.erasures.specs.WholeLaws.{upto-none}
+use Rattle.code_engine.specs.GroupsLaws.{group-next, groups-passed}
+use Rattle.code_engine.specs.BoundGroups.{boundGroups, BoundUpTo}
+use Rattle.code_engine.specs.BoundGroupsLaws.{upto-none}
 use Rattle.erasures.proofs.Laws.{group-step}
 use Rattle.erasures.proofs.clear_free.Statement.{statement}
 use Rattle.erasures.proofs.clear_free.Tie as tie

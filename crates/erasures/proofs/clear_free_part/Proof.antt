@@ -4,7 +4,7 @@ use mathlib.Core.List.{_++_}
 use Prim.Native.Nat.{_≤_, _-_}
 use native.Mathlib.Omega.{arith}
 use lib.ListN.{length, take, drop, length-set}
-use Rattle.erasures.specs.Bound.{boundOf}
+use Rattle.code_engine.specs.Bound.{boundOf}
 use Rattle.erasures.proofs.Laws.{pass-step, clear-free-step, clear-step, bound-end}
 use Rattle.erasures.proofs.clear_free_part.Statement.{statement}
 use Rattle.erasures.proofs.clear_free_part.Tie as tie

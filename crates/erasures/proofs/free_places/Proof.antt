@@ -1,8 +1,8 @@
 use native.Mathlib.Omega.{arith}
 use lib.ListN.{length}
 use borrow.Author.Needs.{needs}
-use Rattle.erasures.specs.Places.{NextFree}
-use Rattle.erasures.specs.PlacesLaws.{free-none, free-one, free-two}
+use Rattle.code_engine.specs.FreePlaces.{NextFree}
+use Rattle.code_engine.specs.FreePlacesLaws.{free-none, free-one, free-two}
 use Rattle.erasures.specs.FirstTwoLaws.{two-none, two-one, two-two}
 use Rattle.erasures.proofs.Laws.{bound-not-free}
 use Rattle.erasures.proofs.free_places.Statement.{statement}

@@ -5,7 +5,7 @@ use native.Mathlib.Omega.{arith}
 use borrow.Author.Needs.{needs}
 use borrow.Author.Count.{below-more}
 use lib.ListN.{length}
-use Rattle.erasures.specs.Bound.{free}
+use Rattle.code_engine.specs.Bound.{free}
 use Rattle.erasures.proofs.next_free.Statement.{statement}
 use Rattle.erasures.proofs.next_free.Tie as tie
 

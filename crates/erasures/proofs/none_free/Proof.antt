@@ -8,7 +8,7 @@ use lib.ListN.{length, getD, take, drop, length-drop}
 use lib.Seq.{getD-take, getD-drop, length-take-le}
 use borrow.Author.Needs.{needs}
 use borrow.Author.Tests.{not-false}
-use Rattle.erasures.specs.Bound.{free}
+use Rattle.code_engine.specs.Bound.{free}
 use Rattle.erasures.proofs.Laws.{bound-not-free}
 use Rattle.erasures.proofs.none_free.Statement.{statement}
 use Rattle.erasures.proofs.none_free.Tie as tie

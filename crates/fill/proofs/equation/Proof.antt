@@ -7,16 +7,16 @@ use lib.ListN.{length, getD}
 use Rattle.binary_field.specs.PowerLaws.{power-zero}
 use Rattle.code.specs.Edition.{raised}
 use Rattle.byte_edition.specs.Edition.{byteEdition}
-use Rattle.check_rows.specs.Rows.{powerRows, noRow}
-use Rattle.check_rows.specs.RowsLaws.{power-at}
+use Rattle.byte_edition.specs.Rows.{powerRows, noRow}
+use Rattle.byte_edition.specs.RowsLaws.{power-at}
 use Rattle.fill.proofs.Laws.{syndrome}
 use borrow.Author.Needs.{needs}
 use Rattle.fill.proofs.equation.Statement.{statement}
 use Rattle.fill.proofs.equation.Tie as tie
 use Rattle.fill.proofs.equation.Reads as reads
 use Rattle.fill.proofs.equation.Lts as lts
-use Rattle.check_rows.proofs.power_row.Reads as power-row-reads
-use Rattle.check_rows.proofs.power_sum.Reads as power-sum-reads
+use Rattle.byte_edition.proofs.power_row.Reads as power-row-reads
+use Rattle.byte_edition.proofs.power_sum.Reads as power-sum-reads
 
 power-sum-requires : tie.Need-power-sum-requires
 power-sum-requires c κs = search needs

@@ -2,13 +2,13 @@ use mathlib.Core.Path.{_∙_}
 use native.Mathlib.Omega.{arith}
 use Rattle.code.specs.Edition.{raised}
 use Rattle.byte_edition.specs.Edition.{byteEdition}
-use Rattle.check_rows.specs.PaddedLaws.{padded-group}
+use Rattle.byte_edition.specs.PaddedLaws.{padded-group}
 use borrow.Author.Needs.{needs}
 use Rattle.fill.proofs.equations.Statement.{statement}
 use Rattle.fill.proofs.equations.Tie as tie
 use Rattle.fill.proofs.equations.Reads as reads
 use Rattle.fill.proofs.equations.Lts as lts
-use Rattle.check_rows.proofs.padded.Reads as padded-reads
+use Rattle.byte_edition.proofs.padded.Reads as padded-reads
 use Rattle.fill.proofs.equations_of.Reads as equations-of-reads
 
 sixteen-or-few-requires : tie.Need-sixteen-or-few-requires

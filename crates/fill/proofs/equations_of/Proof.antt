@@ -4,14 +4,15 @@ use Prim.Native.Nat.{ℕ, _≤_, _<_, _-_}
 use native.Mathlib.Omega.{arith}
 use lib.ListN.{length, length-set}
 use borrow.Author.Needs.{needs}
-use Rattle.solve.specs.Elimination.{row}
-use Rattle.fill.specs.EquationsLaws.{Equation}
-use Rattle.fill.proofs.Laws.{each-set}
+use Rattle.byte_edition.specs.Edition.{byteEdition}
+use Rattle.code_engine.specs.Elimination.{row}
+use Rattle.code_engine.specs.ListsLaws.{each-set}
+use Rattle.code_engine.specs.EquationsLaws.{EquationIn}
 use Rattle.fill.proofs.equations_of.Statement.{statement}
 use Rattle.fill.proofs.equations_of.Tie as tie
 
 abbrev Inv-loop : tie.InvT-loop
-Inv-loop part at t rows₀ e₀ rows e = (e ≤ t) × (length rows ≡ 4) × ((k : ℕ) → k < e → Equation part at t k (row rows k))
+Inv-loop part at t rows₀ e₀ rows e = (e ≤ t) × (length rows ≡ 4) × ((k : ℕ) → k < e → EquationIn byteEdition part at t k (row rows k))
 
 abbrev μ-loop : tie.MeasureT-loop
 μ-loop part at t rows₀ e₀ rows e = t - e
@@ -40,7 +41,7 @@ loop-again c =
     let a = s .before .before .args in (
       omega arith,
       simp length-set (omega arith),
-      each-set (Equation (a .part .now) (a .at) (a .t)) (s .loop .rows) (s .loop .e) (c .equation .result) [] (omega arith) (s .loop .inv .2)
+      each-set (EquationIn byteEdition (a .part .now) (a .at) (a .t)) (s .loop .rows) (s .loop .e) (c .equation .result) [] (omega arith) (s .loop .inv .2)
           (c .equation .ensures),
     )
 

@@ -5,8 +5,8 @@ use lib.ListN.{length}
 use mir.Syntax.{w8}
 use Rattle.byte_edition.specs.Edition.{byteEdition}
 use Rattle.byte_edition.specs.EditionLaws.{bytes-sound}
-use Rattle.solve.proofs.Arrays.{array-system}
-use Rattle.fill.proofs.Laws.{zeros-at, unchanged, no-erasures, filled}
+use Rattle.code_engine.proofs.Arrays.{array-system}
+use Rattle.code_engine.specs.FilledLaws.{unchanged, no-erasures, zeros-at, filled}
 use borrow.Author.Needs.{needs}
 use Rattle.fill.proofs.fill.Statement.{statement}
 use Rattle.fill.proofs.fill.Tie as tie
@@ -58,7 +58,8 @@ returns-5 c =
     let w : length (a .marks .now) ≡ length (a .part .now) = omega arith in
     filled (a .marks .now) (a .part .now) (z .place .last .0) (p .place2 .last .0) (f .find .result .at) _ (x .eliminate .result) t
     (rw w at (f .find .ensures .few (omega arith))) (z .place .ensures) (p .place2 .ensures) byteEdition bytes-sound (λ i. zeros-at 4 16 i 4) (omega arith)
-    (q .equations .result) (array-system w8 16 4 (q .equations .result) _ (q .equations .ok) t (omega arith)) (q .equations .ensures) (rw m at (x .eliminate .ensures))
+    (q .equations .result) (array-system w8 16 4 (q .equations .result) _ (q .equations .ok) t (omega arith)) (q .equations .ensures)
+    (rw m at (x .eliminate .ensures))
     w (omega arith) (rw w at (f .find .ensures .all))
 
 pub fill-spec : {M : Type 1} → statement M

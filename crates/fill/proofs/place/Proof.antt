@@ -4,8 +4,8 @@ use native.Mathlib.Numerals.{add-one}
 use native.Mathlib.Omega.{arith}
 use lib.ListN.{length, length-set}
 use borrow.Author.Needs.{needs}
-use Rattle.fill.specs.Placed.{placed}
-use Rattle.fill.specs.PlacedLaws.{placed-none, placed-suc}
+use Rattle.code_engine.specs.Placed.{placed}
+use Rattle.code_engine.specs.PlacedLaws.{placed-none, placed-suc}
 use Rattle.fill.proofs.place.Statement.{statement}
 use Rattle.fill.proofs.place.Tie as tie
 

@@ -1,6 +1,6 @@
 use mathlib.Core.Path.{sym, _∙_}
 use native.Mathlib.Omega.{arith}
-use Rattle.shape.specs.Laws.{places-most}
+use Rattle.code.specs.LimitsLaws.{places-most}
 use Rattle.gather_record.specs.RecordLaws.{open-parts}
 use Rattle.gather_finish.specs.FinishLaws.{finish-record, finish-length, finish-fit}
 use borrow.Author.Needs.{needs}

@@ -3,17 +3,18 @@ use Prim.Native.Nat.{ℕ, _≤_}
 use native.Mathlib.Omega.{arith}
 use lib.ListN.{length, take, length-append}
 use lib.Seq.{length-take-le, take-at}
-use Rattle.shape.specs.declared.Mending.{Mending}
-use Rattle.shape.specs.Answers.{mendingAt}
-use Rattle.shape.specs.Refusals.{unlessRefused}
-use Rattle.shape.specs.RefusalsLaws.{unless-refused}
-use Rattle.shape.specs.Laws.{places-most}
+use Rattle.answers.specs.declared.Mending.{Mending}
+use Rattle.answers.specs.Answers.{mendingAt}
+use Rattle.code.specs.Refusals.{unlessRefused}
+use Rattle.code.specs.RefusalsLaws.{unless-refused}
 use Rattle.code.specs.Outcome.{Outcome}
-use Rattle.recover.specs.Recover.{recoverOf}
+use Rattle.code.specs.LimitsLaws.{places-most}
+use Rattle.byte_edition.specs.Edition.{byteEdition}
+use Rattle.code_services.specs.Recover.{recoverIn}
 use Rattle.gather_record.specs.declared.Gather.{Gather}
 use Rattle.gather_record.specs.Record.{Whole}
 use Rattle.gather_record.proofs.Laws.{whole}
-use Rattle.gather_finish.specs.Finish.{recoveryOf}
+use Rattle.gather_finish.specs.Finish.{gatherRecovery}
 use Rattle.gather_finish.specs.FinishLaws.{Finishable, finish-parts, mending-is, mending-some}
 use borrow.Author.Needs.{needs}
 use Rattle.gather_finish.proofs.recover_copy.Statement.{statement}
@@ -30,15 +31,15 @@ room s = let k = places-most (ready s .opened .good) in omega (arith, ready s .f
 
 -- the recovery of the first n bytes and marks
 abbrev first : Gather → ℕ → Outcome
-first g n = recoverOf (g .m) (g .w) (g .c) (take n (g .bytes)) (take n (g .marks))
+first g n = recoverIn byteEdition (g .m) (g .w) (g .c) (take n (g .bytes)) (take n (g .marks))
 
 -- it is called for over the word's own length
-is-asked : (s : tie.Start) → first (s .args .gather) (length (s .args .word .now)) ≡ recoveryOf (s .args .gather)
+is-asked : (s : tie.Start) → first (s .args .gather) (length (s .args .word .now)) ≡ gatherRecovery (s .args .gather)
 is-asked s = ap (first (s .args .gather)) (ready s .fits)
 
 -- what the recovery answers, for a record
 abbrev Answered : Gather → Mending → Type 0
-Answered g a = a ≡ mendingAt ((recoveryOf g) .number) ((recoveryOf g) .group)
+Answered g a = a ≡ mendingAt ((gatherRecovery g) .number) ((gatherRecovery g) .group)
 
 cast-m : tie.Need-cast-m
 cast-m c = search needs
@@ -81,8 +82,8 @@ answer : (k : tie.After-recover) → Answered (start k .args .gather) (k .recove
 answer k = k .recover .ensures .0 ∙ ap (λ o. mendingAt (o .number) (o .group)) (is-asked (start k))
 
 -- a refusal's number is not 0, and the word stays
-stays : (s : tie.Start) → ((recoveryOf (s .args .gather)) .number ≡ 0 → ⊥)
-    → s .args .word .now ≡ unlessRefused ((recoveryOf (s .args .gather)) .number) ((recoveryOf (s .args .gather)) .word) (s .args .word .now)
+stays : (s : tie.Start) → ((gatherRecovery (s .args .gather)) .number ≡ 0 → ⊥)
+    → s .args .word .now ≡ unlessRefused ((gatherRecovery (s .args .gather)) .number) ((gatherRecovery (s .args .gather)) .word) (s .args .word .now)
 stays s some = sym (unless-refused _ _ _ some)
 
 enum-told : tie.Need-enum-told
@@ -111,7 +112,7 @@ returns c =
     let f = c .before .before .before .before in
     let k = f .before .before .before .before .before in
     let s = start k in
-    let o = recoveryOf (s .args .gather) in
+    let o = gatherRecovery (s .args .gather) in
     let q : Mending.Done ≡ mendingAt (o .number) (o .group) = sym (f .before .enum-told .given .1) ∙ answer k in
     let z : o .number ≡ 0 = mending-is (o .number) (o .group) q in (
       q,
@@ -126,7 +127,7 @@ returns-2 : tie.Need-returns-2
 returns-2 c =
     let k = c .before .before .before .before .before in
     let s = start k in
-    let o = recoveryOf (s .args .gather) in
+    let o = gatherRecovery (s .args .gather) in
     let r = c .before .group .given .0 .0 in
     let q : Mending.Contradictory r ≡ mendingAt (o .number) (o .group) = sym (c .before .group .given .1) ∙ answer k in
     (q, stays s (λ z. let e = mending-is (o .number) (o .group) q in omega arith))
@@ -135,7 +136,7 @@ returns-3 : tie.Need-returns-3
 returns-3 c =
     let k = c .before .before .before .before .before in
     let s = start k in
-    let o = recoveryOf (s .args .gather) in
+    let o = gatherRecovery (s .args .gather) in
     let r = c .before .r .given .0 .0 in
     let q : Mending.Refused r ≡ mendingAt (o .number) (o .group) = sym (c .before .r .given .1) ∙ answer k in
     (q, stays s (mending-some (o .number) (o .group) r q))

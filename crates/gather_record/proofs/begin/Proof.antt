@@ -1,14 +1,15 @@
 use mathlib.Core.Path.{sym, _∙_}
 use native.Mathlib.Omega.{arith}
-use Rattle.shape.specs.Shapes.{Good}
-use Rattle.shape.specs.Laws.{good-of-refusal}
+use Rattle.shape.specs.Shapes.{byteLimits}
+use Rattle.code.specs.Limits.{GoodIn}
+use Rattle.code.specs.LimitsLaws.{good-of-refusal}
 use Rattle.gather_record.specs.Record.{beginOf, begun}
 use Rattle.gather_record.specs.RecordLaws.{gives-refused, gives-done}
 use borrow.Author.Needs.{needs}
 use Rattle.gather_record.proofs.begin.Statement.{statement}
 use Rattle.gather_record.proofs.begin.Tie as tie
 
-good : (c : tie.Else1) → Good (c .before .before .args .m) (c .before .before .args .w) (c .before .before .args .c)
+good : (c : tie.Else1) → GoodIn byteLimits (c .before .before .args .m) (c .before .before .args .w) (c .before .before .args .c)
 good c = good-of-refusal _ _ _ (sym (c .before .shape-refusal .ensures) ∙ c .if1 .left)
 
 shape-refusal-requires : tie.Need-shape-refusal-requires

@@ -2,9 +2,10 @@ use mathlib.Core.Path.{_≡_, sym, _∙_}
 use native.Mathlib.Omega.{arith}
 use borrow.Author.Tests.{lt-ltb, le-ltb, eq-eqb, ne-eqb}
 use lib.Dec.{eqb, ltb}
-use Rattle.shape.specs.Shapes.{Good}
-use Rattle.shape.specs.Laws.{good-of-refusal, places-most}
-use Rattle.shape.specs.Refusals.{refuse, _orElse_}
+use Rattle.code.specs.Refusals.{refuse, _orElse_}
+use Rattle.shape.specs.Shapes.{byteLimits}
+use Rattle.code.specs.Limits.{GoodIn}
+use Rattle.code.specs.LimitsLaws.{good-of-refusal, places-most}
 use Rattle.gather_record.specs.declared.Gather.{Gather}
 use Rattle.gather_record.specs.Record.{Whole, gatherRefusal}
 use Rattle.gather_record.specs.RecordLaws.{shape-bad, marks-size, marks-bad, record-good}
@@ -16,7 +17,7 @@ use Rattle.gather_record.proofs.refusal.Tie as tie
 abbrev lent : tie.Else1 → Gather
 lent c = c .before .before .before .before .before .args .gather
 
-good : (c : tie.Else1) → Good (lent c .m) (lent c .w) (lent c .c)
+good : (c : tie.Else1) → GoodIn byteLimits (lent c .m) (lent c .w) (lent c .c)
 good c = good-of-refusal _ _ _ (sym (c .before .shape-refusal .ensures) ∙ c .if1 .left)
 
 long : (c : tie.Else1) → Whole (lent c)

@@ -1,5 +1,5 @@
 use mathlib.Core.Path.{sym}
-use Rattle.shape.specs.AnswersLaws.{answer-refused}
+use Rattle.answers.specs.AnswersLaws.{answer-refused}
 use borrow.Author.Needs.{needs}
 use Rattle.gather_take.proofs.answer_of.Statement.{statement}
 use Rattle.gather_take.proofs.answer_of.Tie as tie

@@ -2,10 +2,10 @@ use mathlib.Core.Path.{_≡_, refl, sym, ap, _∙_, subst}
 use Prim.Native.Nat.{_+_, _≤_}
 use native.Mathlib.Omega.{arith}
 use lib.ListN.{length, replicate, length-replicate}
-use Rattle.shape.specs.declared.Answer.{Answer}
-use Rattle.shape.specs.Answers.{answerAt}
-use Rattle.shape.specs.AnswersLaws.{answer-refused}
-use Rattle.shape.specs.Laws.{places-most}
+use Rattle.answers.specs.declared.Answer.{Answer}
+use Rattle.answers.specs.Answers.{answerAt}
+use Rattle.answers.specs.AnswersLaws.{answer-refused}
+use Rattle.code.specs.LimitsLaws.{places-most}
 use Rattle.gather_record.specs.Record.{Whole, GatherGives}
 use Rattle.gather_record.specs.RecordLaws.{gives-refused}
 use Rattle.gather_record.proofs.Laws.{whole}

@@ -3,8 +3,8 @@ use mathlib.Core.Bool.{true, false}
 use Prim.Native.Nat.{_+_, _≤_}
 use native.Mathlib.Omega.{arith}
 use lib.ListN.{length}
-use Rattle.shape.specs.Laws.{places-most}
-use Rattle.gather_record.specs.Record.{placesOf, gatherRefusal}
+use Rattle.code.specs.LimitsLaws.{places-most}
+use Rattle.gather_record.specs.Record.{gatherPlaces, gatherRefusal}
 use Rattle.gather_record.specs.RecordLaws.{Open, open-parts}
 use Rattle.gather_record.proofs.Laws.{whole}
 use Rattle.gather_take.specs.Take.{someCame}
@@ -22,7 +22,7 @@ opened c = open-parts _ (unrefused c)
 abbrev start : tie.Else4 → tie.Start
 start c = c .before .before .before .before .before .before .before
 
-inside : (c : tie.Else4) → start c .args .first + start c .args .count ≤ placesOf (start c .args .gather)
+inside : (c : tie.Else4) → start c .args .first + start c .args .count ≤ gatherPlaces (start c .args .gather)
 inside c = omega arith
 
 room : (c : tie.Else4) → start c .args .first + start c .args .count ≤ length (start c .args .gather .marks)

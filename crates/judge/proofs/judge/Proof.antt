@@ -5,22 +5,23 @@ use native.Mathlib.Omega.{arith}
 use borrow.Author.Needs.{needs}
 use borrow.Author.Tests.{lt-ltb, le-ltb}
 use lib.Dec.{ltb}
-use Rattle.shape.specs.Refusals.{refuse}
+use Rattle.code.specs.Refusals.{refuse}
 use Rattle.shape.specs.Shapes.{byteLimits}
 use Rattle.code.specs.Marks.{excess}
-use Rattle.marks.specs.CountsLaws.{groups-whole}
-use Rattle.marks.specs.Refusal.{marksRefusal}
-use Rattle.marks.specs.RefusalLaws.{good-of-marks}
-use Rattle.shape.specs.RefusalsLaws.{orElse-first}
-use Rattle.judge.specs.Judgement.{judgedNumberOf, judgedNumberIn, judgedAt, judgedIn, judgedOf, judgedNumber}
-use Rattle.judge.specs.Laws.{judged-refused, judged-number, number-of}
-use Rattle.judge.specs.declared.Judged.{Judged}
+use Rattle.code_engine.specs.GroupsLaws.{groups-whole}
+use Rattle.code_services.specs.MarksLaws.{good-of-marks}
+use Rattle.code.specs.RefusalsLaws.{orElse-first}
+use Rattle.code_services.specs.Marks.{marksRefusalIn}
+use Rattle.answers.specs.Figures.{judgedAt, judgedNumber}
+use Rattle.code_services.specs.Judge.{judgedNumberIn, judgedIn}
+use Rattle.code_services.specs.JudgeLaws.{judged-refused, judged-number, number-of}
+use Rattle.answers.specs.declared.Judged.{Judged}
 use Rattle.judge.proofs.judge.Statement.{statement}
 use Rattle.judge.proofs.judge.Tie as tie
 
 -- the number follows from the answer
-whole : (m w c : ℕ) (marks : List ℕ) (r : Judged) → r ≡ judgedOf m w c marks
-    → (r ≡ judgedOf m w c marks) × (judgedNumber r ≡ judgedNumberOf m w c marks)
+whole : (m w c : ℕ) (marks : List ℕ) (r : Judged) → r ≡ judgedIn byteLimits m w c marks
+    → (r ≡ judgedIn byteLimits m w c marks) × (judgedNumber r ≡ judgedNumberIn byteLimits m w c marks)
 whole m w c marks r e = (e, ap judgedNumber e ∙ judged-number byteLimits m w c marks)
 
 marks-refusal-requires : tie.Need-marks-refusal-requires
@@ -39,13 +40,13 @@ pattern-excess-requires c κs = search needs
 
 answered : (c : tie.After-pattern-excess)
     → judgedAt (refuse 8 (ltb 2 (c .pattern-excess .result)))
-    ≡ judgedOf (c .before .before .before .before .args .m) (c .before .before .before .before .args .w) (c .before .before .before .before .args .c)
+    ≡ judgedIn byteLimits (c .before .before .before .before .args .m) (c .before .before .before .before .args .w) (c .before .before .before .before .args .c)
     (c .before .before .before .before .args .marks .now)
 unfolding judgedIn
 answered c =
     let t = c .before in
     let a = t .before .before .before .args in
-    let e : marksRefusal (a .m) (a .w) (a .c) (a .marks .now) ≡ 0 = sym (t .before .marks-refusal .ensures) ∙ t .if1 .left in
+    let e : marksRefusalIn byteLimits (a .m) (a .w) (a .c) (a .marks .now) ≡ 0 = sym (t .before .marks-refusal .ensures) ∙ t .if1 .left in
     let g = good-of-marks (a .m) (a .w) (a .c) (a .marks .now) e in
     let pos : 0 < a .w = (let h = g .good .wide in omega arith) in
     let x = c .pattern-excess .ensures ∙ ap (λ n. excess n (a .w) (a .c) (a .marks .now)) (groups-whole (a .m) (a .w) pos (g .size)) in

@@ -5,7 +5,7 @@ use Prim.Native.Nat.{ℕ, _-_, _<_, _≤_}
 use native.Mathlib.Omega.{arith}
 use borrow.Author.Count.{below-none, below-more}
 use lib.ListN.{length, getD}
-use Rattle.marks.specs.RefusalLaws.{marks-each, other-mark}
+use Rattle.code_services.specs.MarksLaws.{marks-each, other-mark}
 use Rattle.marks.proofs.are_marks.Statement.{statement}
 use Rattle.marks.proofs.are_marks.Tie as tie
 

@@ -3,9 +3,9 @@ use Prim.Native.Nat.{_<_}
 use native.Mathlib.Omega.{arith}
 use borrow.Author.Needs.{needs}
 use lib.ListN.{length}
-use Rattle.shape.specs.Laws.{good-of-word, word-of-good}
 use Rattle.code.specs.Marks.{excess}
-use Rattle.marks.specs.CountsLaws.{groups-whole}
+use Rattle.code.specs.LimitsLaws.{good-of-word, word-of-good}
+use Rattle.code_engine.specs.GroupsLaws.{groups-whole}
 use Rattle.marks.proofs.excess_of.Statement.{statement}
 use Rattle.marks.proofs.excess_of.Tie as tie
 

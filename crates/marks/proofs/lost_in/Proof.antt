@@ -8,7 +8,7 @@ use lib.ListN.{length, getD}
 use Rattle.counting.specs.Count.{countBelow}
 use Rattle.counting.specs.CountLaws.{total-none}
 use Rattle.code.specs.Marks.{lost}
-use Rattle.marks.specs.CountsLaws.{count-turn, lost-whole}
+use Rattle.code_engine.specs.GroupsLaws.{count-turn, lost-whole}
 use Rattle.marks.proofs.lost_in.Statement.{statement}
 use Rattle.marks.proofs.lost_in.Tie as tie
 

@@ -2,10 +2,11 @@ use mathlib.Core.Path.{_≡_, sym, ap, _∙_}
 use mathlib.Core.Bool.{not}
 use borrow.Author.Needs.{needs}
 use lib.ListN.{length}
-use Rattle.shape.specs.Refusals.{refuse}
-use Rattle.shape.specs.Shapes.{wordRefusal}
-use Rattle.marks.specs.Refusal.{marksRefusal, marksRefusalIn}
-use Rattle.shape.specs.RefusalsLaws.{orElse-first}
+use Rattle.code.specs.Refusals.{refuse}
+use Rattle.shape.specs.Shapes.{byteLimits}
+use Rattle.code.specs.Limits.{wordRefusalIn}
+use Rattle.code_services.specs.Marks.{marksRefusalIn}
+use Rattle.code.specs.RefusalsLaws.{orElse-first}
 use Rattle.marks.proofs.marks_refusal.Statement.{statement}
 use Rattle.marks.proofs.marks_refusal.Tie as tie
 
@@ -23,13 +24,14 @@ are-marks-requires c κs = search needs
 
 answered : (c : tie.After-are-marks)
     → refuse 6 (not (c .are-marks .result))
-    ≡ marksRefusal (c .before .before .before .before .args .m) (c .before .before .before .before .args .w) (c .before .before .before .before .args .c)
+    ≡ marksRefusalIn byteLimits (c .before .before .before .before .args .m) (c .before .before .before .before .args .w)
+    (c .before .before .before .before .args .c)
     (c .before .before .before .before .args .marks .now)
 unfolding marksRefusalIn
 answered c =
     let t = c .before in
     let a = t .before .before .before .args in
-    let e : wordRefusal (a .m) (a .w) (a .c) (length (a .marks .now)) ≡ 0 = sym (t .before .word-refusal .ensures) ∙ t .if1 .left in
+    let e : wordRefusalIn byteLimits (a .m) (a .w) (a .c) (length (a .marks .now)) ≡ 0 = sym (t .before .word-refusal .ensures) ∙ t .if1 .left in
     rw e (ap (λ b. refuse 6 (not b)) (c .are-marks .ensures))
 
 returns-2 : tie.Need-returns-2

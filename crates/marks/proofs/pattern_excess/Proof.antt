@@ -5,7 +5,7 @@ use native.Mathlib.Omega.{arith}
 use borrow.Author.Needs.{needs}
 use lib.ListN.{length, take, drop, length-take}
 use Rattle.code.specs.Marks.{lostIn, excess}
-use Rattle.marks.specs.CountsLaws.{excess-none, excess-turn, group-next, groups-passed, lost-most}
+use Rattle.code_engine.specs.GroupsLaws.{excess-none, excess-turn, group-next, groups-passed, lost-most}
 use Rattle.marks.proofs.pattern_excess.Statement.{statement}
 use Rattle.marks.proofs.pattern_excess.Tie as tie
 

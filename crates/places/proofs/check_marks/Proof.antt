@@ -2,11 +2,11 @@ use mathlib.Core.Path.{_≡_, refl, sym, _∙_}
 use Prim.Native.Nat.{_<_}
 use native.Mathlib.Omega.{arith}
 use lib.ListN.{length}
-use Rattle.shape.specs.RefusalsLaws.{unless-refused}
+use Rattle.code.specs.RefusalsLaws.{unless-refused}
 use Rattle.shape.specs.Shapes.{byteLimits}
-use Rattle.shape.specs.AnswersLaws.{answer-refused}
-use Rattle.places.specs.Places.{checkMarksRefusal, checkMarksRefusalIn, checkMarksAnswerIn, checkMarksBufferIn}
-use Rattle.places.specs.Laws.{checks-whole, good-of-check-marks}
+use Rattle.answers.specs.AnswersLaws.{answer-refused}
+use Rattle.code_services.specs.Places.{checkMarksRefusalIn, checkMarksAnswerIn, checkMarksBufferIn}
+use Rattle.code_services.specs.PlacesLaws.{checks-whole, good-of-check-marks}
 use borrow.Author.Needs.{needs}
 use Rattle.places.proofs.check_marks.Statement.{statement}
 use Rattle.places.proofs.check_marks.Tie as tie
@@ -33,7 +33,7 @@ returns-2 : tie.Need-returns-2
 unfolding checkMarksAnswerIn checkMarksBufferIn
 returns-2 c =
     let a = c .before .before .before .before .before .before .before .args in
-    let z : checkMarksRefusal (a .m) (a .w) (a .c) (length (a .marks .now)) ≡ 0 = cc in
+    let z : checkMarksRefusalIn byteLimits (a .m) (a .w) (a .c) (length (a .marks .now)) ≡ 0 = cc in
     let G = good-of-check-marks {L = byteLimits} (a .m) (a .w) (a .c) (length (a .marks .now)) z in
     let pos : 0 < a .w = (let h = G .0 .wide in omega arith) in
     rw z (refl, (refl, c .before .before .mark-groups .ensures ∙ checks-whole (a .m) (a .w) (a .c) (a .marks .now) pos (G .1)))

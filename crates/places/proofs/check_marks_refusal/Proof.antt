@@ -1,5 +1,5 @@
 use borrow.Author.Needs.{needs}
-use Rattle.places.specs.Places.{checkMarksRefusalIn}
+use Rattle.code_services.specs.Places.{checkMarksRefusalIn}
 use Rattle.places.proofs.check_marks_refusal.Statement.{statement}
 use Rattle.places.proofs.check_marks_refusal.Tie as tie
 

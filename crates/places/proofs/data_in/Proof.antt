@@ -5,7 +5,7 @@ use native.Mathlib.Omega.{arith}
 use borrow.Author.Needs.{needs}
 use borrow.Author.Tests.{eq-eqb, ne-eqb}
 use lib.Dec.{eqb}
-use Rattle.places.specs.Runs.{dataOf}
+use Rattle.code_services.specs.PlacesRuns.{dataOf}
 use Rattle.places.proofs.data_in.Statement.{statement}
 use Rattle.places.proofs.data_in.Tie as tie
 

@@ -1,6 +1,6 @@
 use native.Mathlib.Omega.{arith}
 use borrow.Author.Needs.{needs}
-use Rattle.places.specs.Runs.{dataOf}
+use Rattle.code_services.specs.PlacesRuns.{dataOf}
 use Rattle.places.proofs.data_of.Statement.{statement}
 use Rattle.places.proofs.data_of.Tie as tie
 

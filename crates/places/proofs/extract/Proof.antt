@@ -1,10 +1,11 @@
 use mathlib.Core.Path.{_≡_, refl, sym}
 use lib.ListN.{length}
-use Rattle.shape.specs.RefusalsLaws.{unless-refused}
-use Rattle.shape.specs.Shapes.{byteLimits, bufferRefusal}
-use Rattle.shape.specs.Laws.{good-of-buffers}
-use Rattle.places.specs.Places.{extractedOf, extractedIn, extractedData, extractedDataIn}
-use Rattle.shape.specs.AnswersLaws.{answer-refused}
+use Rattle.code.specs.RefusalsLaws.{unless-refused}
+use Rattle.shape.specs.Shapes.{byteLimits}
+use Rattle.code.specs.Limits.{bufferRefusalIn}
+use Rattle.code.specs.LimitsLaws.{good-of-buffers}
+use Rattle.code_services.specs.Places.{extractedIn, extractedDataIn}
+use Rattle.answers.specs.AnswersLaws.{answer-refused}
 use borrow.Author.Needs.{needs}
 use Rattle.places.proofs.extract.Statement.{statement}
 use Rattle.places.proofs.extract.Tie as tie
@@ -34,7 +35,7 @@ returns-2 : tie.Need-returns-2
 unfolding extractedIn extractedDataIn
 returns-2 c =
     let a = c .before .before .before .before .before .before .before .before .args in
-    let z : bufferRefusal (a .m) (a .w) (a .c) (length (a .word .now)) (length (a .bytes .now)) ≡ 0 = cc in
+    let z : bufferRefusalIn byteLimits (a .m) (a .w) (a .c) (length (a .word .now)) (length (a .bytes .now)) ≡ 0 = cc in
     rw z (refl, (refl, c .before .before .copy-data .ensures))
 
 pub extract-spec : {M : Type 1} → statement M

@@ -2,11 +2,12 @@ use mathlib.Core.Path.{_≡_, sym, _∙_}
 use Prim.Native.Nat.{_<_}
 use native.Mathlib.Omega.{arith}
 use lib.ListN.{length}
-use Rattle.shape.specs.RefusalsLaws.{unless-refused}
-use Rattle.shape.specs.Shapes.{byteLimits, wordRefusal}
-use Rattle.shape.specs.Laws.{good-of-word}
-use Rattle.places.specs.Places.{markedChecks, markedChecksIn}
-use Rattle.places.specs.Laws.{checks-whole}
+use Rattle.code.specs.RefusalsLaws.{unless-refused}
+use Rattle.shape.specs.Shapes.{byteLimits}
+use Rattle.code.specs.Limits.{wordRefusalIn}
+use Rattle.code.specs.LimitsLaws.{good-of-word}
+use Rattle.code_services.specs.Places.{markedChecksIn}
+use Rattle.code_services.specs.PlacesLaws.{checks-whole}
 use borrow.Author.Needs.{needs}
 use Rattle.places.proofs.mark_checks.Statement.{statement}
 use Rattle.places.proofs.mark_checks.Tie as tie
@@ -31,7 +32,7 @@ returns-2 : tie.Need-returns-2
 unfolding markedChecksIn
 returns-2 c =
     let a = c .before .before .before .before .before .before .before .args in
-    let z : wordRefusal (a .m) (a .w) (a .c) (length (a .marks .now)) ≡ 0 = cc in
+    let z : wordRefusalIn byteLimits (a .m) (a .w) (a .c) (length (a .marks .now)) ≡ 0 = cc in
     let G = good-of-word {L = byteLimits} (a .m) (a .w) (a .c) (length (a .marks .now)) z in
     let pos : 0 < a .w = (let h = G .0 .wide in omega arith) in
     rw z (c .before .before .mark-groups .ensures ∙ checks-whole (a .m) (a .w) (a .c) (a .marks .now) pos (G .1))

@@ -6,10 +6,10 @@ use borrow.Author.Needs.{needs}
 use lib.Dec.{ltb}
 use lib.ListN.{length, take, drop, replicate, length-drop, take-append-drop}
 use lib.Seq.{length-take-le}
-use Rattle.marks.specs.CountsLaws.{group-next, groups-passed}
-use Rattle.places.specs.Places.{isCheck, marksFrom, checkMarks}
-use Rattle.places.specs.Runs.{dataOf, withChecks}
-use Rattle.places.specs.Laws.{no-groups}
+use Rattle.code_engine.specs.GroupsLaws.{group-next, groups-passed}
+use Rattle.code_services.specs.Places.{isCheck, marksFrom, checkMarks}
+use Rattle.code_services.specs.PlacesRuns.{dataOf, withChecks}
+use Rattle.code_services.specs.PlacesLaws.{no-groups}
 use Rattle.places.proofs.Runs.{Runs, runs-of, marks-turn, marks-first, marks-last, stays, group-below, last-of}
 use Rattle.places.proofs.mark_groups.Statement.{statement}
 use Rattle.places.proofs.mark_groups.Tie as tie

@@ -1,9 +1,10 @@
 use mathlib.Core.Path.{_≡_, sym}
 use lib.ListN.{length}
-use Rattle.shape.specs.RefusalsLaws.{unless-refused}
-use Rattle.shape.specs.Shapes.{byteLimits, bufferRefusal}
-use Rattle.shape.specs.Laws.{good-of-buffers}
-use Rattle.places.specs.Places.{placedWord, placedWordIn}
+use Rattle.code.specs.RefusalsLaws.{unless-refused}
+use Rattle.shape.specs.Shapes.{byteLimits}
+use Rattle.code.specs.Limits.{bufferRefusalIn}
+use Rattle.code.specs.LimitsLaws.{good-of-buffers}
+use Rattle.code_services.specs.Places.{placedWordIn}
 use borrow.Author.Needs.{needs}
 use Rattle.places.proofs.place.Statement.{statement}
 use Rattle.places.proofs.place.Tie as tie
@@ -31,7 +32,7 @@ returns-2 : tie.Need-returns-2
 unfolding placedWordIn
 returns-2 c =
     let a = c .before .before .before .before .before .before .before .before .args in
-    let z : bufferRefusal (a .m) (a .w) (a .c) (length (a .word .now)) (length (a .bytes .now)) ≡ 0 = cc in
+    let z : bufferRefusalIn byteLimits (a .m) (a .w) (a .c) (length (a .word .now)) (length (a .bytes .now)) ≡ 0 = cc in
     rw z (c .before .before .spread-data .ensures)
 
 pub place-spec : {M : Type 1} → statement M

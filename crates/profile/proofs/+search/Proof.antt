@@ -7,7 +7,7 @@ use borrow.Author.Tests.{ltb-false}
 use lib.ListN.{length, getD}
 use Rattle.profile.specs.declared.Found.{Found}
 use Rattle.profile.specs.Search.{foundIn, NoneSmaller, foundAt}
-use Rattle.number_sets.specs.SetsLaws.{sets-found}
+use Rattle.counting.specs.SetsLaws.{sets-found}
 use Rattle.profile.specs.SearchLaws.{too-many, none-wanted, some-wanted, taken, passed, smaller-taken, smaller-passed, not-needed}
 use Rattle.profile.specs.SearchLaws.{found-set, shows-first, found-nothing}
 use borrow.Fn.Kinds.{In}

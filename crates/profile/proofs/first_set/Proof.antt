@@ -4,8 +4,8 @@ use Prim.Native.Nat.{_+_, _-_, _≤_}
 use native.Mathlib.Omega.{arith}
 use borrow.Author.Needs.{needs}
 use Rattle.profile.specs.declared.Found.{Found}
-use Rattle.number_sets.specs.Sets.{setsBelow, firstIn}
-use Rattle.number_sets.specs.SetsLaws.{below-zero}
+use Rattle.counting.specs.Sets.{setsBelow, firstIn}
+use Rattle.counting.specs.SetsLaws.{below-zero}
 use Rattle.profile.specs.Search.{within, foundIn, foundAt}
 use Rattle.profile.specs.SearchLaws.{size-smaller, size-found, size-none, found-set, found-nothing}
 use Rattle.profile.proofs.first_set.Statement.{statement}

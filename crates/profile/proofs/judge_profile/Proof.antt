@@ -2,8 +2,9 @@ use mathlib.Core.Path.{_≡_, sym, ap, _∙_}
 use mathlib.Core.List.{List}
 use Prim.Native.Nat.{ℕ}
 use borrow.Author.Needs.{needs}
-use Rattle.marks.specs.Refusal.{Marked, marksRefusal}
-use Rattle.marks.specs.RefusalLaws.{good-of-marks}
+use Rattle.shape.specs.Shapes.{byteLimits}
+use Rattle.code_services.specs.Marks.{marksRefusalIn, MarkedIn}
+use Rattle.code_services.specs.MarksLaws.{good-of-marks}
 use Rattle.profile.specs.declared.Profiled.{Profiled}
 use Rattle.profile.specs.Profile.{shownSet}
 use Rattle.profile.specs.Profiled.{profiledNumberOf, profiledAt, profiledOf, profiledNumber}
@@ -30,12 +31,12 @@ returns c =
     ∙ ap (λ r. profiledAt r (shownSet (a .m) (a .w) (a .c) (a .marks .now))) (c .before .marks-refusal .ensures))
 
 accepted : (c : tie.Else1)
-    → marksRefusal (c .before .before .before .args .m) (c .before .before .before .args .w) (c .before .before .before .args .c)
+    → marksRefusalIn byteLimits (c .before .before .before .args .m) (c .before .before .before .args .w) (c .before .before .before .args .c)
     (c .before .before .before .args .marks .now) ≡ 0
 accepted c = sym (c .before .marks-refusal .ensures) ∙ c .if1 .left
 
 marked : (c : tie.Else1)
-    → Marked (c .before .before .before .args .m) (c .before .before .before .args .w) (c .before .before .before .args .c)
+    → MarkedIn byteLimits (c .before .before .before .args .m) (c .before .before .before .args .w) (c .before .before .before .args .c)
     (c .before .before .before .args .marks .now)
 marked c = good-of-marks _ _ _ _ (accepted c)
 

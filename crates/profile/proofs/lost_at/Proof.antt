@@ -9,7 +9,7 @@ use lib.ListN.{length, getD}
 use Rattle.counting.specs.Count.{countBelow}
 use Rattle.counting.specs.CountLaws.{total-none}
 use Rattle.code.specs.Marks.{lost}
-use Rattle.marks.specs.CountsLaws.{count-turn}
+use Rattle.code_engine.specs.GroupsLaws.{count-turn}
 use Rattle.profile.specs.Search.{lostAt}
 use Rattle.profile.proofs.lost_at.Statement.{statement}
 use Rattle.profile.proofs.lost_at.Tie as tie

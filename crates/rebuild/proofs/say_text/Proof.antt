@@ -10,7 +10,7 @@ use Rattle.rebuild.proofs.say_text.Tie as tie
 use Rattle.rebuild.proofs.say_text.Reads as reads
 use Rattle.rebuild.proofs.say_text.Lts as lts
 use Rattle.release.proofs.number_text.Reads as number-text-reads
-use Rattle.standard_io.proofs.write_some.Reads as write-some-reads
+use Rattle.program_io.proofs.write_some.Reads as write-some-reads
 
 slice-aggregate-number-text : tie.Need-slice-aggregate-number-text
 slice-aggregate-number-text c = search needs

@@ -6,14 +6,15 @@ use native.Mathlib.Omega.{arith}
 use lib.ListN.{length, take, drop, drop-of-length-le}
 use lib.Seq.{take-all, length-take-le}
 use borrow.Author.Tests.{not-true, not-false}
-use Rattle.shape.specs.Shapes.{Good}
+use Rattle.shape.specs.Shapes.{byteLimits}
 use Rattle.code.specs.LentLaws.{end-fits}
 use Rattle.code.specs.Word.{Symbols}
+use Rattle.code.specs.Limits.{GoodIn}
 use Rattle.byte_edition.specs.Edition.{byteEdition}
 use Rattle.byte_edition.specs.EditionLaws.{bytes-sound}
-use Rattle.syndrome.specs.declared.Tested.{Tested}
-use Rattle.recover.specs.Attempt.{Attempt}
-use Rattle.recover.specs.AttemptLaws.{full-satisfied, attempt-done, attempt-failed}
+use Rattle.answers.specs.declared.Tested.{Tested}
+use Rattle.code_services.specs.AttemptLaws.{full-satisfied, attempt-done, attempt-failed}
+use Rattle.code_services.specs.Attempt.{AttemptIn}
 use borrow.Author.Needs.{needs}
 use Rattle.recover.proofs.attempt.Statement.{statement}
 use Rattle.recover.proofs.attempt.Tie as tie
@@ -26,7 +27,7 @@ whole x word y e h =
     rw (h, drop-of-length-le word, take-all, append-nil)
 
 -- a word has room for a group at least
-one-group : {m w c : ℕ} → Good m w c → (word : List ℕ) → length word ≡ m * w → w ≤ length word
+one-group : {m w c : ℕ} → GoodIn byteLimits m w c → (word : List ℕ) → length word ≡ m * w → w ≤ length word
 one-group {m} {w} {c} good word e = omega (arith, end-fits {xs = word} (record { good = good; size = e }) 0 (good .some))
 
 -- a test whose verdict is known
@@ -71,7 +72,7 @@ returns c =
     let C = cand .candidate .ensures .0 (a .pre .0) (a .pre .1 .0) (a .pre .1 .1 .0) (a .pre .1 .1 .1) in
     let t = c .before .before .test .ensures in
     let n = not-true _ (c .if1 .taken) in
-    subst (Attempt (a .args .m) (a .args .w) (a .args .c) (a .args .marks .now) (a .args .word .now) (a .args .word .now))
+    subst (AttemptIn byteEdition (a .args .m) (a .args .w) (a .args .c) (a .args .marks .now) (a .args .word .now) (a .args .word .now))
     (sym (as-tested _ _ _ _ t n))
     (attempt-failed (a .args .m) (a .args .w) (a .args .c) (a .args .marks .now) (a .args .word .now) _ (a .pre .1 .0)
     (λ p. c .before .before .before .before .slice-known3 .given p .fits) C (sym (ap (λ (x : Tested). x .codeword) t) ∙ n))
@@ -114,9 +115,9 @@ returns-2 c =
     let same = sym (slice-aggregate-copy (copied .before .before)) ∙ slice-aggregate-copy-2 (copied .before) in
     let t = e .before .before .test .ensures in
     let y = not-false _ (e .if1 .left) in
-    subst (λ z. Attempt (a .args .m) (a .args .w) (a .args .c) (a .args .marks .now) (a .args .word .now) z (e .before .before .test .result))
+    subst (λ z. AttemptIn byteEdition (a .args .m) (a .args .w) (a .args .c) (a .args .marks .now) (a .args .word .now) z (e .before .before .test .result))
     (sym (whole _ (a .args .word .now) _ (C .size ∙ sym (a .pre .1 .0)) (copied .copy .ensures .0 same)))
-    (subst (Attempt (a .args .m) (a .args .w) (a .args .c) (a .args .marks .now) (a .args .word .now) _)
+    (subst (AttemptIn byteEdition (a .args .m) (a .args .w) (a .args .c) (a .args .marks .now) (a .args .word .now) _)
     (sym (as-tested _ _ _ _ t y))
     (attempt-done (a .args .m) (a .args .w) (a .args .c) (a .args .marks .now) (a .args .word .now) _ (a .pre .1 .0)
     (λ p. known .slice-known3 .given p .fits) C (sym (ap (λ (x : Tested). x .codeword) t) ∙ y)))

@@ -1,15 +1,17 @@
 use mathlib.Core.Path.{_≡_, sym, ap, _∙_}
 use Prim.Native.Nat.{_≤_}
 use native.Mathlib.Omega.{arith}
-use Rattle.shape.specs.Answers.{mendingAt}
-use Rattle.shape.specs.AnswersLaws.{mending-refused}
+use Rattle.recover.specs.NumbersLaws.{recover-most}
+use Rattle.answers.specs.Answers.{mendingAt}
+use Rattle.answers.specs.AnswersLaws.{mending-refused}
+use Rattle.shape.specs.Shapes.{byteLimits}
 use Rattle.code.specs.Marks.{excess}
-use Rattle.recover.specs.Attempt.{Accepted}
-use Rattle.recover.specs.AttemptLaws.{accepted, recover-most, service-refused, service-eight}
+use Rattle.code_services.specs.AttemptLaws.{accepted, service-refused, service-eight}
 use borrow.Author.Needs.{needs}
 use Rattle.recover.proofs.recover.Statement.{statement}
 use Rattle.byte_edition.specs.EditionLaws.{bytes-sound}
 use Rattle.byte_edition.specs.Edition.{byteEdition}
+use Rattle.code_services.specs.Attempt.{AcceptedIn}
 use Rattle.recover.proofs.recover.Tie as tie
 
 refusal-requires : tie.Need-refusal-requires
@@ -34,7 +36,8 @@ returns c =
     )
 
 -- past the first test the shape is good, and word and marks have its length
-fair : (t : tie.Else1) → let a = t .before .before .before .before .before .before .args in Accepted (a .m) (a .w) (a .c) (a .word .now) (a .marks .now)
+fair : (t : tie.Else1) → let a = t .before .before .before .before .before .before .args
+    in AcceptedIn byteLimits (a .m) (a .w) (a .c) (a .word .now) (a .marks .now)
 fair t =
     let r = t .before in
     let a = r .before .before .before .before .before .args in

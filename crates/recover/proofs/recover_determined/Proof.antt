@@ -2,20 +2,21 @@ use mathlib.Core.Path.{_≡_, refl, sym, ap, _∙_}
 use native.Mathlib.Omega.{arith}
 use borrow.Author.Tests.{not-true, not-false}
 use lib.Seq.{length-take-le}
-use Rattle.shape.specs.declared.Mending.{Mending}
-use Rattle.shape.specs.Answers.{mendingAt}
-use Rattle.shape.specs.Laws.{places-most}
+use Rattle.answers.specs.declared.Mending.{Mending}
+use Rattle.answers.specs.Answers.{mendingAt}
+use Rattle.shape.specs.Shapes.{byteLimits}
+use Rattle.code.specs.LimitsLaws.{places-most}
 use Rattle.byte_edition.specs.Edition.{byteEdition}
 use Rattle.code.specs.ContradictionLaws.{contradicting-most}
-use Rattle.recover.specs.Attempt.{Accepted}
-use Rattle.recover.specs.AttemptLaws.{accepted, service-nine, service-done}
+use Rattle.code_services.specs.AttemptLaws.{accepted, service-nine, service-done}
 use borrow.Author.Needs.{needs}
 use Rattle.recover.proofs.recover_determined.Statement.{statement}
 use Rattle.byte_edition.specs.EditionLaws.{bytes-sound}
+use Rattle.code_services.specs.Attempt.{AcceptedIn}
 use Rattle.recover.proofs.recover_determined.Tie as tie
 
 -- the shape is good, and word and marks have its length
-fair : (s : tie.Start) → Accepted (s .args .m) (s .args .w) (s .args .c) (s .args .word .now) (s .args .marks .now)
+fair : (s : tie.Start) → AcceptedIn byteLimits (s .args .m) (s .args .w) (s .args .c) (s .args .word .now) (s .args .marks .now)
 fair s = accepted (s .args .m) (s .args .w) (s .args .c) (s .args .word .now) (s .args .marks .now) 0 (sym (s .pre .0)) refl
 
 array-borrow-prefix-found : tie.Need-array-borrow-prefix-found

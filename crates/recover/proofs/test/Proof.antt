@@ -6,7 +6,7 @@ use lib.Dec.{eqb}
 use Rattle.byte_edition.specs.Edition.{byteEdition}
 use Rattle.code.specs.Word.{isCodeword}
 use Rattle.syndrome.specs.declared.Sums.{Sums}
-use Rattle.syndrome.specs.TestsLaws.{broken-other, across-decide}
+use Rattle.code_engine.specs.TestsLaws.{broken-other, across-decide}
 use Rattle.recover.proofs.test.Statement.{statement}
 use Rattle.recover.proofs.test.Tie as tie
 

@@ -1,6 +1,6 @@
 use borrow.Author.Needs.{needs}
 use Rattle.release.specs.Texts.{texts}
-use Rattle.release.specs.Joined.{joined}
+use Rattle.release.specs.Joined.{joinedTexts}
 use Rattle.release.proofs.lend_part.Statement.{statement}
 use Rattle.release.proofs.lend_part.Tie as tie
 
@@ -20,7 +20,7 @@ same-length : tie.Need-same-length
 same-length c = search needs
 
 returns : tie.Need-returns
-unfolding joined texts
+unfolding joinedTexts texts
 returns c = search needs
 
 pub lend-part-spec : {M : Type 1} → statement M

@@ -4,13 +4,10 @@ use native.Mathlib.Omega.{arith}
 use borrow.Author.Tests.{not-true, not-false}
 use Prim.Native.Nat.{_≤_}
 use lib.ListN.{length}
-use Rattle.byte_edition.specs.Edition.{byteEdition}
 use Rattle.code.specs.Word.{isLocal}
 use Rattle.code.specs.Marks.{lostIn}
-use Rattle.fill.specs.Filled.{Filled}
-use Rattle.repair.specs.Repair.{PartAttempt}
 use Rattle.byte_edition.specs.EditionLaws.{bytes-sound}
-use Rattle.repair.specs.RepairLaws.{filled-tested, part-done, part-failed}
+use Rattle.code_services.specs.RepairLaws.{filled-tested, part-done, part-failed}
 use borrow.Author.Needs.{needs}
 use Rattle.repair.proofs.attempt.Statement.{statement}
 use Rattle.repair.proofs.attempt.Tie as tie

@@ -2,16 +2,17 @@ use mathlib.Core.Path.{_≡_, refl, sym, ap, _∙_}
 use Prim.Native.Nat.{_<_, _≤_, _+_, _*_}
 use native.Mathlib.Omega.{arith}
 use lib.ListN.{length}
-use Rattle.shape.specs.Answers.{mendingAt}
-use Rattle.shape.specs.AnswersLaws.{mending-refused}
+use Rattle.recover.specs.NumbersLaws.{recover-most}
+use Rattle.answers.specs.Answers.{mendingAt}
+use Rattle.answers.specs.AnswersLaws.{mending-refused}
 use Rattle.shape.specs.Shapes.{byteLimits}
-use Rattle.shape.specs.Laws.{places-most}
+use Rattle.code.specs.Lent.{LentIn}
+use Rattle.code.specs.LimitsLaws.{places-most}
 use Rattle.byte_edition.specs.Edition.{byteEdition}
-use Rattle.code.specs.Lent.{Lent}
 use Rattle.code.specs.LentLaws.{end-fits, part-length, part-narrow}
-use Rattle.recover.specs.Attempt.{Accepted}
-use Rattle.recover.specs.AttemptLaws.{accepted, recover-most}
-use Rattle.repair.specs.RepairLaws.{service-refused, refused-early, refused-seven, service-lent}
+use Rattle.code_services.specs.AttemptLaws.{accepted}
+use Rattle.code_services.specs.Attempt.{AcceptedIn}
+use Rattle.code_services.specs.RepairLaws.{service-refused, refused-early, refused-seven, service-lent}
 use borrow.Author.Needs.{needs}
 use Rattle.repair.proofs.repair.Statement.{statement}
 use Rattle.repair.proofs.repair.Tie as tie
@@ -41,7 +42,8 @@ returns c =
     (sym (mending-refused n 0 (c .if1 .taken) k) ∙ ap (λ o. mendingAt (o .number) (o .group)) (sym e), (ap (λ o. o .word) (sym e), ap (λ o. o .marks) (sym e)))
 
 -- past the first test the shape is good, and word and marks have its length
-fair : (t : tie.Else1) → let a = t .before .before .before .before .before .before .args in Accepted (a .m) (a .w) (a .c) (a .word .now) (a .marks .now)
+fair : (t : tie.Else1) → let a = t .before .before .before .before .before .before .args
+    in AcceptedIn byteLimits (a .m) (a .w) (a .c) (a .word .now) (a .marks .now)
 fair t =
     let r = t .before in
     let a = r .before .before .before .before .before .args in
@@ -101,8 +103,8 @@ repair-part-requires c κs =
     let t = c .before .before .before in
     let a = t .before .before .before .before .before .before .args in
     let A = fair t in
-    let L : Lent (a .m) (a .w) (a .c) (a .word .now) = record { good = A .good; size = A .word-size } in
-    let M : Lent (a .m) (a .w) (a .c) (a .marks .now) = record { good = A .good; size = A .marks-size } in
+    let L : LentIn byteLimits (a .m) (a .w) (a .c) (a .word .now) = record { good = A .good; size = A .word-size } in
+    let M : LentIn byteLimits (a .m) (a .w) (a .c) (a .marks .now) = record { good = A .good; size = A .marks-size } in
     let l : a .g < a .m = omega arith in
     let n = part-length {xs = a .word .now} L (a .g) l refl in
     let k = part-length {xs = a .marks .now} M (a .g) l refl in

@@ -3,7 +3,7 @@ use Prim.Native.Nat.{ℕ, _≤_, _<_}
 use borrow.Author.Tests.{not-true, not-false}
 use lib.ListN.{length}
 use lib.Seq.{length-take-le}
-use Rattle.shape.specs.Answers.{mendingAt}
+use Rattle.answers.specs.Answers.{mendingAt}
 use Rattle.byte_edition.specs.Edition.{byteEdition}
 use Rattle.byte_edition.specs.EditionLaws.{bytes-sound}
 use Rattle.code.specs.Marks.{lostIn}

@@ -1,6 +1,7 @@
 use mathlib.Core.Path.{_≡_, sym, _∙_}
-use Rattle.shape.specs.Shapes.{placeCount, dataCount}
-use Rattle.shape.specs.Laws.{shaped, unshaped, buffers-of-good, buffers-word-length, buffers-data-length, buffers-unshaped}
+use Rattle.code.specs.Limits.{placeCount, dataCount}
+use Rattle.code.specs.LimitsLaws.{buffers-of-good, buffers-word-length, buffers-data-length}
+use Rattle.shape.specs.Laws.{shaped, unshaped, buffers-unshaped}
 use borrow.Author.Needs.{needs}
 use Rattle.shape.proofs.buffer_refusal.Statement.{statement}
 use Rattle.shape.proofs.buffer_refusal.Tie as tie

@@ -1,12 +1,12 @@
-use Rattle.shape.specs.Shapes.{saleRefusalIn}
 use borrow.Author.Needs.{needs}
 use Rattle.shape.proofs.sale_refusal.Statement.{statement}
 use Rattle.shape.proofs.sale_refusal.Tie as tie
 use Rattle.shape.proofs.sale_refusal.Reads as reads
 use Rattle.shape.proofs.sale_refusal.Lts as lts
-use Rattle.shape.proofs.or_else.Reads as or-else-reads
-use Rattle.shape.proofs.retired_refusal.Reads as retired-refusal-reads
+use Rattle.answers.proofs.or_else.Reads as or-else-reads
+use Rattle.answers.proofs.retired_refusal.Reads as retired-refusal-reads
 use Rattle.shape.proofs.shape_refusal.Reads as shape-refusal-reads
+use Rattle.code.specs.Limits.{saleRefusalIn}
 
 shape-refusal-requires : tie.Need-shape-refusal-requires
 shape-refusal-requires c κs = search needs

@@ -1,6 +1,7 @@
 use mathlib.Core.Path.{_≡_, sym, _∙_}
-use Rattle.shape.specs.Shapes.{placeCount}
-use Rattle.shape.specs.Laws.{shaped, unshaped, word-of-good, word-length, word-unshaped}
+use Rattle.code.specs.Limits.{placeCount}
+use Rattle.code.specs.LimitsLaws.{word-of-good, word-length}
+use Rattle.shape.specs.Laws.{shaped, unshaped, word-unshaped}
 use borrow.Author.Needs.{needs}
 use Rattle.shape.proofs.word_refusal.Statement.{statement}
 use Rattle.shape.proofs.word_refusal.Tie as tie

@@ -5,7 +5,7 @@ use native.Mathlib.Omega.{arith}
 use lib.ListN.{length, getD, take, drop, length-set}
 use borrow.Author.Needs.{needs}
 use Rattle.binary_field.specs.ProductLaws.{product-comm}
-use Rattle.solve.specs.Elimination.{added}
+use Rattle.code_engine.specs.Elimination.{added}
 use Rattle.solve.proofs.Laws.{added-step, added-end}
 use Rattle.solve.proofs.add.Statement.{statement}
 use Rattle.solve.proofs.add.Tie as tie

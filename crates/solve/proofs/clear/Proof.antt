@@ -3,7 +3,7 @@ use Prim.Native.Nat.{ℕ, _-_, _≤_}
 use native.Mathlib.Omega.{arith}
 use lib.ListN.{length}
 use borrow.Author.Needs.{needs}
-use Rattle.solve.specs.Elimination.{cleared}
+use Rattle.code_engine.specs.Elimination.{cleared}
 use Rattle.solve.specs.Flat.{rowsOf}
 use Rattle.solve.proofs.Laws.{clear-none, clear-pivot, clear-next}
 use Rattle.solve.proofs.clear.Statement.{statement}

@@ -6,7 +6,7 @@ use lib.ListN.{length}
 use Rattle.code.specs.StretchLaws.{stretch-length}
 use Rattle.code.specs.LentLaws.{stretch-lent, with-lent}
 use Rattle.code.specs.Stretch.{stretch}
-use Rattle.solve.specs.Elimination.{row, added}
+use Rattle.code_engine.specs.Elimination.{row, added}
 use Rattle.solve.specs.Flat.{rowsOf}
 use Rattle.solve.specs.FlatLaws.{row-long}
 use Rattle.solve.proofs.Laws.{row-skip, clear-part, clear-zero}

@@ -3,9 +3,9 @@ use Prim.Native.Nat.{min}
 use native.Mathlib.Omega.{arith}
 use lib.Dec.{lit<}
 use mir.Syntax.{w8}
-use Rattle.solve.specs.Elimination.{entry, eliminated}
+use Rattle.code_engine.specs.Elimination.{entry, eliminated}
 use Rattle.solve.specs.FlatLaws.{entry-of}
-use Rattle.solve.proofs.Arrays.{array-system}
+use Rattle.code_engine.proofs.Arrays.{array-system}
 use Rattle.solve.proofs.Laws.{eliminated-one}
 use borrow.Author.Needs.{needs}
 use Rattle.solve.proofs.eliminate.Statement.{statement}

@@ -1,6 +1,6 @@
 use mathlib.Core.Path.{ap, _∙_}
 use native.Mathlib.Omega.{arith}
-use Rattle.solve.specs.Elimination.{cleared}
+use Rattle.code_engine.specs.Elimination.{cleared}
 use Rattle.solve.specs.Flat.{rowsOf}
 use Rattle.solve.proofs.Laws.{column-found, column-none}
 use borrow.Author.Needs.{needs}

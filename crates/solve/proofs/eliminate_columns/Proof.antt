@@ -3,7 +3,7 @@ use Prim.Native.Nat.{ℕ, _-_, _≤_}
 use native.Mathlib.Omega.{arith}
 use lib.ListN.{length}
 use borrow.Author.Needs.{needs}
-use Rattle.solve.specs.Elimination.{eliminatedTo, eliminated}
+use Rattle.code_engine.specs.Elimination.{eliminatedTo, eliminated}
 use Rattle.solve.specs.Flat.{rowsOf}
 use Rattle.solve.proofs.Laws.{eliminate-none, eliminate-next}
 use Rattle.solve.proofs.eliminate_columns.Statement.{statement}

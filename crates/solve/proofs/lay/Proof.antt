@@ -4,11 +4,11 @@ use Prim.Native.Nat.{ℕ, _+_, _*_, _-_, _≤_, _<_}
 use native.Mathlib.Omega.{arith}
 use lib.ListN.{length, getD, length-set}
 use borrow.Author.Needs.{needs}
-use Rattle.solve.specs.Elimination.{row}
+use Rattle.code_engine.specs.Elimination.{row}
 use Rattle.solve.specs.Flat.{rowsOf}
 use Rattle.solve.specs.FlatLaws.{rows-length}
 use mir.Syntax.{w8}
-use Rattle.solve.proofs.Arrays.{array-rows}
+use Rattle.code_engine.proofs.Arrays.{array-rows}
 use Rattle.solve.proofs.Laws.{rows-more, rows-all}
 use Rattle.solve.proofs.lay.Statement.{statement}
 use Rattle.solve.proofs.lay.Tie as tie

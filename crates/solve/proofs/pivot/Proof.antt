@@ -4,7 +4,7 @@ use Prim.Native.Nat.{ℕ, _+_, _*_, _-_, _≤_, _<_}
 use native.Mathlib.Omega.{arith}
 use lib.ListN.{length, getD, length-set}
 use borrow.Author.Needs.{needs}
-use Rattle.solve.specs.Elimination.{pivotFrom, pivot}
+use Rattle.code_engine.specs.Elimination.{pivotFrom, pivot}
 use Rattle.solve.specs.Flat.{rowsOf}
 use Rattle.solve.specs.FlatLaws.{entry-of}
 use Rattle.solve.proofs.Laws.{search-on, search-found, search-end}

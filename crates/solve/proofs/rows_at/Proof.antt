@@ -4,7 +4,7 @@ use Prim.Native.Nat.{ℕ, _+_, _*_, _-_, _≤_, _<_}
 use native.Mathlib.Omega.{arith}
 use lib.ListN.{length, getD, length-set}
 use borrow.Author.Needs.{needs}
-use Rattle.solve.specs.Elimination.{row}
+use Rattle.code_engine.specs.Elimination.{row}
 use Rattle.solve.specs.Flat.{rowsOf}
 use Rattle.solve.specs.FlatLaws.{rows-length}
 use Rattle.solve.proofs.Laws.{rows-more, rows-all}

@@ -5,7 +5,7 @@ use native.Mathlib.Omega.{arith}
 use lib.ListN.{length, getD, take, drop, length-set}
 use borrow.Author.Needs.{needs}
 use Rattle.binary_field.specs.ProductLaws.{product-comm}
-use Rattle.solve.specs.Elimination.{scaled}
+use Rattle.code_engine.specs.Elimination.{scaled}
 use Rattle.solve.proofs.Laws.{scaled-step, scaled-end}
 use Rattle.solve.proofs.scale.Statement.{statement}
 use Rattle.solve.proofs.scale.Tie as tie

@@ -7,7 +7,7 @@ use lib.Dec.{lit<}
 use lib.ListN.{length, getD, take, drop, length-set}
 use borrow.Author.Needs.{needs}
 use Rattle.binary_field.specs.ProductLaws.{one-product}
-use Rattle.solve.specs.Elimination.{added}
+use Rattle.code_engine.specs.Elimination.{added}
 use Rattle.solve.proofs.Laws.{added-step, added-end}
 use Rattle.solve.proofs.sum.Statement.{statement}
 use Rattle.solve.proofs.sum.Tie as tie

@@ -1,9 +1,10 @@
 use mathlib.Core.Path.{_≡_, refl, sym, ap₂, _∙_}
 use lib.ListN.{length}
-use Rattle.shape.specs.Laws.{word-of-good}
-use Rattle.code.specs.Lent.{Lent}
+use Rattle.shape.specs.Shapes.{byteLimits}
 use Rattle.code.specs.LentLaws.{lent}
-use Rattle.syndrome.specs.HornerLaws.{first-rows, second-rows}
+use Rattle.code.specs.Lent.{LentIn}
+use Rattle.code.specs.LimitsLaws.{word-of-good}
+use Rattle.code_engine.specs.HornerLaws.{first-rows, second-rows}
 use borrow.Author.Needs.{needs}
 use Rattle.syndrome.proofs.across.Statement.{statement}
 use Rattle.syndrome.proofs.across.Tie as tie
@@ -22,7 +23,7 @@ returns c =
     (λ good size. absurd (c .if1 .taken (c .before .word-refusal .ensures ∙ word-of-good (a .m) (a .w) (a .c) (length (a .word .now)) good size)), λ _. refl)
 
 -- past the first test the shape is good, and the word has its length
-fair : (t : tie.Else1) → let a = t .before .before .before .args in Lent (a .m) (a .w) (a .c) (a .word .now)
+fair : (t : tie.Else1) → let a = t .before .before .before .args in LentIn byteLimits (a .m) (a .w) (a .c) (a .word .now)
 fair t = let a = t .before .before .before .args in lent (a .m) (a .w) (a .c) (a .word .now) (sym (t .before .word-refusal .ensures) ∙ t .if1 .left)
 
 rows-of-requires : tie.Need-rows-of-requires

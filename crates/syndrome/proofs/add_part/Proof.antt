@@ -7,7 +7,7 @@ use Rattle.syndrome.proofs.add_part.Statement.{statement}
 use Rattle.syndrome.proofs.add_part.Tie as tie
 use Rattle.syndrome.proofs.add_part.Reads as reads
 use Rattle.syndrome.proofs.add_part.Lts as lts
-use Rattle.check_rows.proofs.padded.Reads as padded-reads
+use Rattle.byte_edition.proofs.padded.Reads as padded-reads
 use Rattle.syndrome.proofs.add_sixteen.Reads as add-sixteen-reads
 
 add-sixteen-requires : tie.Need-add-sixteen-requires

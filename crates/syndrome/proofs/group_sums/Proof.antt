@@ -4,7 +4,6 @@ use lib.ListN.{length}
 use borrow.Author.Tests.{not-true, not-false}
 use Rattle.binary_field.specs.Product.{product}
 use Rattle.byte_edition.specs.Edition.{byteEdition}
-use Rattle.syndrome.specs.PartsLaws.{second-coefficient-group}
 use borrow.Author.Needs.{needs}
 use Rattle.syndrome.proofs.group_sums.Statement.{statement}
 use Rattle.syndrome.proofs.group_sums.Tie as tie
@@ -12,6 +11,7 @@ use Rattle.syndrome.proofs.group_sums.Reads as reads
 use Rattle.syndrome.proofs.group_sums.Lts as lts
 use Rattle.gf256.proofs.power_of_two.Reads as power-of-two-reads
 use Rattle.gf256.proofs.shifted_product.Reads as shifted-product-reads
+use Rattle.code_engine.specs.PartsLaws.{second-coefficient-group}
 use Rattle.syndrome.proofs.in_range.Reads as in-range-reads
 use Rattle.syndrome.proofs.padded_sums.Reads as padded-sums-reads
 

@@ -6,7 +6,7 @@ use Rattle.syndrome.proofs.local_zero.Statement.{statement}
 use Rattle.syndrome.proofs.local_zero.Tie as tie
 use Rattle.syndrome.proofs.local_zero.Reads as reads
 use Rattle.syndrome.proofs.local_zero.Lts as lts
-use Rattle.check_rows.proofs.padded.Reads as padded-reads
+use Rattle.byte_edition.proofs.padded.Reads as padded-reads
 use Rattle.syndrome.proofs.zero_sums.Reads as zero-sums-reads
 
 returns : tie.Need-returns

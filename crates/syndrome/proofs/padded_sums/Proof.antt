@@ -6,7 +6,7 @@ use Rattle.syndrome.proofs.padded_sums.Statement.{statement}
 use Rattle.syndrome.proofs.padded_sums.Tie as tie
 use Rattle.syndrome.proofs.padded_sums.Reads as reads
 use Rattle.syndrome.proofs.padded_sums.Lts as lts
-use Rattle.check_rows.proofs.padded.Reads as padded-reads
+use Rattle.byte_edition.proofs.padded.Reads as padded-reads
 use Rattle.syndrome.proofs.plain_sums.Reads as plain-sums-reads
 
 plain-sums-requires : tie.Need-plain-sums-requires

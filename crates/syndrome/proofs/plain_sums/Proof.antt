@@ -6,8 +6,8 @@ use Rattle.syndrome.proofs.plain_sums.Statement.{statement}
 use Rattle.syndrome.proofs.plain_sums.Tie as tie
 use Rattle.syndrome.proofs.plain_sums.Reads as reads
 use Rattle.syndrome.proofs.plain_sums.Lts as lts
-use Rattle.check_rows.proofs.first_sum.Reads as first-sum-reads
-use Rattle.check_rows.proofs.second_sum.Reads as second-sum-reads
+use Rattle.byte_edition.proofs.first_sum.Reads as first-sum-reads
+use Rattle.byte_edition.proofs.second_sum.Reads as second-sum-reads
 
 sub-first-sum : tie.Need-sub-first-sum
 sub-first-sum c = search needs

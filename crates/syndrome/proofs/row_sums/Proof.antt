@@ -3,16 +3,15 @@ use mathlib.Core.List.{List}
 use Prim.Native.Nat.{ℕ}
 use native.Mathlib.Omega.{arith}
 use lib.ListN.{length, take, length-take}
-use Rattle.byte_edition.specs.Edition.{byteEdition}
 use Rattle.syndrome.specs.PartsLaws.{first-group, second-group, front-group}
 use borrow.Author.Needs.{needs}
 use Rattle.syndrome.proofs.row_sums.Statement.{statement}
 use Rattle.syndrome.proofs.row_sums.Tie as tie
 use Rattle.syndrome.proofs.row_sums.Reads as reads
 use Rattle.syndrome.proofs.row_sums.Lts as lts
-use Rattle.check_rows.proofs.first_sum.Reads as first-sum-reads
-use Rattle.check_rows.proofs.padded.Reads as padded-reads
-use Rattle.check_rows.proofs.second_sum.Reads as second-sum-reads
+use Rattle.byte_edition.proofs.first_sum.Reads as first-sum-reads
+use Rattle.byte_edition.proofs.padded.Reads as padded-reads
+use Rattle.byte_edition.proofs.second_sum.Reads as second-sum-reads
 
 array-share-prefix-x : tie.Need-array-share-prefix-x
 array-share-prefix-x c = search needs

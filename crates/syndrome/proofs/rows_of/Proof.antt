@@ -7,13 +7,14 @@ use lib.Seq.{getD-drop, take-all}
 use borrow.Author.Needs.{needs}
 use Rattle.binary_field.specs.Xor.{_⊕_}
 use Rattle.binary_field.specs.Product.{double}
-use Rattle.code.specs.Lent.{Lent}
+use Rattle.shape.specs.Shapes.{byteLimits}
 use Rattle.code.specs.LentLaws.{end-fits}
+use Rattle.code.specs.Lent.{LentIn}
 use Rattle.byte_edition.specs.Edition.{byteEdition}
 use Rattle.byte_edition.specs.EditionLaws.{bytes-sound}
-use Rattle.check_rows.proofs.Laws.{zeros-row}
-use Rattle.syndrome.specs.Horner.{HornerRows, AddedRows}
-use Rattle.syndrome.specs.HornerLaws.{rows-none, rows-more}
+use Rattle.code_engine.specs.ListsLaws.{zeros-row}
+use Rattle.code_engine.specs.Horner.{HornerRows, AddedRows}
+use Rattle.code_engine.specs.HornerLaws.{rows-none, rows-more}
 use Rattle.syndrome.proofs.rows_of.Statement.{statement}
 use Rattle.syndrome.proofs.rows_of.Tie as tie
 use Rattle.syndrome.proofs.rows_of.Reads as reads
@@ -38,7 +39,7 @@ step w word x y x' y' m g l h narrow small R A =
     (λ j k. A .each-weighted j (omega arith) ∙ ap (λ b. double 8 285 (getD y j 0) ⊕ b) (from-place word ((g - 1) * w) j)))
 
 abbrev Inv-loop : tie.InvT-loop
-Inv-loop m w c word plain₀ weighted₀ g₀ plain weighted g = Lent m w c word × (g ≤ m) × HornerRows byteEdition w word g (m - g) plain weighted
+Inv-loop m w c word plain₀ weighted₀ g₀ plain weighted g = LentIn byteLimits m w c word × (g ≤ m) × HornerRows byteEdition w word g (m - g) plain weighted
 
 abbrev μ-loop : tie.MeasureT-loop
 μ-loop m w c word plain₀ weighted₀ g₀ plain weighted g = g

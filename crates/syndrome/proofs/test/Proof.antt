@@ -4,13 +4,14 @@ use borrow.Author.Needs.{needs}
 use borrow.Author.Tests.{eq-eqb, ne-eqb}
 use lib.Dec.{eqb}
 use lib.ListN.{length}
-use Rattle.shape.specs.Laws.{word-of-good}
-use Rattle.code.specs.Lent.{Lent}
+use Rattle.shape.specs.Shapes.{byteLimits}
 use Rattle.code.specs.LentLaws.{lent}
+use Rattle.code.specs.Lent.{LentIn}
+use Rattle.code.specs.LimitsLaws.{word-of-good}
 use Rattle.byte_edition.specs.Edition.{byteEdition}
 use Rattle.code.specs.Word.{isCodeword}
 use Rattle.syndrome.specs.declared.Sums.{Sums}
-use Rattle.syndrome.specs.TestsLaws.{broken-other, across-decide}
+use Rattle.code_engine.specs.TestsLaws.{broken-other, across-decide}
 use Rattle.syndrome.proofs.test.Statement.{statement}
 use Rattle.syndrome.proofs.test.Tie as tie
 
@@ -23,7 +24,7 @@ returns c =
     (λ good size. absurd (c .if1 .taken (c .before .word-refusal .ensures ∙ word-of-good (a .m) (a .w) (a .c) (length (a .word .now)) good size)), λ _. refl)
 
 -- past the first test the shape is good, and the word has its length
-fair : (t : tie.Else1) → let a = t .before .before .before .args in Lent (a .m) (a .w) (a .c) (a .word .now)
+fair : (t : tie.Else1) → let a = t .before .before .before .args in LentIn byteLimits (a .m) (a .w) (a .c) (a .word .now)
 fair t = let a = t .before .before .before .args in lent (a .m) (a .w) (a .c) (a .word .now) (sym (t .before .word-refusal .ensures) ∙ t .if1 .left)
 
 broken-group-requires : tie.Need-broken-group-requires

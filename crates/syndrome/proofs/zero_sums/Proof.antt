@@ -8,7 +8,8 @@ use lib.ListN.{length}
 use Rattle.byte_edition.specs.Edition.{byteEdition}
 use Rattle.code.specs.Word.{localSum}
 use Rattle.code.specs.WordLaws.{local-zero, zero-local}
-use Rattle.syndrome.specs.PartsLaws.{is-false, power-group}
+use Rattle.code_engine.specs.PartsLaws.{is-false}
+use Rattle.syndrome.specs.PartsLaws.{power-group}
 use Rattle.syndrome.proofs.zero_sums.Statement.{statement}
 use Rattle.syndrome.proofs.zero_sums.Tie as tie
 

@@ -3,11 +3,11 @@ use mathlib.Core.List.{List}
 use Prim.Native.Nat.{ℕ, _*_, _≤_}
 use native.Mathlib.Omega.{arith}
 use lib.ListN.{length, take, replicate, length-take, length-replicate}
-use Rattle.shape.specs.Shapes.{GoodIn}
-use Rattle.shape.specs.Laws.{word-of-good}
 use Rattle.code.specs.Lent.{LentIn}
-use Rattle.code.specs.LentLaws.{lent-in}
-use Rattle.wide_edition.specs.Edition.{wideLimits}
+use Rattle.code.specs.Limits.{GoodIn}
+use Rattle.code.specs.LimitsLaws.{word-of-good}
+use Rattle.code.specs.LentLaws.{lent}
+use Rattle.wide_shape.specs.Edition.{wideLimits}
 use Rattle.wide_across.proofs.Laws.{zeros}
 use borrow.Author.Needs.{needs}
 use Rattle.wide_across.proofs.across.Statement.{statement}
@@ -23,7 +23,7 @@ returns c =
 
 -- past the test the shape is good, and the word has its length
 fair : (t : tie.Else1) → let a = t .before .before .before .args in LentIn wideLimits (a .m) (a .w) (a .c) (a .word .now)
-fair t = let a = t .before .before .before .args in lent-in wideLimits (a .m) (a .w) (a .c) (a .word .now)
+fair t = let a = t .before .before .before .args in lent (a .m) (a .w) (a .c) (a .word .now)
     (sym (t .before .word-refusal .ensures) ∙ t .if1 .left)
 
 -- what is asked of the rows of n zeros

@@ -8,7 +8,7 @@ use Rattle.binary_field.specs.Xor.{_⊕_}
 use Rattle.binary_field.specs.XorLaws.{⊕-bits}
 use Rattle.binary_field.specs.Product.{double}
 use Rattle.buffers.proofs.Laws.{passed-set}
-use Rattle.candidate.proofs.Laws.{rest-set}
+use Rattle.code_engine.specs.ListsLaws.{rest-set}
 use Rattle.wide_across.proofs.fold.Statement.{statement}
 use Rattle.wide_across.proofs.fold.Tie as tie
 

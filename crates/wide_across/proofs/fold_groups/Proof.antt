@@ -9,10 +9,10 @@ use Rattle.binary_field.specs.Product.{double}
 use Rattle.code.specs.Lent.{LentIn}
 use Rattle.code.specs.LentLaws.{end-fits, part-stretch, part-length}
 use Rattle.code.specs.StretchLaws.{stretch-at}
-use Rattle.wide_edition.specs.Edition.{wideLimits, wideEdition}
-use Rattle.wide_edition.specs.EditionLaws.{wide-sound}
-use Rattle.syndrome.specs.Horner.{HornerRows}
-use Rattle.syndrome.specs.HornerLaws.{rows-none, rows-more}
+use Rattle.wide_shape.specs.Edition.{wideLimits, wideEdition}
+use Rattle.wide_shape.specs.EditionLaws.{wide-sound}
+use Rattle.code_engine.specs.Horner.{HornerRows}
+use Rattle.code_engine.specs.HornerLaws.{rows-none, rows-more}
 use Rattle.wide_across.proofs.fold_groups.Statement.{statement}
 use Rattle.wide_across.proofs.fold_groups.Tie as tie
 

@@ -7,13 +7,13 @@ use Rattle.binary_field.specs.Xor.{_⊕_}
 use Rattle.binary_field.specs.Product.{product}
 use Rattle.code.specs.Edition.{raised}
 use Rattle.code.specs.Word.{groupSum, coefficient}
-use Rattle.syndrome.specs.Horner.{HornerRows}
-use Rattle.syndrome.specs.HornerLaws.{first-rows, second-rows}
-use Rattle.wide_edition.specs.Edition.{wideEdition}
+use Rattle.code_engine.specs.Horner.{HornerRows}
+use Rattle.code_engine.specs.HornerLaws.{first-rows, second-rows}
+use Rattle.wide_shape.specs.Edition.{wideEdition}
 use Rattle.wide_across.specs.declared.Sums.{Sums}
 use Rattle.wide_sums.specs.PowerSums.{PowerSums}
 use Rattle.wide_sums.specs.PowerSumsLaws.{sums-first, sums-second}
-use Rattle.wide_across.specs.Across.{acrossOf}
+use Rattle.wide_across.specs.Across.{wideAcross}
 use borrow.Author.Needs.{needs}
 use Rattle.wide_across.proofs.folded_sums.Statement.{statement}
 use Rattle.wide_across.proofs.folded_sums.Tie as tie
@@ -48,7 +48,7 @@ same-length-2 c = search needs
 -- the power sums of the two rows give the sums across
 from-rows : (m w c : ℕ) (word x y p q : List ℕ) (f s : ℕ) → w ≤ 256 → HornerRows wideEdition w word 0 m x y → length x ≡ w → length y ≡ w
     → PowerSums x (c + 2) p → PowerSums y (c + 2) q → f ≡ getD p c 0 ⊕ product 16 69643 2 (getD p (c + 1) 0)
-    → s ≡ getD q c 0 ⊕ product 16 69643 2863 (getD q (c + 1) 0) → _≡_ {A = Sums} (record { first = f; second = s }) (acrossOf m w c word)
+    → s ≡ getD q c 0 ⊕ product 16 69643 2863 (getD q (c + 1) 0) → _≡_ {A = Sums} (record { first = f; second = s }) (wideAcross m w c word)
 from-rows m w c word x y p q f s narrow R hx hy P Q ef es =
     let few : (c + 2) ≤ (c + 2) = omega arith in
     ap₂ (λ a b. record { first = a; second = b })

@@ -4,11 +4,11 @@ use Prim.Native.Nat.{ℕ}
 use lib.ListN.{length}
 use Rattle.code.specs.Edition.{raised}
 use Rattle.code.specs.Word.{groupSum, coefficient}
-use Rattle.syndrome.specs.Horner.{HornerRows}
-use Rattle.syndrome.specs.HornerLaws.{first-rows, second-rows}
-use Rattle.wide_edition.specs.Edition.{wideEdition}
+use Rattle.code_engine.specs.Horner.{HornerRows}
+use Rattle.code_engine.specs.HornerLaws.{first-rows, second-rows}
+use Rattle.wide_shape.specs.Edition.{wideEdition}
 use Rattle.wide_across.specs.declared.Sums.{Sums}
-use Rattle.wide_across.specs.Across.{acrossOf}
+use Rattle.wide_across.specs.Across.{wideAcross}
 use borrow.Author.Needs.{needs}
 use Rattle.wide_across.proofs.short_across.Statement.{statement}
 use Rattle.wide_across.proofs.short_across.Tie as tie
@@ -28,7 +28,7 @@ same-length-2 c = search needs
 -- the sums of the two rows are those across
 from-rows : (m w c : ℕ) (word x y : List ℕ) (r : Sums) → HornerRows wideEdition w word 0 m x y → length x ≡ w
     → r .first ≡ groupSum wideEdition (length x) x 0 (coefficient wideEdition c)
-    → r .second ≡ groupSum wideEdition (length x) y 0 (λ j. raised wideEdition (coefficient wideEdition c j) 256) → r ≡ acrossOf m w c word
+    → r .second ≡ groupSum wideEdition (length x) y 0 (λ j. raised wideEdition (coefficient wideEdition c j) 256) → r ≡ wideAcross m w c word
 from-rows m w c word x y r R hx ef es =
     ap₂ (λ a b. record { first = a; second = b })
     (ef ∙ ap (λ n. groupSum wideEdition n x 0 (coefficient wideEdition c)) hx ∙ first-rows R c)

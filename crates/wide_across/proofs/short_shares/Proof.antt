@@ -4,8 +4,8 @@ use native.Mathlib.Omega.{arith}
 use lib.ListN.{length}
 use Rattle.binary_field.specs.Product.{product}
 use Rattle.code.specs.Edition.{raised}
-use Rattle.syndrome.specs.PartsLaws.{second-coefficient-group}
-use Rattle.wide_edition.specs.Edition.{wideEdition}
+use Rattle.wide_shape.specs.Edition.{wideEdition}
+use Rattle.code_engine.specs.PartsLaws.{second-coefficient-group}
 use Rattle.wide_across.specs.PairsLaws.{coefficients-of, sum-with, first-at, second-at}
 use borrow.Author.Needs.{needs}
 use Rattle.wide_across.proofs.short_shares.Statement.{statement}

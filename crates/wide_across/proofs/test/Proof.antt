@@ -4,13 +4,13 @@ use borrow.Author.Needs.{needs}
 use borrow.Author.Tests.{eq-eqb, ne-eqb}
 use lib.Dec.{eqb}
 use lib.ListN.{length}
-use Rattle.shape.specs.Laws.{word-of-good}
 use Rattle.code.specs.Lent.{LentIn}
-use Rattle.code.specs.LentLaws.{lent-in}
-use Rattle.wide_edition.specs.Edition.{wideLimits, wideEdition}
+use Rattle.code.specs.LimitsLaws.{word-of-good}
+use Rattle.code.specs.LentLaws.{lent}
+use Rattle.wide_shape.specs.Edition.{wideLimits, wideEdition}
 use Rattle.code.specs.Word.{isCodeword}
 use Rattle.wide_across.specs.declared.Sums.{Sums}
-use Rattle.syndrome.specs.TestsLaws.{broken-other, across-decide}
+use Rattle.code_engine.specs.TestsLaws.{broken-other, across-decide}
 use Rattle.wide_across.proofs.test.Statement.{statement}
 use Rattle.wide_across.proofs.test.Tie as tie
 
@@ -24,7 +24,7 @@ returns c =
 
 -- past the first test the shape is good, and the word has its length
 fair : (t : tie.Else1) → let a = t .before .before .before .args in LentIn wideLimits (a .m) (a .w) (a .c) (a .word .now)
-fair t = let a = t .before .before .before .args in lent-in wideLimits (a .m) (a .w) (a .c) (a .word .now)
+fair t = let a = t .before .before .before .args in lent (a .m) (a .w) (a .c) (a .word .now)
     (sym (t .before .word-refusal .ensures) ∙ t .if1 .left)
 
 broken-group-requires : tie.Need-broken-group-requires

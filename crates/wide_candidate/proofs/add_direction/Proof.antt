@@ -4,7 +4,7 @@ use Prim.Native.Nat.{ℕ}
 use native.Mathlib.Omega.{arith}
 use lib.ListN.{length-take, length-drop}
 use Rattle.code.specs.LentLaws.{stretch-lent, with-lent}
-use Rattle.candidate.proofs.Laws.{stretch-end, added-combined}
+use Rattle.code_engine.specs.CandidateStepsLaws.{stretch-end, added-combined}
 use borrow.Author.Needs.{needs}
 use Rattle.wide_candidate.proofs.add_direction.Statement.{statement}
 use Rattle.wide_candidate.proofs.add_direction.Tie as tie

@@ -11,9 +11,8 @@ use Rattle.binary_field.specs.Xor.{_⊕_}
 use Rattle.binary_field.specs.XorLaws.{⊕-bits, ⊕-zero-r}
 use Rattle.binary_field.specs.ProductLaws.{product-zero, product-comm}
 use Rattle.code.specs.Edition.{times}
-use Rattle.wide_edition.specs.Edition.{wideEdition}
-use Rattle.fill.proofs.Laws.{each-set}
-use Rattle.candidate.proofs.Laws.{rest-set}
+use Rattle.wide_shape.specs.Edition.{wideEdition}
+use Rattle.code_engine.specs.ListsLaws.{each-set, rest-set}
 use Rattle.wide_candidate.proofs.add_multiple.Statement.{statement}
 use Rattle.wide_candidate.proofs.add_multiple.Tie as tie
 

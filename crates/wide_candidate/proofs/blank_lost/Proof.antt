@@ -7,7 +7,7 @@ use native.Mathlib.Omega.{arith}
 use lib.ListN.{length, getD, set, length-set}
 use borrow.Author.Tests.{eq-eqb, ne-eqb}
 use Rattle.code.specs.Marks.{lost}
-use Rattle.fill.proofs.Laws.{each-set}
+use Rattle.code_engine.specs.ListsLaws.{each-set}
 use Rattle.wide_candidate.proofs.blank_lost.Statement.{statement}
 use Rattle.wide_candidate.proofs.blank_lost.Tie as tie
 

@@ -3,11 +3,11 @@ use Prim.Native.Nat.{_*_}
 use native.Mathlib.Omega.{arith}
 use lib.ListN.{length, length-take}
 use borrow.Author.Needs.{needs}
-use Rattle.shape.specs.Shapes.{GoodIn}
-use Rattle.shape.specs.Laws.{word-of-good, places-most}
 use Rattle.code.specs.Lent.{LentIn}
-use Rattle.code.specs.LentLaws.{lent-in}
-use Rattle.wide_edition.specs.Edition.{wideLimits}
+use Rattle.code.specs.Limits.{GoodIn}
+use Rattle.code.specs.LimitsLaws.{places-most, word-of-good}
+use Rattle.code.specs.LentLaws.{lent}
+use Rattle.wide_shape.specs.Edition.{wideLimits}
 use Rattle.wide_candidate.proofs.candidate.Statement.{statement}
 use Rattle.wide_candidate.proofs.candidate.Tie as tie
 
@@ -27,7 +27,7 @@ shaped : (t : tie.Else1) → let a = t .before .before .before .before .before .
 shaped t =
     let r = t .before in
     let a = r .before .before .before .before .args in
-    lent-in wideLimits (a .m) (a .w) (a .c) (a .word .now) (sym (r .word-refusal .ensures) ∙ t .if1 .left)
+    lent (a .m) (a .w) (a .c) (a .word .now) (sym (r .word-refusal .ensures) ∙ t .if1 .left)
 
 returns-2 : tie.Need-returns-2
 returns-2 c = (λ _ e f _. absurd (c .if2 .taken (f ∙ sym e)), (λ _ e f _. absurd (c .if2 .taken (f ∙ sym e)), (refl, λ _. (refl, refl))))

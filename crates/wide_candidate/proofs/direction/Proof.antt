@@ -7,10 +7,10 @@ use native.Mathlib.Omega.{arith}
 use lib.ListN.{length, set, replicate, length-set, length-replicate}
 use lib.Seq.{take-all, take-at}
 use Rattle.code.specs.Marks.{lost, lostIn}
-use Rattle.wide_edition.specs.Edition.{wideEdition}
-use Rattle.fill.specs.Filled.{FilledIn}
-use Rattle.candidate.specs.Steps.{DirectionIn}
-use Rattle.candidate.proofs.Laws.{direction-filled}
+use Rattle.wide_shape.specs.Edition.{wideEdition}
+use Rattle.code_engine.specs.Filled.{FilledIn}
+use Rattle.code_engine.specs.CandidateSteps.{DirectionIn}
+use Rattle.code_engine.specs.CandidateStepsLaws.{direction-filled}
 use borrow.Author.Needs.{needs}
 use Rattle.wide_candidate.proofs.direction.Statement.{statement}
 use Rattle.wide_candidate.proofs.direction.Tie as tie

@@ -3,11 +3,11 @@ use mathlib.Core.List.{List}
 use Prim.Native.Nat.{ℕ, _-_, _≤_}
 use native.Mathlib.Omega.{arith}
 use borrow.Author.Needs.{needs}
-use Rattle.shape.specs.Laws.{places-most}
-use Rattle.candidate.specs.Steps.{GroupsFilledIn}
+use Rattle.code.specs.LimitsLaws.{places-most}
+use Rattle.code_engine.specs.CandidateSteps.{GroupsFilledIn}
 use Rattle.code.specs.LentLaws.{stretch-lent, with-lent}
-use Rattle.candidate.proofs.Laws.{stretch-end, group-filled}
-use Rattle.wide_edition.specs.Edition.{wideEdition}
+use Rattle.wide_shape.specs.Edition.{wideEdition}
+use Rattle.code_engine.specs.CandidateStepsLaws.{stretch-end, group-filled}
 use Rattle.wide_candidate.proofs.fill_groups.Statement.{statement}
 use Rattle.wide_candidate.proofs.fill_groups.Tie as tie
 

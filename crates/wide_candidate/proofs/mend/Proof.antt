@@ -3,15 +3,15 @@ use mathlib.Core.List.{List}
 use Prim.Native.Nat.{ℕ, zero, suc, _*_, _≤_, _<_}
 use native.Mathlib.Omega.{arith}
 use lib.ListN.{length, take, replicate, length-take, length-replicate}
-use Rattle.shape.specs.Shapes.{GoodIn}
+use Rattle.code.specs.Limits.{GoodIn}
 use Rattle.erasures.specs.declared.Free.{Free}
-use Rattle.erasures.specs.Whole.{BoundAll}
-use Rattle.erasures.specs.Places.{FreePlaces, freeAt}
-use Rattle.candidate.specs.Mended.{MendedOneIn, MendedTwoIn, MendedIn}
-use Rattle.candidate.specs.WeightsLaws.{few-at}
-use Rattle.wide_edition.specs.Edition.{wideLimits, wideEdition}
+use Rattle.code_engine.specs.BoundGroups.{BoundAll}
+use Rattle.code_engine.specs.FreePlaces.{FreePlaces, freeAt}
+use Rattle.code_engine.specs.Mended.{MendedOneIn, MendedTwoIn, MendedIn}
+use Rattle.code_engine.specs.WeightsLaws.{few-at}
+use Rattle.wide_shape.specs.Edition.{wideLimits, wideEdition}
 use Rattle.wide_across.specs.declared.Sums.{Sums}
-use Rattle.wide_across.specs.Across.{acrossOf}
+use Rattle.wide_across.specs.Across.{wideAcross}
 use Rattle.wide_candidate.specs.Free.{OneOrTwo}
 use Rattle.wide_across.proofs.Laws.{zeros}
 use borrow.Author.Needs.{needs}
@@ -21,8 +21,8 @@ use Rattle.wide_candidate.proofs.mend.Tie as tie
 -- what is asked with the free places f and two rows of n zeros
 asked : (m w c n : ℕ) (f : Free) {s : Sums} (word : List ℕ) {marks bound : List ℕ} → GoodIn wideLimits m w c → length word ≡ m * w
     → length marks ≡ m * w → BoundAll m w c marks bound → FreePlaces marks bound (f .count) (f .first) (f .second) → 0 < f .count
-    → s ≡ acrossOf m w c word → w ≤ n
-    → GoodIn wideLimits m w c × ((length word ≡ m * w) × (OneOrTwo m w c f bound × ((s ≡ acrossOf m w c word)
+    → s ≡ wideAcross m w c word → w ≤ n
+    → GoodIn wideLimits m w c × ((length word ≡ m * w) × (OneOrTwo m w c f bound × ((s ≡ wideAcross m w c word)
     × ((take {A = ℕ} w (replicate n 0) ≡ replicate w 0) × (take {A = ℕ} w (replicate n 0) ≡ replicate w 0)))))
 asked m w c n f word {bound = bound} good size long K P some e l = (good, (size, (free, (e, (zeros w n l, zeros w n l)))))
   where

@@ -2,9 +2,9 @@ use mathlib.Core.Path.{ap, _∙_}
 use Prim.Native.Nat.{_/_}
 use Rattle.binary_field.specs.Product.{product}
 use Rattle.code.specs.Lone.{lone}
-use Rattle.wide_edition.specs.EditionLaws.{wide-sound}
-use Rattle.candidate.specs.WeightsLaws.{first-weight}
-use Rattle.candidate.proofs.Laws.{group-lt}
+use Rattle.wide_shape.specs.EditionLaws.{wide-sound}
+use Rattle.code_engine.specs.WeightsLaws.{first-weight}
+use Rattle.code_engine.specs.CandidateStepsLaws.{group-lt}
 use Rattle.wide_candidate.specs.ClearedLaws.{one-cleared}
 use borrow.Author.Needs.{needs}
 use Rattle.wide_candidate.proofs.mend_one.Statement.{statement}

@@ -4,11 +4,11 @@ use lib.ListN.{length}
 use Rattle.binary_field.specs.Xor.{_⊕_}
 use Rattle.code.specs.Edition.{times}
 use Rattle.code.specs.Lone.{lone}
-use Rattle.candidate.specs.WeightsLaws.{two-weights}
-use Rattle.candidate.specs.SolvedLaws.{combined-length}
-use Rattle.candidate.proofs.Laws.{group-lt}
-use Rattle.wide_edition.specs.Edition.{wideEdition}
-use Rattle.wide_edition.specs.EditionLaws.{wide-sound}
+use Rattle.code_engine.specs.WeightsLaws.{two-weights}
+use Rattle.code_engine.specs.SolvedLaws.{combined-length}
+use Rattle.wide_shape.specs.Edition.{wideEdition}
+use Rattle.wide_shape.specs.EditionLaws.{wide-sound}
+use Rattle.code_engine.specs.CandidateStepsLaws.{group-lt}
 use Rattle.wide_candidate.specs.ClearedLaws.{met-sums, two-cleared}
 use borrow.Author.Needs.{needs}
 use Rattle.wide_candidate.proofs.mend_two.Statement.{statement}

@@ -1,9 +1,9 @@
 use mathlib.Core.Path.{sym, _∙_}
 use borrow.Author.Needs.{needs}
-use Rattle.erasures.specs.Whole.{BoundAll}
-use Rattle.wide_edition.specs.EditionLaws.{wide-sound}
-use Rattle.candidate.specs.WholeLaws.{is-candidate}
-use Rattle.erasures.specs.WholeLaws.{bound-copy}
+use Rattle.code_engine.specs.BoundGroups.{BoundAll}
+use Rattle.wide_shape.specs.EditionLaws.{wide-sound}
+use Rattle.code_engine.specs.CandidateLaws.{is-candidate}
+use Rattle.code_engine.specs.BoundGroupsLaws.{bound-copy}
 use Rattle.wide_candidate.proofs.rebuild.Statement.{statement}
 use Rattle.wide_candidate.proofs.rebuild.Tie as tie
 

@@ -9,9 +9,9 @@ use Rattle.binary_field.specs.XorLaws.{⊕-bits}
 use Rattle.binary_field.specs.Product.{product}
 use Rattle.binary_field.specs.Inverse.{inverse}
 use Rattle.code.specs.Edition.{times}
-use Rattle.wide_edition.specs.Edition.{wideEdition}
+use Rattle.wide_shape.specs.Edition.{wideEdition}
 use Rattle.wide_sums.specs.PowerSums.{EachTimes}
-use Rattle.wide_edition.specs.EditionLaws.{wide-sound}
+use Rattle.wide_shape.specs.EditionLaws.{wide-sound}
 use Rattle.code.specs.PairLaws.{two-met}
 use borrow.Author.Needs.{needs}
 use Rattle.wide_candidate.proofs.two_unknowns.Statement.{statement}

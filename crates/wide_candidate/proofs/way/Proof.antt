@@ -4,14 +4,14 @@ use Prim.Native.Nat.{ℕ, _*_, _/_, _%_, _<_}
 use native.Mathlib.Nat.{suc-mul}
 use native.Mathlib.Omega.{arith}
 use lib.ListN.{length, replicate}
-use Rattle.shape.specs.Shapes.{GoodIn}
 use Rattle.code.specs.Stretch.{stretch}
 use Rattle.code.specs.StretchLaws.{stretch-length}
 use Rattle.code.specs.LentLaws.{stretch-lent}
-use Rattle.wide_edition.specs.Edition.{wideLimits, wideEdition}
-use Rattle.candidate.specs.Steps.{DirectionIn}
-use Rattle.candidate.specs.Mended.{BoundFew}
-use Rattle.candidate.proofs.Laws.{group-lt, group-end, way-asked}
+use Rattle.code.specs.Limits.{GoodIn}
+use Rattle.wide_shape.specs.Edition.{wideLimits, wideEdition}
+use Rattle.code_engine.specs.CandidateSteps.{DirectionIn}
+use Rattle.code_engine.specs.Mended.{BoundFew}
+use Rattle.code_engine.specs.CandidateStepsLaws.{group-lt, group-end, way-asked}
 use borrow.Author.Needs.{needs}
 use Rattle.wide_candidate.proofs.way.Statement.{statement}
 use Rattle.wide_candidate.proofs.way.Tie as tie

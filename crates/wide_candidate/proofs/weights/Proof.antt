@@ -5,7 +5,7 @@ use Prim.Native.Nat.{ℕ}
 use lib.ListN.{length}
 use Rattle.code.specs.Word.{groupSum, coefficient, secondCoefficient}
 use Rattle.code.specs.LoneLaws.{lone-word}
-use Rattle.wide_edition.specs.Edition.{wideEdition}
+use Rattle.wide_shape.specs.Edition.{wideEdition}
 use borrow.Author.Needs.{needs}
 use Rattle.wide_candidate.proofs.weights.Statement.{statement}
 use Rattle.wide_candidate.proofs.weights.Tie as tie

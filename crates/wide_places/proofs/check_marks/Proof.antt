@@ -2,12 +2,12 @@ use mathlib.Core.Path.{_≡_, refl, sym, _∙_}
 use Prim.Native.Nat.{_<_}
 use native.Mathlib.Omega.{arith}
 use lib.ListN.{length}
-use Rattle.shape.specs.RefusalsLaws.{unless-refused}
-use Rattle.shape.specs.AnswersLaws.{answer-refused}
-use Rattle.places.specs.Places.{checkMarksRefusalIn, checkMarksAnswerIn, checkMarksBufferIn}
-use Rattle.places.specs.Laws.{checks-whole, good-of-check-marks}
+use Rattle.code.specs.RefusalsLaws.{unless-refused}
+use Rattle.answers.specs.AnswersLaws.{answer-refused}
+use Rattle.code_services.specs.Places.{checkMarksRefusalIn, checkMarksAnswerIn, checkMarksBufferIn}
+use Rattle.code_services.specs.PlacesLaws.{checks-whole, good-of-check-marks}
 use borrow.Author.Needs.{needs}
-use Rattle.wide_edition.specs.Edition.{wideLimits}
+use Rattle.wide_shape.specs.Edition.{wideLimits}
 use Rattle.wide_places.proofs.check_marks.Statement.{statement}
 use Rattle.wide_places.proofs.check_marks.Tie as tie
 

@@ -1,12 +1,12 @@
 use mathlib.Core.Path.{_≡_, refl, sym}
 use lib.ListN.{length}
-use Rattle.shape.specs.RefusalsLaws.{unless-refused}
-use Rattle.shape.specs.Shapes.{bufferRefusalIn}
-use Rattle.shape.specs.Laws.{good-of-buffers}
-use Rattle.places.specs.Places.{extractedIn, extractedDataIn}
-use Rattle.shape.specs.AnswersLaws.{answer-refused}
+use Rattle.code.specs.RefusalsLaws.{unless-refused}
+use Rattle.code.specs.Limits.{bufferRefusalIn}
+use Rattle.code.specs.LimitsLaws.{good-of-buffers}
+use Rattle.code_services.specs.Places.{extractedIn, extractedDataIn}
+use Rattle.answers.specs.AnswersLaws.{answer-refused}
 use borrow.Author.Needs.{needs}
-use Rattle.wide_edition.specs.Edition.{wideLimits}
+use Rattle.wide_shape.specs.Edition.{wideLimits}
 use Rattle.wide_places.proofs.extract.Statement.{statement}
 use Rattle.wide_places.proofs.extract.Tie as tie
 

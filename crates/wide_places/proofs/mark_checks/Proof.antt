@@ -2,13 +2,13 @@ use mathlib.Core.Path.{_≡_, sym, _∙_}
 use Prim.Native.Nat.{_<_}
 use native.Mathlib.Omega.{arith}
 use lib.ListN.{length}
-use Rattle.shape.specs.RefusalsLaws.{unless-refused}
-use Rattle.shape.specs.Shapes.{wordRefusalIn}
-use Rattle.shape.specs.Laws.{good-of-word}
-use Rattle.places.specs.Places.{markedChecksIn}
-use Rattle.places.specs.Laws.{checks-whole}
+use Rattle.code.specs.RefusalsLaws.{unless-refused}
+use Rattle.code.specs.Limits.{wordRefusalIn}
+use Rattle.code.specs.LimitsLaws.{good-of-word}
+use Rattle.code_services.specs.Places.{markedChecksIn}
+use Rattle.code_services.specs.PlacesLaws.{checks-whole}
 use borrow.Author.Needs.{needs}
-use Rattle.wide_edition.specs.Edition.{wideLimits}
+use Rattle.wide_shape.specs.Edition.{wideLimits}
 use Rattle.wide_places.proofs.mark_checks.Statement.{statement}
 use Rattle.wide_places.proofs.mark_checks.Tie as tie
 

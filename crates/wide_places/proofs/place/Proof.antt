@@ -1,11 +1,11 @@
 use mathlib.Core.Path.{_≡_, sym}
 use lib.ListN.{length}
-use Rattle.shape.specs.RefusalsLaws.{unless-refused}
-use Rattle.shape.specs.Shapes.{bufferRefusalIn}
-use Rattle.shape.specs.Laws.{good-of-buffers}
-use Rattle.places.specs.Places.{placedWordIn}
+use Rattle.code.specs.RefusalsLaws.{unless-refused}
+use Rattle.code.specs.Limits.{bufferRefusalIn}
+use Rattle.code.specs.LimitsLaws.{good-of-buffers}
+use Rattle.code_services.specs.Places.{placedWordIn}
 use borrow.Author.Needs.{needs}
-use Rattle.wide_edition.specs.Edition.{wideLimits}
+use Rattle.wide_shape.specs.Edition.{wideLimits}
 use Rattle.wide_places.proofs.place.Statement.{statement}
 use Rattle.wide_places.proofs.place.Tie as tie
 

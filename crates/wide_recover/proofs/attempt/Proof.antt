@@ -6,14 +6,14 @@ use native.Mathlib.Omega.{arith}
 use lib.ListN.{length, take, drop, drop-of-length-le}
 use lib.Seq.{take-all, length-take-le}
 use borrow.Author.Tests.{not-true, not-false}
-use Rattle.shape.specs.Shapes.{GoodIn}
 use Rattle.code.specs.LentLaws.{end-fits}
 use Rattle.code.specs.Word.{Symbols}
-use Rattle.wide_edition.specs.Edition.{wideLimits, wideEdition}
-use Rattle.wide_edition.specs.EditionLaws.{wide-sound}
-use Rattle.syndrome.specs.declared.Tested.{Tested}
-use Rattle.recover.specs.Attempt.{AttemptIn}
-use Rattle.recover.specs.AttemptLaws.{full-satisfied, attempt-done, attempt-failed}
+use Rattle.code.specs.Limits.{GoodIn}
+use Rattle.wide_shape.specs.Edition.{wideLimits, wideEdition}
+use Rattle.wide_shape.specs.EditionLaws.{wide-sound}
+use Rattle.answers.specs.declared.Tested.{Tested}
+use Rattle.code_services.specs.Attempt.{AttemptIn}
+use Rattle.code_services.specs.AttemptLaws.{full-satisfied, attempt-done, attempt-failed}
 use borrow.Author.Needs.{needs}
 use Rattle.wide_recover.proofs.attempt.Statement.{statement}
 use Rattle.wide_recover.proofs.attempt.Tie as tie

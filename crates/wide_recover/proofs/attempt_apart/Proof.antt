@@ -1,10 +1,10 @@
 use mathlib.Core.Path.{sym, _∙_}
 use native.Mathlib.Omega.{arith}
 use lib.ListN.{length-take, length-replicate}
-use Rattle.shape.specs.Laws.{places-most}
 use borrow.Author.Needs.{needs}
 use Rattle.wide_recover.proofs.attempt_apart.Statement.{statement}
 use Rattle.wide_recover.proofs.attempt_apart.Tie as tie
+use Rattle.code.specs.LimitsLaws.{places-most}
 
 array-borrow-prefix-near : tie.Need-array-borrow-prefix-near
 array-borrow-prefix-near c = search needs

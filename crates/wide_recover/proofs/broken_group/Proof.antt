@@ -8,14 +8,14 @@ use borrow.Author.Needs.{needs}
 use borrow.Author.Tests.{not-true, not-false}
 use lib.Dec.{T}
 use lib.Ieee.Bits.{is-true}
-use Rattle.wide_edition.specs.Edition.{wideLimits, wideEdition}
+use Rattle.wide_shape.specs.Edition.{wideLimits, wideEdition}
 use Rattle.code.specs.Word.{isLocal}
 use Rattle.code.specs.Marks.{lostIn}
 use Rattle.code.specs.StretchLaws.{stretch-count}
 use Rattle.code.specs.Lent.{LentIn}
 use Rattle.code.specs.LentLaws.{end-fits, part-stretch, part-length, part-narrow}
-use Rattle.syndrome.specs.PartsLaws.{part-local}
-use Rattle.syndrome.specs.TestsLaws.{broken-is, broken-none}
+use Rattle.code_engine.specs.TestsLaws.{broken-is, broken-none}
+use Rattle.code_engine.specs.PartsLaws.{part-local}
 use Rattle.wide_recover.proofs.broken_group.Statement.{statement}
 use Rattle.wide_recover.proofs.broken_group.Tie as tie
 

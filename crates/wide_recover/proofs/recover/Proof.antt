@@ -1,18 +1,18 @@
 use mathlib.Core.Path.{_≡_, sym, ap, _∙_}
 use Prim.Native.Nat.{_≤_, _<_}
 use native.Mathlib.Omega.{arith}
-use Rattle.shape.specs.Answers.{mendingAt}
-use Rattle.shape.specs.AnswersLaws.{mending-refused}
+use Rattle.answers.specs.Answers.{mendingAt}
+use Rattle.answers.specs.AnswersLaws.{mending-refused}
 use Rattle.code.specs.Marks.{excess}
-use Rattle.marks.specs.CountsLaws.{groups-whole}
-use Rattle.recover.specs.Attempt.{AcceptedIn}
-use Rattle.recover.specs.AttemptLaws.{accepted, service-refused, service-eight}
+use Rattle.code_engine.specs.GroupsLaws.{groups-whole}
+use Rattle.code_services.specs.Attempt.{AcceptedIn}
+use Rattle.code_services.specs.AttemptLaws.{accepted, service-refused, service-eight}
 use borrow.Author.Needs.{needs}
 use Rattle.wide_recover.specs.RefusalLaws.{not-nine}
 use Rattle.wide_recover.proofs.recover.Statement.{statement}
-use Rattle.wide_edition.specs.EditionLaws.{wide-sound}
-use Rattle.wide_edition.specs.Edition.{wideLimits}
-use Rattle.wide_edition.specs.Edition.{wideEdition}
+use Rattle.wide_shape.specs.EditionLaws.{wide-sound}
+use Rattle.wide_shape.specs.Edition.{wideLimits}
+use Rattle.wide_shape.specs.Edition.{wideEdition}
 use Rattle.wide_recover.proofs.recover.Tie as tie
 
 refusal-requires : tie.Need-refusal-requires

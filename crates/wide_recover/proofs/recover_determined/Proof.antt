@@ -1,16 +1,16 @@
 use mathlib.Core.Path.{_≡_, refl, sym, ap, _∙_}
 use native.Mathlib.Omega.{arith}
 use borrow.Author.Tests.{not-true, not-false}
-use Rattle.shape.specs.declared.Mending.{Mending}
-use Rattle.shape.specs.Answers.{mendingAt}
-use Rattle.wide_edition.specs.Edition.{wideEdition}
+use Rattle.answers.specs.declared.Mending.{Mending}
+use Rattle.answers.specs.Answers.{mendingAt}
+use Rattle.wide_shape.specs.Edition.{wideEdition}
 use Rattle.code.specs.ContradictionLaws.{contradicting-most}
-use Rattle.recover.specs.Attempt.{AcceptedIn}
-use Rattle.recover.specs.AttemptLaws.{accepted, service-nine, service-done}
+use Rattle.code_services.specs.Attempt.{AcceptedIn}
+use Rattle.code_services.specs.AttemptLaws.{accepted, service-nine, service-done}
 use borrow.Author.Needs.{needs}
 use Rattle.wide_recover.proofs.recover_determined.Statement.{statement}
-use Rattle.wide_edition.specs.Edition.{wideLimits}
-use Rattle.wide_edition.specs.EditionLaws.{wide-sound}
+use Rattle.wide_shape.specs.Edition.{wideLimits}
+use Rattle.wide_shape.specs.EditionLaws.{wide-sound}
 use Rattle.wide_recover.proofs.recover_determined.Tie as tie
 
 -- the shape is good, and word and marks have its length

@@ -3,10 +3,10 @@ use mathlib.Core.Bool.{true, false, _&&_}
 use borrow.Author.Needs.{needs}
 use borrow.Author.Tests.{eq-eqb, ne-eqb}
 use lib.Dec.{eqb}
-use Rattle.wide_edition.specs.Edition.{wideEdition}
+use Rattle.wide_shape.specs.Edition.{wideEdition}
 use Rattle.code.specs.Word.{isCodeword}
 use Rattle.wide_across.specs.declared.Sums.{Sums}
-use Rattle.syndrome.specs.TestsLaws.{broken-other, across-decide}
+use Rattle.code_engine.specs.TestsLaws.{broken-other, across-decide}
 use Rattle.wide_recover.proofs.test.Statement.{statement}
 use Rattle.wide_recover.proofs.test.Tie as tie
 

@@ -3,10 +3,10 @@ use Prim.Native.Nat.{ℕ, _-_, _*_, _≤_}
 use native.Mathlib.Nat.{mul-le-mul-left}
 use native.Mathlib.Omega.{arith}
 use borrow.Author.Needs.{needs}
-use Rattle.shape.specs.RefusalsLaws.{orElse-first}
-use Rattle.shape.specs.Shapes.{GoodIn, placeCount, bufferRefusalIn}
-use Rattle.shape.specs.Laws.{good-of-word, buffers-of-good, buffers-data-length}
-use Rattle.wide_edition.specs.Edition.{wideLimits}
+use Rattle.code.specs.RefusalsLaws.{orElse-first}
+use Rattle.code.specs.Limits.{placeCount, GoodIn, bufferRefusalIn}
+use Rattle.code.specs.LimitsLaws.{good-of-word, buffers-of-good, buffers-data-length}
+use Rattle.wide_shape.specs.Edition.{wideLimits}
 use Rattle.wide_shape.proofs.buffer_refusal.Statement.{statement}
 use Rattle.wide_shape.proofs.buffer_refusal.Tie as tie
 

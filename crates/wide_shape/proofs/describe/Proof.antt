@@ -1,6 +1,6 @@
 use mathlib.Core.Path.{refl}
-use Rattle.wide_shape.specs.Shapes.{describedOf, figuresOf}
-use Rattle.shape.specs.Laws.{refusal-of-good}
+use Rattle.code.specs.LimitsLaws.{refusal-of-good}
+use Rattle.answers.specs.Figures.{describedIn, figuresIn}
 use Rattle.wide_shape.specs.ShapesLaws.{shaped, unshaped}
 use borrow.Author.Needs.{needs}
 use Rattle.wide_shape.proofs.describe.Statement.{statement}
@@ -25,7 +25,7 @@ enum-known-r : tie.Need-enum-known-r
 enum-known-r c = search needs
 
 returns : tie.Need-returns
-unfolding describedOf figuresOf
+unfolding describedIn figuresIn
 returns c =
     let a = c .before .before .before .before .before .before .before .args in
     let s = c .before .before .before .before .s .given .0 .0 in
@@ -34,7 +34,7 @@ returns c =
     rw z ((cc), (refl, (cc)))
 
 returns-2 : tie.Need-returns-2
-unfolding describedOf figuresOf
+unfolding describedIn figuresIn
 returns-2 c =
     let a = c .before .before .before .before .args in
     let u = unshaped (a .m) (a .w) (a .c) (c .before .r .given .0 .0) (cc) in

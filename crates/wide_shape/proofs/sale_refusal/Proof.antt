@@ -1,7 +1,7 @@
 use borrow.Author.Needs.{needs}
-use Rattle.shape.specs.Shapes.{saleRefusalIn}
 use Rattle.wide_shape.proofs.sale_refusal.Statement.{statement}
 use Rattle.wide_shape.proofs.sale_refusal.Tie as tie
+use Rattle.code.specs.Limits.{saleRefusalIn}
 
 refusal-requires : tie.Need-refusal-requires
 refusal-requires c κs = search needs

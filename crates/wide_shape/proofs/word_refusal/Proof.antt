@@ -1,11 +1,11 @@
 use mathlib.Core.Path.{_≡_, sym, ap, _∙_}
 use native.Mathlib.Omega.{arith}
 use borrow.Author.Needs.{needs}
-use Rattle.shape.specs.Refusals.{refuse, _orElse_}
-use Rattle.shape.specs.RefusalsLaws.{orElse-first}
-use Rattle.shape.specs.Shapes.{GoodIn, wordRefusalIn}
-use Rattle.shape.specs.Laws.{good-of-refusal, word-of-good, word-length}
-use Rattle.wide_edition.specs.Edition.{wideLimits}
+use Rattle.code.specs.Refusals.{refuse, _orElse_}
+use Rattle.code.specs.RefusalsLaws.{orElse-first}
+use Rattle.code.specs.Limits.{GoodIn, wordRefusalIn}
+use Rattle.code.specs.LimitsLaws.{good-of-refusal, word-of-good, word-length}
+use Rattle.wide_shape.specs.Edition.{wideLimits}
 use Rattle.wide_shape.proofs.word_refusal.Statement.{statement}
 use Rattle.wide_shape.proofs.word_refusal.Tie as tie
 

@@ -4,7 +4,7 @@ use native.Mathlib.Omega.{arith}
 use mathlib.Core.List.{[], _∷_}
 use lib.ListN.{getD}
 use mir.Syntax.{w16}
-use Rattle.solve.proofs.Arrays.{array-small}
+use Rattle.code_engine.proofs.Arrays.{array-small}
 use Rattle.wide_solve.specs.PeelLaws.{has-one}
 use borrow.Author.Needs.{needs}
 use Rattle.wide_solve.proofs.symbols.Statement.{statement}

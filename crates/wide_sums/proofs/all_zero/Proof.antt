@@ -7,7 +7,7 @@ use lib.Dec.{T, eqb, eqb→eq}
 use lib.Ieee.Bits.{is-true}
 use lib.ListN.{getD}
 use Rattle.counting.specs.TestLaws.{all-at, all-intro}
-use Rattle.syndrome.specs.PartsLaws.{is-false}
+use Rattle.code_engine.specs.PartsLaws.{is-false}
 use Rattle.wide_sums.proofs.all_zero.Statement.{statement}
 use Rattle.wide_sums.proofs.all_zero.Tie as tie
 

@@ -7,7 +7,7 @@ use lib.ListN.{length, getD, replicate, length-set}
 use borrow.Author.Needs.{needs}
 use Rattle.code.specs.Word.{localSum}
 use Rattle.buffers.proofs.Laws.{passed-set}
-use Rattle.wide_edition.specs.Edition.{wideEdition}
+use Rattle.wide_shape.specs.Edition.{wideEdition}
 use Rattle.wide_sums.specs.PowerSums.{Raised}
 use Rattle.wide_sums.specs.PowerSumsLaws.{raised-none, raised-next, raised-sum}
 use Rattle.wide_sums.proofs.gather.Statement.{statement}

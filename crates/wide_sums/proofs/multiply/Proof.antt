@@ -6,8 +6,8 @@ use lib.ListN.{length, getD, length-set}
 use borrow.Author.Needs.{needs}
 use Rattle.code.specs.Edition.{times}
 use Rattle.buffers.proofs.Laws.{passed-set}
-use Rattle.candidate.proofs.Laws.{rest-set}
-use Rattle.wide_edition.specs.Edition.{wideEdition}
+use Rattle.wide_shape.specs.Edition.{wideEdition}
+use Rattle.code_engine.specs.ListsLaws.{rest-set}
 use Rattle.wide_sums.proofs.multiply.Statement.{statement}
 use Rattle.wide_sums.proofs.multiply.Tie as tie
 

@@ -5,8 +5,8 @@ use native.Mathlib.Omega.{arith}
 use native.Mathlib.Decide.{decLt}
 use lib.ListN.{length, getD, take, drop, replicate, length-take, length-append, length-drop, length-replicate, List·getD-append, List·getD-eq-default}
 use lib.Seq.{getD-append-add, getD-drop}
-use Rattle.check_rows.proofs.Laws.{zeros-row}
-use Rattle.check_rows.specs.Padded.{Padded}
+use Rattle.code_engine.specs.Padded.{Padded}
+use Rattle.code_engine.specs.ListsLaws.{zeros-row}
 use borrow.Author.Needs.{needs}
 use Rattle.wide_sums.proofs.padded.Statement.{statement}
 use Rattle.wide_sums.proofs.padded.Tie as tie

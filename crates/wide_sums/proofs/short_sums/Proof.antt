@@ -1,8 +1,8 @@
 use mathlib.Core.Path.{_≡_, sym, _∙_}
 use native.Mathlib.Omega.{arith}
-use Rattle.check_rows.specs.PaddedLaws.{padded-sum}
 use Rattle.code.specs.Edition.{raised}
-use Rattle.wide_edition.specs.Edition.{wideEdition}
+use Rattle.wide_shape.specs.Edition.{wideEdition}
+use Rattle.code_engine.specs.PaddedLaws.{padded-sum}
 use borrow.Author.Needs.{needs}
 use Rattle.wide_sums.proofs.short_sums.Statement.{statement}
 use Rattle.wide_sums.proofs.short_sums.Tie as tie

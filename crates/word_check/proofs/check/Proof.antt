@@ -4,26 +4,30 @@ use Prim.Native.Nat.{ℕ, _*_, _<_}
 use native.Mathlib.Omega.{arith}
 use borrow.Author.Needs.{needs}
 use lib.ListN.{length, getD}
-use Rattle.shape.specs.Laws.{good-of-word}
-use Rattle.shape.specs.Shapes.{wordRefusal}
+use Rattle.shape.specs.Shapes.{byteLimits}
+use Rattle.code.specs.Limits.{wordRefusalIn}
+use Rattle.code.specs.LimitsLaws.{good-of-word}
 use Rattle.byte_edition.specs.Edition.{byteEdition}
 use Rattle.code.specs.ContradictionLaws.{whole-groups}
-use Rattle.syndrome.specs.declared.Tested.{Tested}
-use Rattle.syndrome.specs.Tests.{brokenGroupIn, brokenGroup}
-use Rattle.syndrome.specs.TestsLaws.{broken-most}
-use Rattle.word_check.specs.Checked.{checkedAt, wholeGroup, checkedIn, checkedOf, checkedNumber, checkedFigures, checkFiguresOf}
-use Rattle.word_check.specs.Laws.{checked-number, checked-figures, checked-refused}
-use Rattle.word_check.specs.declared.Checked.{Checked}
+use Rattle.answers.specs.declared.Tested.{Tested}
+use Rattle.code_engine.specs.Tests.{brokenGroupIn}
+use Rattle.code_engine.specs.TestsLaws.{broken-most}
+use Rattle.answers.specs.Figures.{checkedAt, checkedNumber, checkedFigures}
+use Rattle.code_services.specs.Check.{checkedIn, wholeGroupIn, checkFiguresIn}
+use Rattle.code_services.specs.CheckLaws.{checked-number, checked-figures, checked-refused}
+use Rattle.answers.specs.declared.Checked.{Checked}
 use Rattle.word_check.proofs.check.Statement.{statement}
 use Rattle.word_check.proofs.check.Tie as tie
 
 -- number and figures follow from the answer
-whole : (m w c : ℕ) (word : List ℕ) (r : Checked) → r ≡ checkedOf m w c word
-    → (r ≡ checkedOf m w c word) × ((checkedNumber r ≡ wordRefusal m w c (length word)) × (checkedFigures r ≡ checkFiguresOf m w c word))
+whole : (m w c : ℕ) (word : List ℕ) (r : Checked) → r ≡ checkedIn byteEdition m w c word
+    → (r ≡ checkedIn byteEdition m w c word) × ((checkedNumber r ≡ wordRefusalIn byteLimits m w c (length word))
+    × (checkedFigures r ≡ checkFiguresIn byteEdition m w c word))
 whole m w c word r e = (e, (ap checkedNumber e ∙ checked-number byteEdition m w c word, ap checkedFigures e ∙ checked-figures byteEdition m w c word))
 
 -- the lowest broken group is the one that contradicts
-named : (m w c : ℕ) (word : List ℕ) → length word ≡ m * w → ((p : ℕ) → getD word p 0 < 256) → brokenGroup m w c word ≡ wholeGroup m w c word
+named : (m w c : ℕ) (word : List ℕ) → length word ≡ m * w → ((p : ℕ) → getD word p 0 < 256)
+    → brokenGroupIn byteEdition m w c word ≡ wholeGroupIn byteEdition m w c word
 unfolding brokenGroupIn
 named m w c word size small = whole-groups byteEdition m w c word size small
 
@@ -41,17 +45,17 @@ test-requires : tie.Need-test-requires
 test-requires c κs = search needs
 
 answered : (c : tie.After-test) → let a = c .before .before .before .before .args in
-    checkedAt 0 (c .test .result .codeword) (c .test .result .group) ≡ checkedOf (a .m) (a .w) (a .c) (a .word .now)
+    checkedAt 0 (c .test .result .codeword) (c .test .result .group) ≡ checkedIn byteEdition (a .m) (a .w) (a .c) (a .word .now)
 unfolding checkedIn
 answered c =
     let t = c .before in
     let k = t .before .before in
     let a = k .before .args in
-    let e : wordRefusal (a .m) (a .w) (a .c) (length (a .word .now)) ≡ 0 = sym (t .before .word-refusal .ensures) ∙ t .if1 .left in
+    let e : wordRefusalIn byteLimits (a .m) (a .w) (a .c) (length (a .word .now)) ≡ 0 = sym (t .before .word-refusal .ensures) ∙ t .if1 .left in
     let g = good-of-word (a .m) (a .w) (a .c) (length (a .word .now)) e in
     let v = c .test .ensures .0 (g .0) (g .1) in
     ap (λ r. checkedAt r (c .test .result .codeword) (c .test .result .group)) (sym e)
-    ∙ ap₂ (checkedAt (wordRefusal (a .m) (a .w) (a .c) (length (a .word .now)))) (ap (λ (x : Tested). x .codeword) v)
+    ∙ ap₂ (checkedAt (wordRefusalIn byteLimits (a .m) (a .w) (a .c) (length (a .word .now)))) (ap (λ (x : Tested). x .codeword) v)
     (ap (λ (x : Tested). x .group) v ∙ named (a .m) (a .w) (a .c) (a .word .now) (g .1) (λ p. k .shared-slice-known .given p .fits))
 
 returns-2 : tie.Need-returns-2
@@ -65,7 +69,7 @@ cast-t10 c =
     let t = s .before in
     let k = t .before .before in
     let a = k .before .args in
-    let e : wordRefusal (a .m) (a .w) (a .c) (length (a .word .now)) ≡ 0 = sym (t .before .word-refusal .ensures) ∙ t .if1 .left in
+    let e : wordRefusalIn byteLimits (a .m) (a .w) (a .c) (length (a .word .now)) ≡ 0 = sym (t .before .word-refusal .ensures) ∙ t .if1 .left in
     let g = good-of-word (a .m) (a .w) (a .c) (length (a .word .now)) e in
     let v = ap (λ (x : Tested). x .group) (s .test .ensures .0 (g .0) (g .1)) in
     omega (arith, v, broken-most byteEdition (a .m) (a .w) (a .c) (a .word .now), g .0 .few)

@@ -1,6 +1,7 @@
 use mathlib.Core.Path.{sym, _∙_}
 use borrow.Author.Tests.{eq-eqb, ne-eqb, lt-ltb, le-ltb}
-use Rattle.shape.specs.Shapes.{shapeRefusalIn, madeOf}
+use Rattle.code.specs.Limits.{shapeRefusalIn}
+use Rattle.shape.specs.Shapes.{madeOf}
 use Rattle.shape.specs.Laws.{places-fit}
 use borrow.Author.Needs.{needs}
 use Rattle.shape.proofs.Shape.new.Statement.{statement}

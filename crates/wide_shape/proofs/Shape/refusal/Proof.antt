@@ -4,9 +4,9 @@ use native.Mathlib.Nat.{mul-le-mul-left}
 use native.Mathlib.Omega.{arith}
 use borrow.Author.Tests.{eq-eqb, ne-eqb, lt-ltb, le-ltb}
 use borrow.Author.Needs.{needs}
-use Rattle.shape.specs.Shapes.{shapeRefusalIn}
 use Rattle.wide_shape.proofs.Shape.refusal.Statement.{statement}
 use Rattle.wide_shape.proofs.Shape.refusal.Tie as tie
+use Rattle.code.specs.Limits.{shapeRefusalIn}
 
 -- no data is left of two places or fewer, and some of more
 few-left : (n : ℕ) → n ≤ 2 → n - 2 ≡ 0

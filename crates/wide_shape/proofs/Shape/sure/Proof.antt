@@ -1,5 +1,5 @@
 use mathlib.Core.Path.{sym}
-use Rattle.shape.specs.Laws.{sure-narrow, sure-wide}
+use Rattle.code.specs.LimitsLaws.{sure-narrow, sure-wide}
 use borrow.Author.Needs.{needs}
 use Rattle.wide_shape.proofs.Shape.sure.Statement.{statement}
 use Rattle.wide_shape.proofs.Shape.sure.Tie as tie

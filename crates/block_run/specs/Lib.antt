@@ -1,4 +1,0 @@
-pub mod Run
-pub mod LineLaws
-pub mod ChainLaws
-pub mod RunLaws

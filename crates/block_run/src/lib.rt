@@ -1,1 +1,0 @@
-// A whole run of the program rebuild: its laws are in specs/.

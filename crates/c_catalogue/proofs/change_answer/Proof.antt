@@ -1,0 +1,18 @@
+use borrow.Author.Needs.{needs}
+use Rattle.c_catalogue.proofs.change_answer.Statement.{statement}
+use Rattle.c_catalogue.proofs.change_answer.Tie as tie
+
+enum-known-changed : tie.Need-enum-known-changed
+enum-known-changed c = search needs
+
+enum-known-changed-2 : tie.Need-enum-known-changed-2
+enum-known-changed-2 c = search needs
+
+returns : tie.Need-returns
+returns c = cc
+
+returns-2 : tie.Need-returns-2
+returns-2 c = cc
+
+pub change-answer-spec : {M : Type 1} → statement M
+change-answer-spec = tie.close (tie.spec enum-known-changed enum-known-changed-2 returns returns-2)

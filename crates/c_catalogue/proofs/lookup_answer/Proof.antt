@@ -1,0 +1,18 @@
+use borrow.Author.Needs.{needs}
+use Rattle.c_catalogue.proofs.lookup_answer.Statement.{statement}
+use Rattle.c_catalogue.proofs.lookup_answer.Tie as tie
+
+enum-known-looked : tie.Need-enum-known-looked
+enum-known-looked c = search needs
+
+enum-known-looked-2 : tie.Need-enum-known-looked-2
+enum-known-looked-2 c = search needs
+
+returns : tie.Need-returns
+returns c = cc
+
+returns-2 : tie.Need-returns-2
+returns-2 c = cc
+
+pub lookup-answer-spec : {M : Type 1} → statement M
+lookup-answer-spec = tie.close (tie.spec enum-known-looked enum-known-looked-2 returns returns-2)

@@ -1,0 +1,46 @@
+use Rattle.catalogue_lines.specs.Splice.{HoldsRow}
+use Rattle.catalogue_lines.specs.SpliceLaws.{gone-is, shaped-is}
+use native.Mathlib.Omega.{arith}
+use mathlib.Core.Path.{refl, subst}
+use borrow.Author.Needs.{needs}
+use Rattle.catalogue_lines.proofs.entry_line.Statement.{statement}
+use Rattle.catalogue_lines.proofs.entry_line.Tie as tie
+
+returns : tie.Need-returns
+returns c = ((λ l. absurd (omega arith)), λ l. record { size = refl; most = omega arith; contents = refl })
+
+slice-aggregate-row-with : tie.Need-slice-aggregate-row-with
+slice-aggregate-row-with c = search needs
+
+row-with-requires : tie.Need-row-with-requires
+row-with-requires c κs = search needs
+
+returns-2 : tie.Need-returns-2
+returns-2 c =
+    let a = c .before .before .before .before .before .args in (
+      (λ l. subst (HoldsRow (c .row-with .result)) (gone-is (a .name .now) (a .revision) (a .m) (a .w) (a .c) (c .before .before .if2 .taken))
+          (c .row-with .ensures)),
+      λ l. absurd (omega arith),
+    )
+
+shaped-line-requires : tie.Need-shaped-line-requires
+shaped-line-requires c κs = search needs
+
+returns-3 : tie.Need-returns-3
+returns-3 c =
+    let a = c .before .before .before .before .args in (
+      (λ l. subst (HoldsRow (c .shaped-line .result)) (shaped-is (a .name .now) (a .revision) (a .m) (a .w) (a .c) (c .before .if2 .left))
+          (c .shaped-line .ensures)),
+      λ l. absurd (omega arith),
+    )
+
+pub entry-line-spec : {M : Type 1} → statement M
+entry-line-spec =
+    tie.close
+    (tie.spec
+    returns
+    slice-aggregate-row-with
+    row-with-requires
+    returns-2
+    shaped-line-requires
+    returns-3)

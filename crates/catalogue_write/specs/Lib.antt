@@ -1,2 +1,0 @@
-pub mod Splice
-pub mod SpliceLaws

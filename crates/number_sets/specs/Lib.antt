@@ -1,3 +1,0 @@
-pub mod Sets
-pub mod SetsLaws
-pub mod AscendingLaws

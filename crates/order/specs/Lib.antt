@@ -1,2 +1,0 @@
-pub mod RepairOrder
-pub mod RepairOrderLaws

@@ -1,3 +1,0 @@
-pub mod CellsLaws
-pub mod Holds
-pub mod WordLine

@@ -1,4 +1,0 @@
-pub mod Repair
-pub mod RepairLaws
-pub mod DemandTwo
-pub mod DemandTwoLaws

@@ -1,2 +1,0 @@
-pub mod Edition
-pub mod EditionLaws
