@@ -17,16 +17,12 @@ static int stopped(const char *step, uint8_t number) {
   return number;
 }
 
-/* Disk j holds place j of every group. If one of its places is refused, those that were lost before it are found again, so that the job knows
- * nothing of this loss: until lose_disk has returned 0, nothing may be served with it. */
+/* Disk j holds place j of every group. If one of its places is refused, those that were lost before it stay lost, and the job does not know of the
+ * others: until lose_disk has returned 0, nothing may be served with it. */
 static uint8_t lose_disk(size_t disk) {
-  for (size_t g = 0; g < M; g++) {
-    uint8_t number = axlebloom_lose(&desk, handle, g * W + disk);
-    if (!number) continue;
-    while (g-- > 0) axlebloom_find(&desk, handle, g * W + disk);
-    return number;
-  }
-  return 0;
+  uint8_t number = 0;
+  for (size_t g = 0; g < M && !number; g++) number = axlebloom_lose(&desk, handle, g * W + disk);
+  return number;
 }
 
 /* Serves the word with the bytes of these disks spoilt, and says whether it came back. */

@@ -102,10 +102,10 @@ extern "C" {
 /* The version of this header. MAJOR changes when programs must be recompiled, MINOR when something
  * is added, and PATCH in all other cases. */
 #define AXLEBLOOM_VERSION_MAJOR 1
-#define AXLEBLOOM_VERSION_MINOR 0
+#define AXLEBLOOM_VERSION_MINOR 1
 #define AXLEBLOOM_VERSION_PATCH 0
-#define AXLEBLOOM_VERSION 10000 /* 10000*major + 100*minor + patch */
-#define AXLEBLOOM_VERSION_TEXT "1.0.0"
+#define AXLEBLOOM_VERSION 10100 /* 10000*major + 100*minor + patch */
+#define AXLEBLOOM_VERSION_TEXT "1.1.0"
 
 /* The layouts of the two records that a program may save. Save this number with the record, and
  * lend a saved record only if the number is still the same: a record with another layout is not

@@ -31,7 +31,7 @@ extern "C" {
 
 /* The version of this header, as 10000*major + 100*minor + patch, and a function that returns the
  * version of the library itself. The two libraries of one release have the same version. */
-#define AXLEBLOOM_BLOCKS_VERSION 10000
+#define AXLEBLOOM_BLOCKS_VERSION 10100
 uint32_t axlebloom_blocks_version(void);
 
 /* The largest total length of all blocks, in bytes. */

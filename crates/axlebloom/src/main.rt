@@ -135,7 +135,7 @@ fn main() {
             write_help();
         }
         Request::Version => {
-            put(b"axlebloom 1.0.0\n");
+            put(b"axlebloom 1.1.0\n");
         }
         Request::Numbers => {
             write_numbers();

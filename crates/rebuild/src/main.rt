@@ -245,7 +245,7 @@ fn main() {
             write_help();
         }
         Request::Version => {
-            put(b"rebuild 1.0.0\n");
+            put(b"rebuild 1.1.0\n");
         }
         Request::Numbers => {
             write_numbers();

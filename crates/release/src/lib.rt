@@ -84,7 +84,7 @@ const STARTS: [usize; 34] = [
 pub fn version() -> u32
     ensures { λ r. ⌜ r ≡ libraryVersion ⌝ }
 {
-    10000
+    10100
 }
 
 // The layout of a desk.
