@@ -1,10 +1,11 @@
 -- A desk's history: lists of calls, refused ones included, what they answer and leave, and a ledger kept from the calls and their answers alone.
-use mathlib.Core.Bool.{Bool, true, false, not, _&&_, _||_, cond}
+use mathlib.Core.Bool.{Bool, true, not, _&&_, cond}
 use mathlib.Core.List.{List, [], _∷_}
 use Prim.Native.Nat.{ℕ, zero, suc, _+_}
 use lib.Dec.{eqb}
 use lib.ListN.{set}
 use Rattle.counting.specs.Count.{one}
+use Rattle.counting.specs.Sets.{isIn}
 use Rattle.desk_record.specs.declared.Desk.{Desk}
 use Rattle.desk_record.specs.Desks.{freshDesk}
 use Rattle.desk_open.specs.Open.{openOf}
@@ -48,13 +49,13 @@ step (Lose handle place) desk = record { number = (loseOf handle place desk) .nu
 step (Find handle place) desk = record { number = (findOf handle place desk) .number; value = 0; desk = (findOf handle place desk) .desk }
 
 -- the desk after a list of calls, the first first
-unfoldable pub afterCalls : Desk → List DeskCall → Desk
-afterCalls desk [] = desk
-afterCalls desk (call ∷ calls) = afterCalls (step call desk .desk) calls
+unfoldable pub deskAfter : Desk → List DeskCall → Desk
+deskAfter desk [] = desk
+deskAfter desk (call ∷ calls) = deskAfter (step call desk .desk) calls
 
 -- "on a desk grown from fresh by these calls alone"
 abbrev pub grown : List DeskCall → Desk
-grown calls = afterCalls freshDesk calls
+grown calls = deskAfter freshDesk calls
 
 -- A call and what it answered: all that its caller sees of the desk.
 pub record Answered : Type 0 where
@@ -149,11 +150,6 @@ noted ledger (a ∷ rest) = noted (note a ledger) rest
 -- the ledger of a list of calls on a desk that starts fresh
 abbrev pub ledgerOf : List DeskCall → Ledger
 ledgerOf calls = noted emptyLedger (deskAnswers freshDesk calls)
-
--- a number is in a list
-unfoldable pub isIn : ℕ → List ℕ → Bool
-isIn h [] = false
-isIn h (x ∷ xs) = eqb h x || isIn h xs
 
 -- how often a number is in a list
 unfoldable pub occurrences : ℕ → List ℕ → ℕ

@@ -17,7 +17,7 @@ use Rattle.desk_serve.specs.Serve.{serveNumber, serveBy, serveOf, servedOnce}
 use Rattle.desk_change.specs.Change.{changed, changeNumber, changeBy, changeOf}
 use Rattle.desk_record.specs.Laws.{sound-parts, sound-of}
 use Rattle.desk_open.specs.OpenLaws.{open-parts}
-use Rattle.desk_history.specs.History.{DeskCall, Fresh, Open, Serve, Read, Close, Lose, Find, step, afterCalls}
+use Rattle.desk_history.specs.History.{DeskCall, Fresh, Open, Serve, Read, Close, Lose, Find, step, deskAfter}
 use Rattle.desk_history.specs.PutLaws.{and-of}
 use Rattle.desk_history.specs.Effects.{holdsHandle}
 use Rattle.desk_history.specs.EffectsLaws.{open-by-slot, opened-open, opened-new, opened-job, other-job, handle-parts}
@@ -72,8 +72,8 @@ module _ (h : ℕ) (desk : Desk) (F : Fit desk) (o : isOpen desk h ≡ true) whe
       ∙ o
 
 pub others : (h : ℕ) (calls : List DeskCall) (desk : Desk) → Fit desk → isOpen desk h ≡ true → areOthers h calls ≡ true
-    → (isOpen (afterCalls desk calls) h ≡ true) × (jobAt (afterCalls desk calls) (slotOf h) ≡ jobAt desk (slotOf h))
-unfolding afterCalls areOthers
+    → (isOpen (deskAfter desk calls) h ≡ true) × (jobAt (deskAfter desk calls) (slotOf h) ≡ jobAt desk (slotOf h))
+unfolding deskAfter areOthers
 others h [] desk F o e = (o, refl)
 others h (call ∷ calls) desk F o e =
     let p = and-of (isOther h call) (areOthers h calls) e in
@@ -82,11 +82,11 @@ others h (call ∷ calls) desk F o e =
 
 -- serve, read, close, lose and find on an open handle answer after such calls as before them
 pub unmoved : (h : ℕ) (word : List ℕ) (calls : List DeskCall) (desk : Desk) → length (desk .jobs) ≡ 8 → isSound desk ≡ true → isOpen desk h ≡ true
-    → areOthers h calls ≡ true → Alike h word (afterCalls desk calls) desk
+    → areOthers h calls ≡ true → Alike h word (deskAfter desk calls) desk
 unmoved h word calls desk size s o e =
     let F : Fit desk = record { size = size; sound = sound-parts desk s } in
     let G = fit-all calls desk F in
-    alone h word (afterCalls desk calls) desk (G .size) size (sound-of (afterCalls desk calls) (G .sound)) s (others h calls desk F o e .1)
+    alone h word (deskAfter desk calls) desk (G .size) size (sound-of (deskAfter desk calls) (G .sound)) s (others h calls desk F o e .1)
 
 open-given : (m w c : ℕ) (marks : List ℕ) (desk : Desk) → Fit desk → (r : ℕ) → openNumber m w c marks desk ≡ r → openBy r m w c marks desk .number ≡ 0
     → Given m w c marks (openBy r m w c marks desk .desk) (openBy r m w c marks desk .handle)

@@ -7,13 +7,13 @@
 use mathlib.Core.Path.{_≡_}
 use mathlib.Core.List.{List, _++_}
 use Rattle.desk_record.specs.Desks.{freshDesk}
-use Rattle.desk_history.specs.History.{DeskCall, afterCalls, grown, deskAnswers, noted, ledgerOf}
+use Rattle.desk_history.specs.History.{DeskCall, deskAfter, grown, deskAnswers, noted, ledgerOf}
 use Rattle.desk_history.specs.Theorem.{DeskAgrees}
 use Rattle.desk_history.specs.TheoremLaws.{agrees}
 
 -- calls on a copy saved after `before`
 pub record Saved (before calls : List DeskCall) : Type 0 where
-  pub desk : afterCalls (grown before) calls ≡ grown (before ++ calls)
+  pub desk : deskAfter (grown before) calls ≡ grown (before ++ calls)
   pub told : deskAnswers freshDesk (before ++ calls) ≡ deskAnswers freshDesk before ++ deskAnswers (grown before) calls
   pub ledger : noted (ledgerOf before) (deskAnswers (grown before) calls) ≡ ledgerOf (before ++ calls)
-  pub agrees : DeskAgrees (afterCalls (grown before) calls) (noted (ledgerOf before) (deskAnswers (grown before) calls))
+  pub agrees : DeskAgrees (deskAfter (grown before) calls) (noted (ledgerOf before) (deskAnswers (grown before) calls))

@@ -8,18 +8,18 @@ use mathlib.Core.Path.{_≡_, refl, sym, ap, _∙_}
 use mathlib.Core.List.{List, [], _∷_, _++_}
 use Rattle.desk_record.specs.declared.Desk.{Desk}
 use Rattle.desk_record.specs.Desks.{freshDesk}
-use Rattle.desk_history.specs.History.{DeskCall, step, afterCalls, grown, Answered, deskAnswers, Ledger, emptyLedger, note, noted, ledgerOf}
+use Rattle.desk_history.specs.History.{DeskCall, step, deskAfter, grown, Answered, deskAnswers, Ledger, emptyLedger, note, noted, ledgerOf}
 use Rattle.desk_history.specs.TheoremLaws.{fresh-kept, kept-all, agrees}
 use Rattle.desk_history.specs.Saved.{Saved}
 
-after-append : (desk : Desk) (before calls : List DeskCall) → afterCalls (afterCalls desk before) calls ≡ afterCalls desk (before ++ calls)
-unfolding afterCalls
+after-append : (desk : Desk) (before calls : List DeskCall) → deskAfter (deskAfter desk before) calls ≡ deskAfter desk (before ++ calls)
+unfolding deskAfter
 after-append desk [] calls = refl
 after-append desk (call ∷ before) calls = after-append (step call desk .desk) before calls
 
 answers-append : (desk : Desk) (before calls : List DeskCall)
-    → deskAnswers desk (before ++ calls) ≡ deskAnswers desk before ++ deskAnswers (afterCalls desk before) calls
-unfolding deskAnswers afterCalls
+    → deskAnswers desk (before ++ calls) ≡ deskAnswers desk before ++ deskAnswers (deskAfter desk before) calls
+unfolding deskAnswers deskAfter
 answers-append desk [] calls = refl
 answers-append desk (call ∷ before) calls =
     ap (λ l. record { call = call; number = step call desk .number; value = step call desk .value } ∷ l) (answers-append (step call desk .desk) before calls)
@@ -37,6 +37,6 @@ saved before calls = record {
       sym (noted-append emptyLedger (deskAnswers freshDesk before) (deskAnswers (grown before) calls))
       ∙ ap (noted emptyLedger) (sym (answers-append freshDesk before calls));
   agrees =
-      agrees (afterCalls (grown before) calls) (noted (ledgerOf before) (deskAnswers (grown before) calls))
+      agrees (deskAfter (grown before) calls) (noted (ledgerOf before) (deskAnswers (grown before) calls))
       (kept-all calls (grown before) (ledgerOf before) (kept-all before freshDesk emptyLedger fresh-kept));
 }

@@ -19,7 +19,7 @@ use Rattle.desk_change.specs.Change.{changed, placeNumber, changeNumber, change
 use Rattle.desk_open.specs.OpenLaws.{open-parts}
 use Rattle.code.specs.Refusals.{refuse, _orElse_}
 use Rattle.code.specs.RefusalsLaws.{orElse-zero}
-use Rattle.desk_history.specs.History.{DeskCall, Fresh, Open, Serve, Read, Close, Lose, Find, Step, step, afterCalls}
+use Rattle.desk_history.specs.History.{DeskCall, Fresh, Open, Serve, Read, Close, Lose, Find, Step, step, deskAfter}
 use Rattle.desk_history.specs.PutLaws.{put-size}
 use Rattle.desk_history.specs.EffectsLaws.{slot-below, fresh-size, fresh-sound, opened-sound, handle-parts, closed-sound, served-sound}
 use Rattle.desk_history.specs.EffectsLaws.{replaced-sound, changed-key}
@@ -89,8 +89,8 @@ module _ (desk : Desk) (F : Fit desk) where
   fit-step (Lose H place) = change-fit 1 H place (omega arith) (changeNumber 1 H place desk) refl
   fit-step (Find H place) = change-fit 0 H place (omega arith) (changeNumber 0 H place desk) refl
 
-pub fit-all : (calls : List DeskCall) (desk : Desk) → Fit desk → Fit (afterCalls desk calls)
-unfolding afterCalls
+pub fit-all : (calls : List DeskCall) (desk : Desk) → Fit desk → Fit (deskAfter desk calls)
+unfolding deskAfter
 fit-all [] desk F = F
 fit-all (call ∷ calls) desk F = fit-all calls (step call desk .desk) (fit-step desk F call)
 

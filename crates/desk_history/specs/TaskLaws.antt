@@ -30,7 +30,7 @@ use Rattle.desk_change.specs.Change.{changed, placeNumber, changeNumber, change
 use Rattle.desk_change.specs.ChangeLaws.{place-parts}
 use Rattle.desk_job.specs.JobLaws.{judged-marked}
 use Rattle.desk_open.specs.OpenLaws.{open-parts}
-use Rattle.desk_history.specs.History.{DeskCall, Fresh, Open, Serve, Read, Close, Lose, Find, step, afterCalls, deskAnswers}
+use Rattle.desk_history.specs.History.{DeskCall, Fresh, Open, Serve, Read, Close, Lose, Find, step, deskAfter, deskAnswers}
 use Rattle.desk_history.specs.PutLaws.{and-of, put-other}
 use Rattle.desk_history.specs.Effects.{holdsHandle}
 use Rattle.desk_history.specs.EffectsLaws.{slot-below, open-by-slot, served-job, replaced-job, handle-done}
@@ -137,9 +137,9 @@ module _ (m w c h : ℕ) (desk : Desk) (F : Fit desk) (o : isOpen desk h ≡ tru
 
 pub task-follows : (m w c h : ℕ) (calls : List DeskCall) (desk : Desk) → Fit desk → isOpen desk h ≡ true → (marks : List ℕ) → length marks ≡ m * w
     → taskOf (jobAt desk (slotOf h)) ≡ newJob m w c marks h → areKeeping h calls ≡ true
-    → (isOpen (afterCalls desk calls) h ≡ true) × (length (marksAfter h marks (deskAnswers desk calls)) ≡ m * w)
-    × (taskOf (jobAt (afterCalls desk calls) (slotOf h)) ≡ newJob m w c (marksAfter h marks (deskAnswers desk calls)) h)
-unfolding afterCalls areKeeping deskAnswers marksAfter
+    → (isOpen (deskAfter desk calls) h ≡ true) × (length (marksAfter h marks (deskAnswers desk calls)) ≡ m * w)
+    × (taskOf (jobAt (deskAfter desk calls) (slotOf h)) ≡ newJob m w c (marksAfter h marks (deskAnswers desk calls)) h)
+unfolding deskAfter areKeeping deskAnswers marksAfter
 task-follows m w c h [] desk F o marks size task e = (o, size, task)
 task-follows m w c h (call ∷ calls) desk F o marks size task e =
     let p = and-of (isKeeping h call) (areKeeping h calls) e in
@@ -174,7 +174,7 @@ open-fit-of m w c marks desk F = fit-step desk F (Open m w c marks)
 pub works : (m w c : ℕ) (marks : List ℕ) (desk : Desk) → Fit desk → openOf m w c marks desk .number ≡ 0 → (calls : List DeskCall)
     → areKeeping (openOf m w c marks desk .handle) calls ≡ true
     → Works m w c (marksAfter (openOf m w c marks desk .handle) marks (deskAnswers (openOf m w c marks desk .desk) calls))
-    (openOf m w c marks desk .handle) (afterCalls (openOf m w c marks desk .desk) calls)
+    (openOf m w c marks desk .handle) (deskAfter (openOf m w c marks desk .desk) calls)
 works m w c marks desk F z calls e =
     let h = openOf m w c marks desk .handle in
     let d = openOf m w c marks desk .desk in

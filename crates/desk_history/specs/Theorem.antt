@@ -4,6 +4,7 @@ use mathlib.Core.Bool.{true, false, not}
 use mathlib.Core.List.{List}
 use Prim.Native.Nat.{ℕ, _<_, _≤_}
 use lib.ListN.{length}
+use Rattle.counting.specs.Sets.{isIn}
 use Rattle.code.specs.Refusals.{refuse}
 use Rattle.byte_edition.specs.Edition.{byteEdition}
 use Rattle.code_services.specs.Recover.{recoverIn}
@@ -16,7 +17,7 @@ use Rattle.desk_job.specs.Figures.{lostCounts}
 use Rattle.desk_job.specs.declared.Job.{Job}
 use Rattle.desk_job.specs.Jobs.{jobMarks}
 use Rattle.desk_serve.specs.Serve.{jobRecovery}
-use Rattle.desk_history.specs.History.{Ledger, Pattern, isIn, isDistinct, isLive, servesOf, patternOf}
+use Rattle.desk_history.specs.History.{Ledger, Pattern, isDistinct, isLive, servesOf, patternOf}
 use Rattle.desk_history.specs.Effects.{closed, served}
 
 -- the shape and the n marks of a job, under its handle

@@ -10,6 +10,7 @@ use borrow.Author.Tests.{eqb-true, eqb-false, eq-eqb, ne-eqb, not-true}
 use lib.Dec.{eqb}
 use lib.ListN.{length, replicate}
 use lib.Seq.{take-at}
+use Rattle.counting.specs.Sets.{isIn}
 use Rattle.code.specs.Marks.{excess}
 use Rattle.code.specs.Refusals.{refuse, _orElse_}
 use Rattle.byte_edition.specs.Edition.{byteEdition}
@@ -30,10 +31,10 @@ use Rattle.desk_change.specs.ChangeLaws.{place-parts, changed-marks}
 use Rattle.desk_record.specs.Laws.{sound-of, false-of, taken-of}
 use Rattle.desk_open.specs.OpenLaws.{Openable, open-parts}
 use Rattle.desk_serve.specs.ServeLaws.{job-room}
-use Rattle.desk_history.specs.History.{DeskCall, Fresh, Open, Serve, Read, Close, Lose, Find, step, afterCalls, grown, deskAnswers}
+use Rattle.desk_history.specs.History.{DeskCall, Fresh, Open, Serve, Read, Close, Lose, Find, step, deskAfter, grown, deskAnswers}
 use Rattle.desk_history.specs.History.{Ledger, emptyLedger, ifDone, noteMark, noteBy, note, noted, ledgerOf}
 use Rattle.counting.specs.Count.{one}
-use Rattle.desk_history.specs.History.{isIn, occurrences, isDistinct, isLive, servesOf, Pattern, patternIn, patternOf, withMark}
+use Rattle.desk_history.specs.History.{occurrences, isDistinct, isLive, servesOf, Pattern, patternIn, patternOf, withMark}
 use Rattle.desk_history.specs.SoundLaws.{serve-parts, change-parts}
 use Rattle.desk_history.specs.PutLaws.{and-of, and-to, put-size}
 use Rattle.desk_history.specs.Effects.{holdsHandle, opened, closed, replaced, served, SameKey}
@@ -54,7 +55,7 @@ fresh-shut h =
     ∙ ap (λ b. b && eqb (emptyJob .handle) h) empty-not
 
 pub fresh-kept : Kept freshDesk emptyLedger
-unfolding isLive isIn occurrences isDistinct
+unfolding isLive occurrences isDistinct
 fresh-kept = record {
   size = fresh-size;
   sound = fresh-sound;
@@ -110,7 +111,7 @@ module _ (m w c : ℕ) (marks : List ℕ) (desk : Desk) (ledger : Ledger) (K : K
   not-closed = false-of _ (λ e. true≢false (sym (K .shut H e) ∙ not-issued))
 
   open-live : (h : ℕ) → isOpen then h ≡ isLive openLedger h
-  unfolding isLive isIn
+  unfolding isLive
   open-live h = is-open h ∙ ap (λ b. eqb h H || b) (K .live h) ∙ go (eqb h H) refl
     where
       go : (b : Bool) → eqb h H ≡ b
@@ -119,7 +120,6 @@ module _ (m w c : ℕ) (marks : List ℕ) (desk : Desk) (ledger : Ledger) (K : K
       go false e = refl
 
   open-numbers : (h : ℕ) → isIn h (H ∷ ledger .issued) ≡ true → (1 ≤ issueOf h) × (issueOf h ≤ desk .t + 1)
-  unfolding isIn
   open-numbers h = go (eqb h H) refl
     where
       go : (b : Bool) → eqb h H ≡ b → (b || isIn h (ledger .issued)) ≡ true → (1 ≤ issueOf h) × (issueOf h ≤ desk .t + 1)
@@ -150,7 +150,7 @@ module _ (m w c : ℕ) (marks : List ℕ) (desk : Desk) (ledger : Ledger) (K : K
   old-marks h o = ap (patternFor h) (opened-job m w c marks desk (K .size) (K .sound) (P .judged) (P .early) (P .room) h o)
 
   open-kept : Kept then openLedger
-  unfolding isIn isDistinct
+  unfolding isDistinct
   open-kept = record {
     size = put-size desk (K .size) (desk .t + 1) (freeSlot desk) (P .room) (newJob m w c marks H);
     sound = opened-sound m w c marks desk (K .size) (K .sound) (P .judged) (P .early) (P .room);
@@ -193,7 +193,7 @@ module _ (desk : Desk) (ledger : Ledger) (K : Kept desk ledger) (H : ℕ) (o : i
   closeLedger = record { issued = ledger .issued; closed = H ∷ ledger .closed; serves = ledger .serves; patterns = ledger .patterns }
 
   close-live : (h : ℕ) → isOpen (closed desk (K .size) (K .sound) H o) h ≡ isLive closeLedger h
-  unfolding isLive isIn
+  unfolding isLive
   close-live h = closed-open desk (K .size) (K .sound) H o h ∙ ap (λ b. b && not (eqb h H)) (K .live h) ∙ go (eqb h H)
     where
       go : (b : Bool) → (isIn h (ledger .issued) && not (isIn h (ledger .closed)) && not b) ≡ (isIn h (ledger .issued) && not (b || isIn h (ledger .closed)))
@@ -201,7 +201,6 @@ module _ (desk : Desk) (ledger : Ledger) (K : Kept desk ledger) (H : ℕ) (o : i
       go false = and-true (isIn h (ledger .issued) && not (isIn h (ledger .closed)))
 
   close-shut : (h : ℕ) → isIn h (H ∷ ledger .closed) ≡ true → isIn h (ledger .issued) ≡ true
-  unfolding isIn
   close-shut h = go (eqb h H) refl
     where
       go : (b : Bool) → eqb h H ≡ b → (b || isIn h (ledger .closed)) ≡ true → isIn h (ledger .issued) ≡ true
@@ -384,8 +383,8 @@ kept-step (Close H) desk ledger K = close-step H desk ledger K (handleRefusal H 
 kept-step (Lose H place) desk ledger K = change-step 1 H place desk ledger (omega arith) K (changeNumber 1 H place desk) refl
 kept-step (Find H place) desk ledger K = change-step 0 H place desk ledger (omega arith) K (changeNumber 0 H place desk) refl
 
-pub kept-all : (calls : List DeskCall) (desk : Desk) (ledger : Ledger) → Kept desk ledger → Kept (afterCalls desk calls) (noted ledger (deskAnswers desk calls))
-unfolding afterCalls deskAnswers noted
+pub kept-all : (calls : List DeskCall) (desk : Desk) (ledger : Ledger) → Kept desk ledger → Kept (deskAfter desk calls) (noted ledger (deskAnswers desk calls))
+unfolding deskAfter deskAnswers noted
 kept-all [] desk ledger K = K
 kept-all (call ∷ calls) desk ledger K = kept-all calls (step call desk .desk) _ (kept-step call desk ledger K)
 
