@@ -3,15 +3,14 @@
  *   box spread  M W C FILE DISK...   writes the W disks of FILE
  *   box mend    M W C DISK...        tests everything that is present, and rewrites the disks that have lost something
  *   box collect M W C DISK... FILE   writes FILE from what is present, and changes no disk
- *
  * M, W and C are a shape as in axlebloom.h, with C at most 3. Disk j, the j-th DISK counted from 0, holds place j of every group. So any C disks may
  * be lost and, in every word, two more places. Exit status: 0 done, 1 refused or failed, 2 wrong use.
  *
- * A DISK that is missing or has a damaged header is lost. So is everything after the end of a DISK that ends too early, whatever cannot be read, and
- * whatever the text file DISK.lost lists, if it exists, one stretch per line: the offset of its first byte in DISK, a blank, its number of bytes. If
- * mend is refused with 9, list a byte that you suspect and mend again; mend removes the list when it rewrites the disk. A wrong suspicion can pass
- * if too few checks are left; mend and collect then stop at the checksum of FILE, which every header holds. A DISK with a sound header of another
- * shape, number or file is refused and left alone. New files are NAME.box-part until all of them are complete.
+ * A DISK that is missing or has a damaged header is lost. So is everything after the end of a DISK that ends too early, what cannot be read, and what
+ * the text file DISK.lost lists, if it exists, one stretch per line: offset in DISK, blank, number of bytes. If mend is refused with 9, list a byte
+ * that you suspect and mend again; mend removes the list when it rewrites the disk. A wrong suspicion can pass if too few checks are left; mend and
+ * collect then stop at the checksum of FILE, which every header holds. A DISK with a sound header of another shape, number or file is refused and
+ * left alone. New files are NAME.box-part until all of them are complete.
  *
  * A disk is a header and blocks. FILE is cut into k = M*(W-C) - 2 data blocks at a time, as long as one rebuild allows, the last k as short as
  * possible and filled up with zeros. With their check blocks they are M*W; byte x of each makes word x. A disk has M of them, one of each group. */
