@@ -49,7 +49,7 @@ pub fn or_else(first: u8, second: u8) -> u8
     if first != 0 { first } else { second }
 }
 
-// Out of sale: nothing new is encoded with so many checks, and old words with them stay readable.
+// Out of sale: services that make something new of a shape refuse so many checks; old words with them stay readable.
 pub const RETIRED_CHECKS: usize = 4;
 
 // 29 for a number of checks that is out of sale; else 0.
