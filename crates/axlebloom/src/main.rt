@@ -76,7 +76,7 @@ fn entry(number: u8, advice: &[u8]) -> bool {
     program_io::entry(number, advice, b"axlebloom: standard output")
 }
 
-// The same with what the number means in this program.
+// An entry of the list of numbers, with what the number means in this program.
 fn entry_as(number: u8, meaning: &[u8], advice: &[u8]) -> bool {
     program_io::entry_as(number, meaning, advice, b"axlebloom: standard output")
 }
@@ -135,7 +135,7 @@ fn main() {
             write_help();
         }
         Request::Version => {
-            put(b"axlebloom 1.1.0\n");
+            put(b"axlebloom 1.1.1\n");
         }
         Request::Numbers => {
             write_numbers();

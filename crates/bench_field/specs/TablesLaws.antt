@@ -49,7 +49,7 @@ pub powers-at : (i : ℕ) → i < 256 → getD powers i 0 ≡ power 8 285 2 i
 unfolding rule power powers
 powers-at i h = chain-at 0 powers (and-l (chain 1 powers) (allBelow 255 logRight) rule-holds) i h ∙ ap (power 8 285 2) (zero-add i)
 
--- "2 to the power 255 is 1"
+-- 2 to the power 255 is 1
 pub power-255 : power 8 285 2 255 ≡ 1
 unfolding powers
 power-255 = sym (powers-at 255 (lit< tt))

@@ -12,19 +12,6 @@ ghost use Rattle.block_constants.specs.Reduced.{ReducedTo, Pivoted};
 ghost use Rattle.block_constants.specs.Equations.{equationOf};
 ghost use Rattle.block_constants.specs.FreeRows.{firstOf, secondOf, Cleared, Mixed, oneTest, oneValue, twoFirst, twoSecond, OneRow, TwoRows};
 
-// A row times f.
-pub fn scale(row: [u8; 16], f: u8) -> [u8; 16]
-    ensures { λ r. ⌜ ((j : ℕ) → j < 16 → getD r j 0 ≡ times byteEdition (getD row j 0) f) ⌝ }
-{
-    let mut r = row;
-    let mut j: usize = 0;
-    while j < 16 {
-        r[j] = gf256::shifted_product(row[j], f);
-        j += 1;
-    }
-    r
-}
-
 // A row plus f times the row b.
 fn add(row: [u8; 16], b: [u8; 16], f: u8) -> [u8; 16]
     ensures { λ r. ⌜ ((j : ℕ) → j < 16 → getD r j 0 ≡ getD row j 0 ⊕ times byteEdition (getD b j 0) f) ⌝ }
@@ -36,6 +23,14 @@ fn add(row: [u8; 16], b: [u8; 16], f: u8) -> [u8; 16]
         j += 1;
     }
     r
+}
+
+// A row times f.
+pub fn scale(row: [u8; 16], f: u8) -> [u8; 16]
+    ensures { λ r. ⌜ ((j : ℕ) → j < 16 → getD r j 0 ≡ times byteEdition (getD row j 0) f) ⌝ }
+{
+    let zero = [0u8; 16];
+    add(zero, row, f)
 }
 
 // The pivot row b in place of row t, and each other row plus its entry in column p times b.

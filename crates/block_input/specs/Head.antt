@@ -1,4 +1,4 @@
--- The three lines before the blocks, and their refusals. "Each line's own refusals": 14 for a line that can't be read, is missing or out of order.
+-- The three lines before the blocks, and their refusals. Each line has refusals of its own: 14 for a line that can't be read, is missing or out of order.
 use mathlib.Core.Bool.{Bool, cond}
 use mathlib.Core.List.{List, [], _∷_}
 use Prim.Native.Nat.{ℕ}

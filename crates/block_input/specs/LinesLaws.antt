@@ -7,6 +7,7 @@ use native.Mathlib.Omega.{arith}
 use borrow.Author.Tests.{lt-ltb, ltb-true}
 use lib.Dec.{eqb, ltb, leb·suc-suc}
 use lib.ListN.{length, take, drop, length-drop}
+use lib.Seq.{length-take-le}
 use Rattle.text.specs.FieldLaws.{take-part}
 use Rattle.text.specs.Fields.{upTo}
 use Rattle.block_input.specs.Lines.{untilLineFeed, afterLine, hasFeed, settled, nextStart}
@@ -19,6 +20,10 @@ line-most (x ∷ xs) = go (eqb x 10) (line-most xs)
     go : (b : Bool) → length (untilLineFeed xs) ≤ length xs → length (cond b [] (x ∷ untilLineFeed xs)) ≤ suc (length xs)
     go true h = omega arith
     go false h = omega arith
+
+-- the first line as it is lent
+pub line-lent : (input : List ℕ) (n : ℕ) → n ≡ length (untilLineFeed input) → n ≡ length (take n input)
+line-lent input n e = let k = line-most input in sym (length-take-le n input (omega arith))
 
 pub take-line : (xs : List ℕ) → take (length (untilLineFeed xs)) xs ≡ untilLineFeed xs
 take-line = take-part 10

@@ -116,7 +116,7 @@ module _ (m w c size : ℕ) (marks : List ℕ) where
       alike zero xs ys = refl
       alike (suc r) xs ys = which (eqb (suc r) 9) (suc r) xs ys
 
--- ---- "Memory is bounded however long the input": its first 68,612 bytes tell all
+-- ---- The first 68,612 bytes of an input tell all, so that memory is bounded however long it is
 pub out-cut : (input : List ℕ) → outputOf (take room input) ≡ outputOf input
 unfolding shapeOut afterShape afterMarks afterLength
 out-cut input =
@@ -167,7 +167,7 @@ together-more came [] = sym (append-nil came)
 together-more came (part ∷ parts) =
     together-more (came ++ part) parts ∙ append-assoc came part (together [] parts) ∙ ap (λ l. came ++ l) (sym (together-more part parts))
 
--- "As with the session: the whole input to the whole output is a definition", however the input is cut
+-- The whole output is that of the whole input, however the input is cut
 pub run-output : {came : List ℕ} {parts : List (List ℕ)} {output : List ℕ} → RebuildRun came parts output → output ≡ outputOf (together came parts)
 unfolding together
 run-output (ended came) = answered-is came

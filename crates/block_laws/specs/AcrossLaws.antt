@@ -177,6 +177,10 @@ module _ (m w c : ℕ) (good : GoodIn byteLimits m w c) (marks bound : List ℕ)
           go r d k zero z = d z
           go r d k (suc i) z = k z
 
+-- the number of free places under another name
+pub free-as : {marks bound : List ℕ} {k n p q : ℕ} → k ≡ n → FreePlaces marks bound k p q → FreePlaces marks bound n p q
+free-as {marks} {bound} {p = p} {q = q} e F = subst (λ k. FreePlaces marks bound k p q) e F
+
 -- ---- with the rows that were made
 module _ (m w c : ℕ) (good : GoodIn byteLimits m w c) (marks bound : List ℕ) (K : BoundAll m w c marks bound) (long : length marks ≡ m * w)
     (low : excess m w c marks ≤ 2) (rows : List ℕ) (A : AcrossRows m w c bound rows) (size : ℕ) (blocks : List ℕ)

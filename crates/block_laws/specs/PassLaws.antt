@@ -19,15 +19,16 @@ use Rattle.code.specs.Marks.{lost, lostIn}
 use Rattle.code.specs.Stretch.{stretch, withStretch}
 use Rattle.code.specs.StretchLaws.{with-length, with-inside, stretch-with, stretch-ext, stretch-count}
 use Rattle.code.specs.Limits.{GoodIn}
+use Rattle.code.specs.LimitsLaws.{places-most}
 use Rattle.byte_edition.specs.Edition.{byteEdition}
 use Rattle.block_constants.specs.Reduced.{dot, ReducedTo}
 use Rattle.block_constants.specs.ReducedLaws.{dot-ext}
-use Rattle.block_sums.specs.Sums.{blockSum, ZeroUntil, Aimed, SumsWritten}
+use Rattle.block_sums.specs.Sums.{blockSum, Named, ZeroUntil, Aimed, SumsWritten}
 use Rattle.code_engine.specs.PositionsLaws.{lost-below}
 use Rattle.block_laws.specs.Group.{checkOf, masked, AgreesIn, Mendable, StandsFor}
 use Rattle.block_laws.specs.GroupLaws.{stands, gives, mendable, mended, agrees-fills}
 use Rattle.block_laws.specs.Steps.{Given, Limit, placeSymbol, AcrossPut, AcrossUpTo, GroupKept, KeptUpTo, Targets, GroupFilled, GroupsFilled}
-use Rattle.block_laws.specs.StepsLaws.{limit-none, mul-within, row-inside, add-mul, other-stretch}
+use Rattle.block_laws.specs.StepsLaws.{limit-none, mul-within, size-small, row-inside, add-mul, other-stretch}
 
 -- the sum of the blocks of a group is that of its symbols
 pub sum-dot : (size : ℕ) (blocks : List ℕ) (first w : ℕ) (constants : List ℕ) (i x : ℕ) (a : ℕ → ℕ) → ((j : ℕ) → j < w → getD constants (i * w + j) 0 ≡ a j)
@@ -283,6 +284,40 @@ kept-laid w part long t n few =
 -- the part of group g lies within 960 bytes
 pub kept-inside : (m w c g : ℕ) → GoodIn byteLimits m w c → g < m → g * (4 * w) + 4 * w ≤ 960
 kept-inside m w c g G l = let a = row-inside g m (4 * w) l in let b = mul-within m (4 * w) 15 64 (omega arith) (omega arith) in omega arith
+
+-- the parts of group g of m: its places, and its rows that are kept
+pub record PartsFit (m w g : ℕ) : Type 0 where
+  pub own : g * w + w ≤ m * w
+  pub places : m * w ≤ 240
+  pub rows : g * (4 * w) + 4 * w ≤ 960
+
+pub parts-fit : (m w c g : ℕ) → GoodIn byteLimits m w c → g < m → PartsFit m w g
+parts-fit m w c g G l = record { own = row-inside g m w l; places = places-most G; rows = kept-inside m w c g G l }
+
+-- the rows of a group from row t on, and where the group starts
+pub record RowsFit (w c g t : ℕ) : Type 0 where
+  pub first : t * w ≤ 64
+  pub later : (c - t) * w ≤ 64
+  pub start : g * w ≤ 240
+
+pub rows-fit : (w c g t : ℕ) → w ≤ 16 → t ≤ 4 → c ≤ 4 → g < 15 → RowsFit w c g t
+rows-fit w c g t narrow few checks groups = record {
+  first = mul-within t w 4 16 few narrow;
+  later = mul-within (c - t) w 4 16 (omega arith) narrow;
+  start = mul-within g w 15 16 (omega arith) narrow;
+}
+
+-- the blocks of group g and rows of constants for them are there
+pub group-named : (w g size rows : ℕ) (blocks constants : List ℕ) → 1 ≤ w → w ≤ 16 → (g * w + w) * size ≤ length blocks → length blocks ≤ 65536 → rows ≤ 4
+    → rows * w ≤ length constants → Named size blocks (g * w) w rows constants
+group-named w g size rows blocks constants wide narrow inside most few laid = record {
+  inside = inside;
+  most = most;
+  small = size-small (g * w + w) size (length blocks) (omega arith) inside most;
+  few = omega arith;
+  rows-few = few;
+  laid = laid;
+}
 
 -- the rows from row t on
 pub kept-from : (w c g : ℕ) (bound part : List ℕ) (P : GroupKept w c g bound part) (t n : ℕ) → t + n ≤ 4 → (r : ℕ) → r < n → (j : ℕ) → j < w

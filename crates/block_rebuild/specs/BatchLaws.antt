@@ -69,7 +69,7 @@ module _ (m w c size : ℕ) (blocks : List ℕ) (carried : ℕ → List ℕ) (B 
       sym (blocks-fit (placeCount m w) size (length blocks) (B .long) (λ z. let s = B .some in omega arith) most) in
       rw (marked, f, judged)
 
-  -- "encoding a batch is a rebuild with the check places marked"
+  -- Encoding a batch is a rebuild with the check places marked.
   pub batch-encoded : BatchEncoded m w c size blocks carried
   batch-encoded = elim (ends m w c size blocks marks) [
     | before r e n d ↦ absurd (n (e ∙ none))

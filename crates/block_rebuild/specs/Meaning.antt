@@ -1,4 +1,4 @@
--- What block rebuild means, in the words of Recover. It is stated of rebuildOf, with which the contract of blocks::rebuild is an equation.
+-- What block rebuild means, in the words of Recover. It is stated of rebuildOf, with which the contract of block_rebuild::rebuild is an equation.
 use mathlib.Core.Path.{_≡_}
 use mathlib.Core.Logic.{_↔_}
 use mathlib.Core.List.{List}
@@ -50,7 +50,7 @@ module _ (m w c size : ℕ) (blocks marks : List ℕ) where
 abbrev pub asRebuild : Outcome → RebuildOutcome
 asRebuild o = record { number = o .number; word = 0; group = o .group; blocks = o .word; marks = o .marks }
 
--- data in the data places of every word: "encoding a batch is a rebuild with the check places marked"
+-- data in the data places of every word, to be encoded by a rebuild with the check places marked
 pub record Batch (m w c size : ℕ) (blocks : List ℕ) (carried : ℕ → List ℕ) : Type 0 where
   pub good : GoodIn byteLimits m w c
   pub some : 0 < size

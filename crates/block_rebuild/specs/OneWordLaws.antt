@@ -80,7 +80,7 @@ module _ (m w c : ℕ) (blocks marks : List ℕ) (long : length blocks ≡ place
         (e ∙ orElse-first (marksRefusalIn byteLimits m w c marks) _ k ∙ sym (same-refusal m w c blocks marks long)) n
   ]
 
-  -- "L = 1 is recover on n bytes"
+  -- A rebuild with L = 1 is a recovery of n bytes.
   pub one-word : rebuildOf m w c 1 blocks marks ≡ asRebuild (recoverIn byteEdition m w c blocks marks)
   one-word = elim (ends m w c 1 blocks marks) [
     | before r e n d ↦ d ∙ ap asRebuild (sym (refused-alike r e n))

@@ -34,12 +34,6 @@ fn more_rows(t: &mut [u8], h: usize)
     }
 }
 
-fn at_most(a: usize, most: usize) -> usize
-    ensures { λ r. ⌜ r ≡ min a most ⌝ }
-{
-    if a < most { a } else { most }
-}
-
 // Copies n bytes of one list, from a place on, to a place of another.
 fn copy_part(blocks: &[u8], from: usize, n: usize, t: &mut [u8], h: usize)
     requires { ⌜ (length (now t) ≤ 65536) × (length (now blocks) ≤ 65536) ⌝ }
@@ -59,7 +53,7 @@ fn load(blocks: &[u8], size: usize, at: usize, have: usize, n: usize, t: &mut [u
     requires { ⌜ ((e : ℕ) → e < 4 → e < have → at + e * size + n ≤ length (now blocks)) ⌝ }
     ensures { λ _. ⌜ Loaded size at have n (now (blocks .entry)) (now (t .entry)) (now (t .exit)) ⌝ }
 {
-    let few = at_most(have, 4);
+    let few = buffers::smaller(have, 4);
     let mut e: usize = 0;
     let mut h: usize = 96;
     while e < few {
@@ -206,7 +200,7 @@ fn strip_sums(
     buffers::set_all(sums, 0);
     let mut j: usize = 0;
     while j < count {
-        let have = at_most(count - j, 16);
+        let have = buffers::smaller(count - j, 16);
         make_tables(blocks, size, (first + j) * size + x, have, n, t);
         add_every_row(t, found, j / 4, rows, sums);
         j += 16;
@@ -263,7 +257,7 @@ fn zero_strips(
     let mut sums = [0u8; 384];
     let mut x: usize = 0;
     while x < limit {
-        let n = at_most(limit - x, 96);
+        let n = buffers::smaller(limit - x, 96);
         strip_sums(
             blocks,
             size,
@@ -376,7 +370,7 @@ fn write_strips(
     let mut sums = [0u8; 384];
     let mut x: usize = 0;
     while x < size {
-        let n = at_most(size - x, 96);
+        let n = buffers::smaller(size - x, 96);
         strip_sums(
             blocks,
             size,

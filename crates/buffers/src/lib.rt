@@ -1,6 +1,7 @@
-// Whole buffers copied and cleared.
+// Whole buffers copied and cleared, and the smaller of two lengths.
 ghost use mathlib.Core.Path.{_≡_};
 ghost use mathlib.Core.Bool.{true, false};
+ghost use Prim.Native.Nat.{min};
 ghost use lib.ListN.{length, replicate};
 
 // Copies one buffer over another of the same length; one of another length is left as it is.
@@ -38,4 +39,11 @@ pub fn clear_if(test: bool, buffer: &mut [u8])
     if test {
         set_all(buffer, 0);
     }
+}
+
+// The smaller of two numbers.
+pub fn smaller(a: usize, b: usize) -> usize
+    ensures { λ r. ⌜ r ≡ min a b ⌝ }
+{
+    if a < b { a } else { b }
 }

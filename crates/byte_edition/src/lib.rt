@@ -222,17 +222,11 @@ const SECOND_4: [u8; 16] = [
 
 const NONE: [u8; 16] = [0; 16];
 
-fn at_most_16(n: usize) -> usize
-    ensures { λ r. ⌜ r ≡ min n 16 ⌝ }
-{
-    if n < 16 { n } else { 16 }
-}
-
 // The first sixteen bytes of a part, followed by zeros where it has fewer.
 pub fn padded(part: &[u8]) -> [u8; 16]
     ensures { λ r. ⌜ Padded (now (part .entry)) r ⌝ }
 {
-    let n = at_most_16(part.len());
+    let n = buffers::smaller(part.len(), 16);
     let mut x = [0u8; 16];
     let mut i: usize = 0;
     while i < n {

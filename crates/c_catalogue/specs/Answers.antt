@@ -1,22 +1,20 @@
 -- What Lookup, Put, Remove and Compact give to C: the number, 0 for done, and the figures; 0 on a refusal.
-use Rattle.catalogue_calls.specs.declared.Looked.{Looked}
-use Rattle.catalogue_calls.specs.declared.Changed.{Changed}
-use Rattle.catalogue_compact.specs.declared.Compacted.{Compacted}
+use mathlib.Core.List.{List}
+use Prim.Native.Nat.{ℕ}
+use lib.ListN.{getD}
 use Rattle.c_catalogue.specs.declared.LookupAnswer.{LookupAnswer}
 use Rattle.c_catalogue.specs.declared.ChangeAnswer.{ChangeAnswer}
 use Rattle.c_catalogue.specs.declared.CompactAnswer.{CompactAnswer}
 
 -- revision and shape
-abbrev pub lookupAnswer : Looked → LookupAnswer
-lookupAnswer (Looked.Found revision m w c) = record { number = 0; m = m; w = w; c = c; revision = revision }
-lookupAnswer (Looked.Refused r) = record { number = r; m = 0; w = 0; c = 0; revision = 0 }
+abbrev pub lookupAnswer : ℕ → List ℕ → LookupAnswer
+lookupAnswer r figures =
+    record { number = r; m = getD figures 1 0; w = getD figures 2 0; c = getD figures 3 0; revision = getD figures 0 0 }
 
 -- the new text's length and the name's revision
-abbrev pub changeAnswer : Changed → ChangeAnswer
-changeAnswer (Changed.Done size revision) = record { number = 0; revision = revision; size = size }
-changeAnswer (Changed.Refused r) = record { number = r; revision = 0; size = 0 }
+abbrev pub changeAnswer : ℕ → List ℕ → ChangeAnswer
+changeAnswer r figures = record { number = r; revision = getD figures 1 0; size = getD figures 0 0 }
 
 -- the text's length
-abbrev pub compactAnswer : Compacted → CompactAnswer
-compactAnswer (Compacted.Done size) = record { number = 0; size = size }
-compactAnswer (Compacted.Refused r) = record { number = r; size = 0 }
+abbrev pub compactAnswer : ℕ → List ℕ → CompactAnswer
+compactAnswer r figures = record { number = r; size = getD figures 0 0 }

@@ -3,8 +3,9 @@ use catalogue_calls::Changed;
 use catalogue_calls::Looked;
 use catalogue_compact::Compacted;
 ghost use mathlib.Core.Path.{_≡_};
-ghost use Rattle.catalogue_calls.specs.Calls.{lookedOf, putOf, putBuffer, removeOf, removeBuffer};
-ghost use Rattle.catalogue_compact.specs.Compaction.{compactOf, compactBuffer};
+ghost use Rattle.catalogue_calls.specs.Calls.{lookupRefusal, lookupFigures, lookedNumber, lookedFigures, putRefusal, putFigures, putBuffer};
+ghost use Rattle.catalogue_calls.specs.Calls.{removeRefusal, removeFigures, removeBuffer, changedNumber, changedFigures};
+ghost use Rattle.catalogue_compact.specs.Compaction.{compactRefusal, compactFigures, compactBuffer, compactedNumber, compactedFigures};
 ghost use Rattle.c_catalogue.specs.Answers.{lookupAnswer, changeAnswer, compactAnswer};
 
 // What Lookup gives to C: the number, 0 for done, and the shape and the revision; 0 on a refusal.
@@ -34,7 +35,7 @@ pub struct CompactAnswer {
 
 // The number and the figures of what Lookup answers.
 fn lookup_answer(looked: Looked) -> LookupAnswer
-    ensures { λ r. ⌜ r ≡ lookupAnswer looked ⌝ }
+    ensures { λ r. ⌜ r ≡ lookupAnswer (lookedNumber looked) (lookedFigures looked) ⌝ }
 {
     match looked {
         Looked::Found { revision, m, w, c } => LookupAnswer {
@@ -56,7 +57,7 @@ fn lookup_answer(looked: Looked) -> LookupAnswer
 
 // The number and the figures of what Put and Remove answer.
 fn change_answer(changed: Changed) -> ChangeAnswer
-    ensures { λ r. ⌜ r ≡ changeAnswer changed ⌝ }
+    ensures { λ r. ⌜ r ≡ changeAnswer (changedNumber changed) (changedFigures changed) ⌝ }
 {
     match changed {
         Changed::Done { size, revision } => ChangeAnswer {
@@ -74,7 +75,7 @@ fn change_answer(changed: Changed) -> ChangeAnswer
 
 // The number and the length of what Compact answers.
 fn compact_answer(compacted: Compacted) -> CompactAnswer
-    ensures { λ r. ⌜ r ≡ compactAnswer compacted ⌝ }
+    ensures { λ r. ⌜ r ≡ compactAnswer (compactedNumber compacted) (compactedFigures compacted) ⌝ }
 {
     match compacted {
         Compacted::Done(size) => CompactAnswer { number: 0, size },
@@ -84,7 +85,7 @@ fn compact_answer(compacted: Compacted) -> CompactAnswer
 
 #[no_mangle]
 pub extern "C" fn axlebloom_lookup(text: &[u8], size: usize, name: &[u8]) -> LookupAnswer
-    ensures { λ r. ⌜ r ≡ lookupAnswer (lookedOf (now (text .entry)) size (now (name .entry))) ⌝ }
+    ensures { λ r. ⌜ r ≡ lookupAnswer (lookupRefusal (now (text .entry)) size (now (name .entry))) (lookupFigures (now (text .entry)) size (now (name .entry))) ⌝ }
 {
     lookup_answer(catalogue_calls::lookup(text, size, name))
 }
@@ -99,7 +100,7 @@ pub extern "C" fn axlebloom_put(
     text: &mut [u8],
     size: usize,
 ) -> ChangeAnswer
-    ensures answer { λ r. ⌜ r ≡ changeAnswer (putOf m w c (now (name .entry)) expected (now (text .entry)) size) ⌝ }
+    ensures answer { λ r. ⌜ r ≡ changeAnswer (putRefusal m w c (now (name .entry)) expected (now (text .entry)) size) (putFigures m w c (now (name .entry)) expected (now (text .entry)) size) ⌝ }
     ensures text { λ _. ⌜ now (text .exit) ≡ putBuffer m w c (now (name .entry)) expected (now (text .entry)) size ⌝ }
 {
     change_answer(catalogue_calls::put(m, w, c, name, expected, text, size))
@@ -112,7 +113,7 @@ pub extern "C" fn axlebloom_remove(
     text: &mut [u8],
     size: usize,
 ) -> ChangeAnswer
-    ensures answer { λ r. ⌜ r ≡ changeAnswer (removeOf (now (name .entry)) expected (now (text .entry)) size) ⌝ }
+    ensures answer { λ r. ⌜ r ≡ changeAnswer (removeRefusal (now (name .entry)) expected (now (text .entry)) size) (removeFigures (now (name .entry)) expected (now (text .entry)) size) ⌝ }
     ensures text { λ _. ⌜ now (text .exit) ≡ removeBuffer (now (name .entry)) expected (now (text .entry)) size ⌝ }
 {
     change_answer(catalogue_calls::remove(name, expected, text, size))
@@ -120,7 +121,7 @@ pub extern "C" fn axlebloom_remove(
 
 #[no_mangle]
 pub extern "C" fn axlebloom_compact(text: &mut [u8], size: usize) -> CompactAnswer
-    ensures answer { λ r. ⌜ r ≡ compactAnswer (compactOf (now (text .entry)) size) ⌝ }
+    ensures answer { λ r. ⌜ r ≡ compactAnswer (compactRefusal (now (text .entry)) size) (compactFigures (now (text .entry)) size) ⌝ }
     ensures text { λ _. ⌜ now (text .exit) ≡ compactBuffer (now (text .entry)) size ⌝ }
 {
     compact_answer(catalogue_compact::compact(text, size))

@@ -10,7 +10,7 @@ ghost use Rattle.desk_close.specs.Read.{readOf, countedNumber};
 ghost use Rattle.desk_close.specs.Close.{closeOf};
 ghost use Rattle.desk_serve.specs.Serve.{serveOf};
 ghost use Rattle.desk_change.specs.Change.{loseOf, findOf};
-ghost use Rattle.c_desk.specs.DeskCalls.{OpensNumber, handleOr, ReadsNumber, servedOr, ClosesNumber, ServesMended, ChangesNumber};
+ghost use Rattle.c_desk.specs.DeskCalls.{OpensNumber, handleOr, ReadsNumber, servedOr, ServesMended, ChangesNumber};
 
 // The number of what Open answers, with the handle written where it is wanted.
 fn opened_number(opened: Opened, handle: &mut u64) -> u8
@@ -82,7 +82,7 @@ pub extern "C" fn axlebloom_read(desk: &Desk, handle: u64, served: &mut u32) -> 
 
 #[no_mangle]
 pub extern "C" fn axlebloom_close(desk: &mut Desk, handle: u64) -> u8
-    ensures { λ r. ⌜ ClosesNumber (closeOf handle (now (desk .entry))) (now (desk .exit)) r ⌝ }
+    ensures { λ r. ⌜ ChangesNumber (closeOf handle (now (desk .entry))) (now (desk .exit)) r ⌝ }
 {
     let d = *desk;
     let r = desk_close::close(d, handle);

@@ -3,7 +3,6 @@
 use c_answers::Mended;
 ghost use mathlib.Core.Path.{_≡_};
 ghost use lib.ListN.{length, getD};
-ghost use Rattle.answers.specs.Answers.{mendingAt};
 ghost use Rattle.code.specs.Limits.{shapeRefusalIn, bufferRefusalIn};
 ghost use Rattle.code_services.specs.Check.{checkedIn};
 ghost use Rattle.code_services.specs.Places.{extractedDataIn, checkMarksRefusalIn, checkMarksBufferIn};
@@ -12,7 +11,7 @@ ghost use Rattle.code_services.specs.Recover.{recoverIn};
 ghost use Rattle.code_services.specs.Repair.{repairIn};
 ghost use Rattle.code_services.specs.Encode.{encodeRefusalIn, encodedBufferIn};
 ghost use Rattle.wide_shape.specs.Edition.{wideLimits, wideEdition};
-ghost use Rattle.c_answers.specs.Mends.{mendingMended};
+ghost use Rattle.c_answers.specs.Mends.{outcomeMended};
 ghost use Rattle.c_answers.specs.Numbers.{checkedMended};
 ghost use Rattle.answers.specs.Figures.{figuresIn};
 
@@ -103,7 +102,7 @@ pub extern "C" fn axlebloom_wide_repair(
     word: &mut [u16],
     marks: &mut [u8],
 ) -> Mended
-    ensures answer { λ r. ⌜ r ≡ mendingMended (mendingAt ((repairIn wideEdition m w c g (now (word .entry)) (now (marks .entry))) .number) ((repairIn wideEdition m w c g (now (word .entry)) (now (marks .entry))) .group)) ⌝ }
+    ensures answer { λ r. ⌜ r ≡ outcomeMended (repairIn wideEdition m w c g (now (word .entry)) (now (marks .entry))) ⌝ }
     ensures word { λ _. ⌜ now (word .exit) ≡ (repairIn wideEdition m w c g (now (word .entry)) (now (marks .entry))) .word ⌝ }
     ensures marks { λ _. ⌜ now (marks .exit) ≡ (repairIn wideEdition m w c g (now (word .entry)) (now (marks .entry))) .marks ⌝ }
 {
@@ -118,7 +117,7 @@ pub extern "C" fn axlebloom_wide_recover(
     word: &mut [u16],
     marks: &mut [u8],
 ) -> Mended
-    ensures answer { λ r. ⌜ r ≡ mendingMended (mendingAt ((recoverIn wideEdition m w c (now (word .entry)) (now (marks .entry))) .number) ((recoverIn wideEdition m w c (now (word .entry)) (now (marks .entry))) .group)) ⌝ }
+    ensures answer { λ r. ⌜ r ≡ outcomeMended (recoverIn wideEdition m w c (now (word .entry)) (now (marks .entry))) ⌝ }
     ensures word { λ _. ⌜ now (word .exit) ≡ (recoverIn wideEdition m w c (now (word .entry)) (now (marks .entry))) .word ⌝ }
     ensures marks { λ _. ⌜ now (marks .exit) ≡ (recoverIn wideEdition m w c (now (word .entry)) (now (marks .entry))) .marks ⌝ }
 {

@@ -1,7 +1,8 @@
 -- Lookup, Put and Remove of named shapes, in a text that stands at the start of a lent buffer.
+use mathlib.Core.Path.{_≡_}
 use mathlib.Core.Bool.{Bool, not, _||_}
 use mathlib.Core.List.{List, [], _∷_}
-use Prim.Native.Nat.{ℕ, zero, suc}
+use Prim.Native.Nat.{ℕ}
 use lib.Dec.{eqb, ltb}
 use lib.ListN.{length}
 use Rattle.code.specs.Refusals.{refuse, _orElse_, unlessRefused}
@@ -35,20 +36,19 @@ unfoldable pub lookupRefusal : List ℕ → ℕ → List ℕ → ℕ
 lookupRefusal buffer size name = textRefusal buffer size orElse nameRefusal name orElse foundRefusal buffer size name
 
 -- "Lookup gives shape and revision."
-abbrev pub lookedAt : ℕ → Entry → Looked
-lookedAt zero e = Looked.Found (e .revision) (e .m) (e .w) (e .c)
-lookedAt (suc r) e = Looked.Refused (suc r)
+abbrev pub entryFigures : Entry → List ℕ
+entryFigures e = e .revision ∷ e .m ∷ e .w ∷ e .c ∷ []
 
--- of any call
-unfoldable pub lookedOf : List ℕ → ℕ → List ℕ → Looked
-lookedOf buffer size name = lookedAt (lookupRefusal buffer size name) (stored buffer size name)
+-- the figures of any lookup, none on a refusal
+unfoldable pub lookupFigures : List ℕ → ℕ → List ℕ → List ℕ
+lookupFigures buffer size name = unlessRefused (lookupRefusal buffer size name) (entryFigures (stored buffer size name)) []
 
--- the number given back, 0 for done
+-- the number of an answer to a lookup, 0 for done
 abbrev pub lookedNumber : Looked → ℕ
 lookedNumber (Looked.Found revision m w c) = 0
 lookedNumber (Looked.Refused r) = r
 
--- and revision, m, w and c, none on a refusal
+-- the figures of an answer to a lookup: revision, m, w and c, none on a refusal
 abbrev pub lookedFigures : Looked → List ℕ
 lookedFigures (Looked.Found revision m w c) = revision ∷ m ∷ w ∷ c ∷ []
 lookedFigures (Looked.Refused r) = []
@@ -88,45 +88,40 @@ removeRefusal name expected buffer size =
     orElse changeRefusal buffer size name 0 0 0
 
 -- "the put answers the new text's length and that revision", "a remove what a put answers"
-abbrev pub changedAs : ℕ → ℕ → ℕ → Changed
-changedAs zero size revision = Changed.Done size revision
-changedAs (suc r) size revision = Changed.Refused (suc r)
+abbrev pub changeFigures : List ℕ → ℕ → List ℕ → ℕ → ℕ → ℕ → List ℕ
+changeFigures buffer size name m w c = length (changedText buffer size name m w c) ∷ (changedEntry buffer size name m w c) .revision ∷ []
 
--- of any put
-unfoldable pub putOf : ℕ → ℕ → ℕ → List ℕ → ℕ → List ℕ → ℕ → Changed
-putOf m w c name expected buffer size =
-    changedAs (putRefusal m w c name expected buffer size) (length (changedText buffer size name m w c)) ((changedEntry buffer size name m w c) .revision)
+-- the figures of any put, none on a refusal
+unfoldable pub putFigures : ℕ → ℕ → ℕ → List ℕ → ℕ → List ℕ → ℕ → List ℕ
+putFigures m w c name expected buffer size =
+    unlessRefused (putRefusal m w c name expected buffer size) (changeFigures buffer size name m w c) []
 
 -- the buffer afterwards: the new text, and "bytes past a new text stay"; on a refusal all bytes stay
 unfoldable pub putBuffer : ℕ → ℕ → ℕ → List ℕ → ℕ → List ℕ → ℕ → List ℕ
 putBuffer m w c name expected buffer size =
     unlessRefused (putRefusal m w c name expected buffer size) (withText (changedText buffer size name m w c) buffer) buffer
 
--- of any remove
-unfoldable pub removeOf : List ℕ → ℕ → List ℕ → ℕ → Changed
-removeOf name expected buffer size =
-    changedAs (removeRefusal name expected buffer size) (length (changedText buffer size name 0 0 0)) ((changedEntry buffer size name 0 0 0) .revision)
+-- the figures of any remove, none on a refusal
+unfoldable pub removeFigures : List ℕ → ℕ → List ℕ → ℕ → List ℕ
+removeFigures name expected buffer size = unlessRefused (removeRefusal name expected buffer size) (changeFigures buffer size name 0 0 0) []
 
--- the buffer afterwards
+-- the buffer after a remove
 unfoldable pub removeBuffer : List ℕ → ℕ → List ℕ → ℕ → List ℕ
 removeBuffer name expected buffer size =
     unlessRefused (removeRefusal name expected buffer size) (withText (changedText buffer size name 0 0 0) buffer) buffer
 
--- the number given back, 0 for done
+-- the number of an answer to a put or a remove, 0 for done
 abbrev pub changedNumber : Changed → ℕ
 changedNumber (Changed.Done size revision) = 0
 changedNumber (Changed.Refused r) = r
 
--- and the new length and the revision, none on a refusal
+-- the figures of an answer to a put or a remove: the new length and the revision, none on a refusal
 abbrev pub changedFigures : Changed → List ℕ
 changedFigures (Changed.Done size revision) = size ∷ revision ∷ []
 changedFigures (Changed.Refused r) = []
 
--- ---- a change, after 16 to 19
-unfoldable pub changeAnswer : List ℕ → ℕ → List ℕ → ℕ → ℕ → ℕ → Changed
-changeAnswer buffer size name m w c =
-    changedAs (changeRefusal buffer size name m w c) (length (changedText buffer size name m w c)) ((changedEntry buffer size name m w c) .revision)
-
-unfoldable pub changeBuffer : List ℕ → ℕ → List ℕ → ℕ → ℕ → ℕ → List ℕ
-changeBuffer buffer size name m w c =
-    unlessRefused (changeRefusal buffer size name m w c) (withText (changedText buffer size name m w c) buffer) buffer
+-- Of a put, a remove, or what is left of them after 16 to 19: the number, the figures and the buffer afterwards, by the number of the refusal.
+abbrev pub ChangeLeaves : ℕ → List ℕ → ℕ → List ℕ → ℕ → ℕ → ℕ → Changed → List ℕ → Type 0
+ChangeLeaves refusal buffer size name m w c r after =
+    (changedNumber r ≡ refusal) × ((changedFigures r ≡ unlessRefused refusal (changeFigures buffer size name m w c) [])
+    × (after ≡ unlessRefused refusal (withText (changedText buffer size name m w c) buffer) buffer))

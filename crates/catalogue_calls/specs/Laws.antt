@@ -28,40 +28,35 @@ use Rattle.catalogue_lines.specs.Splice.{SpliceFits, splicedIn}
 use Rattle.catalogue_lines.specs.SpliceLaws.{first-fits, first-spliced, drop-take}
 use Rattle.catalogue_calls.specs.declared.Looked.{Looked}
 use Rattle.catalogue_calls.specs.declared.Changed.{Changed}
-use Rattle.catalogue_calls.specs.Calls.{textRefusal, nameRefusal, stored, foundRefusal, lookupRefusal, lookedAt, lookedOf, lookedNumber, changedEntry}
-use Rattle.catalogue_calls.specs.Calls.{changedText, expectedRefusal, changeRefusal, putRefusal, removeRefusal, changedAs, putOf, putBuffer, removeOf}
-use Rattle.catalogue_calls.specs.Calls.{removeBuffer, changedNumber, changeAnswer, changeBuffer}
+use Rattle.catalogue_calls.specs.Calls.{textRefusal, nameRefusal, stored, foundRefusal, lookupRefusal, lookupFigures, lookedNumber, lookedFigures}
+use Rattle.catalogue_calls.specs.Calls.{changedEntry, changedText, expectedRefusal, changeRefusal, putRefusal, removeRefusal, putFigures, putBuffer}
+use Rattle.catalogue_calls.specs.Calls.{removeFigures, removeBuffer, changedNumber, changedFigures, ChangeLeaves}
 
 -- ---- Lookup
-pub looked-number : (buffer : List ℕ) (size : ℕ) (name : List ℕ) → lookedNumber (lookedOf buffer size name) ≡ lookupRefusal buffer size name
-unfolding lookedOf
-looked-number buffer size name = go (lookupRefusal buffer size name)
-  where
-    go : (r : ℕ) → lookedNumber (lookedAt r (stored buffer size name)) ≡ r
-    go zero = refl
-    go (suc r) = refl
-
 module _ (buffer : List ℕ) (size : ℕ) (name : List ℕ) where
-  looked : (r : ℕ) → lookupRefusal buffer size name ≡ r → lookedAt r (stored buffer size name) ≡ lookedOf buffer size name
-  unfolding lookedOf
-  looked r e = rw e
+  abbrev Looks : Looked → Type 0
+  Looks r = (lookedNumber r ≡ lookupRefusal buffer size name) × (lookedFigures r ≡ lookupFigures buffer size name)
 
-  pub looked-bad : formed buffer size ≡ false → Looked.Refused 16 ≡ lookedOf buffer size name
+  unfound : (r : ℕ) → lookupRefusal buffer size name ≡ suc r → Looks (Looked.Refused (suc r))
+  unfolding lookupFigures
+  unfound r e = rw e (refl, refl)
+
+  pub looked-bad : formed buffer size ≡ false → Looks (Looked.Refused 16)
   unfolding lookupRefusal textRefusal
-  looked-bad e = looked 16 (rw e)
+  looked-bad e = unfound 15 (rw e)
 
   module _ (whole : formed buffer size ≡ true) where
-    pub looked-unnamed : goodName name ≡ false → Looked.Refused 17 ≡ lookedOf buffer size name
+    pub looked-unnamed : goodName name ≡ false → Looks (Looked.Refused 17)
     unfolding lookupRefusal textRefusal nameRefusal
-    looked-unnamed e = looked 17 (rw (whole, e))
+    looked-unnamed e = unfound 16 (rw (whole, e))
 
-    pub looked-none : goodName name ≡ true → (stored buffer size name) .m ≡ 0 → Looked.Refused 18 ≡ lookedOf buffer size name
+    pub looked-none : goodName name ≡ true → (stored buffer size name) .m ≡ 0 → Looks (Looked.Refused 18)
     unfolding lookupRefusal textRefusal nameRefusal foundRefusal
-    looked-none e z = looked 18 (rw (whole, e, eq-eqb ((stored buffer size name) .m) 0 z))
+    looked-none e z = unfound 17 (rw (whole, e, eq-eqb ((stored buffer size name) .m) 0 z))
 
-    pub looked-found : goodName name ≡ true → ((stored buffer size name) .m ≡ 0 → ⊥) → lookedAt 0 (stored buffer size name) ≡ lookedOf buffer size name
+    looked-zero : goodName name ≡ true → ((stored buffer size name) .m ≡ 0 → ⊥) → lookupRefusal buffer size name ≡ 0
     unfolding lookupRefusal textRefusal nameRefusal foundRefusal
-    looked-found e n = looked 0 (rw (whole, e, ne-eqb ((stored buffer size name) .m) 0 n))
+    looked-zero e n = rw (whole, e, ne-eqb ((stored buffer size name) .m) 0 n)
 
 -- ---- what a change writes
 pub name-short : (name : List ℕ) → goodName name ≡ true → length name ≤ 16
@@ -69,6 +64,11 @@ unfolding goodName
 name-short name e =
     leb→le (length name) 16
     (and-l (leb (length name) 16) _ (and-r (leb 1 (length name)) _ (true-is (leb 1 (length name) && (leb (length name) 16 && nameBytes name)) e)))
+
+-- ---- a refusal, of a change, a put or a remove
+refused : (buffer : List ℕ) (size : ℕ) (name : List ℕ) (m w c refusal r : ℕ) → refusal ≡ suc r
+    → ChangeLeaves refusal buffer size name m w c (Changed.Refused (suc r)) buffer
+refused buffer size name m w c refusal r e = rw e (refl, (refl, refl))
 
 module _ (found : Found) (buffer : List ℕ) (size : ℕ) (name : List ℕ) (p : FoundIn found buffer size name) where
   abbrev cat : Catalogue
@@ -97,23 +97,20 @@ module _ (found : Found) (buffer : List ℕ) (size : ℕ) (name : List ℕ) (p :
   pub floor-is : found .floor ≡ cat .floor
   floor-is = ap (λ (f : Found). f .floor) (p .is)
 
-  pub order : (place .from ≤ place .to) × (place .to ≤ size) × (size ≤ length buffer) × (size ≤ 4096)
+  -- the first line of version 2 is not shorter than the one that stands there
+  pub order : (place .from ≤ place .to) × (place .to ≤ size) × (size ≤ length buffer) × (size ≤ 4096) × (found .first ≤ length (firstLine 2 (found .floor)))
   order =
       let s = spot in
       let n : length (take size buffer) ≡ size = length-take-le size buffer (held .held) in
       let i = s .inside in
-      (s .order, omega arith, held .held, held .most)
-
-  -- the first line of version 2 is not shorter than the one that stands there
-  pub first-more : found .first ≤ length (firstLine 2 (found .floor))
-  first-more =
       let g = first-grows (cat .version) (cat .floor) (cat .floor) (cat .list) (cat-version cat (formed-good buffer size (p .whole))) (omega arith) in
-      rw (first-is, floor-is) g
+      (s .order, omega arith, held .held, held .most, rw (first-is, floor-is) g)
 
-  pub looked-place : goodName name ≡ true → (place .m ≡ 0 → ⊥) → Looked.Found (place .revision) (place .m) (place .w) (place .c) ≡ lookedOf buffer size name
+  pub looked-place : goodName name ≡ true → (place .m ≡ 0 → ⊥) → Looks buffer size name (Looked.Found (place .revision) (place .m) (place .w) (place .c))
+  unfolding lookupFigures
   looked-place e n =
       let s = spot in
-      rw (s .revision, s .m, s .w, s .c) (looked-found buffer size name (p .whole) e (λ z. n (s .m ∙ z)))
+      rw (looked-zero buffer size name (p .whole) e (λ z. n (s .m ∙ z)), s .revision, s .m, s .w, s .c) (refl, refl)
 
   pub found-revision : cond (eqb (place .m) 0) 0 (place .revision) ≡ foundRevision (stored buffer size name)
   found-revision = let s = spot in rw (s .m, s .revision)
@@ -121,161 +118,168 @@ module _ (found : Found) (buffer : List ℕ) (size : ℕ) (name : List ℕ) (p :
   pub last-revision : cond (eqb (place .revision) 0) (found .floor) (place .revision) ≡ lastRevision (cat .floor) (stored buffer size name)
   last-revision = let s = spot in rw (s .revision, floor-is)
 
-  module _ (m w c : ℕ) where
-    abbrev entry : Entry
-    entry = changedEntry buffer size name m w c
+  pub change-last : (m w c last : ℕ) → last ≡ lastRevision (cat .floor) (stored buffer size name) → last ≡ 65535
+      → ChangeLeaves (changeRefusal buffer size name m w c) buffer size name m w c (Changed.Refused 20) buffer
+  unfolding changeRefusal
+  change-last m w c last l e =
+      refused buffer size name m w c (changeRefusal buffer size name m w c) 19
+      (rw (eq-eqb (lastRevision (cat .floor) (stored buffer size name)) 65535 (sym l ∙ e)))
 
-    abbrev lines : List ℕ
-    lines = linesOf (putIn entry (cat .list))
+-- ---- a change after 20: what is found in the text, and the revision that the next one is counted from
+pub record Changing (found : Found) (buffer : List ℕ) (size : ℕ) (name : List ℕ) (last : ℕ) : Type 0 where
+  pub found-in : FoundIn found buffer size name
+  pub last-is : last ≡ lastRevision ((catalogueIn buffer size) .floor) (stored buffer size name)
+  pub more : last ≡ 65535 → ⊥
 
-    -- a refusal
-    refused : (r : ℕ) → changeRefusal buffer size name m w c ≡ suc r
-        → (Changed.Refused (suc r) ≡ changeAnswer buffer size name m w c) × (buffer ≡ changeBuffer buffer size name m w c)
-    unfolding changeAnswer changeBuffer
-    refused r e = rw e (refl, refl)
+module _ (found : Found) (buffer : List ℕ) (size : ℕ) (name : List ℕ) (last : ℕ) (g : Changing found buffer size name last) (m w c : ℕ) where
+  abbrev entry : Entry
+  entry = changedEntry buffer size name m w c
 
-    module _ (last : ℕ) (l : last ≡ lastRevision (cat .floor) (stored buffer size name)) where
-      pub change-last : last ≡ 65535
-          → (Changed.Refused 20 ≡ changeAnswer buffer size name m w c) × (buffer ≡ changeBuffer buffer size name m w c)
-      unfolding changeRefusal
-      change-last e = refused 19 (rw (eq-eqb (lastRevision (cat .floor) (stored buffer size name)) 65535 (sym l ∙ e)))
+  abbrev lines : List ℕ
+  lines = linesOf (putIn entry ((catalogueIn buffer size) .list))
 
-      entry-is : record { name = name; revision = last + 1; m = m; w = w; c = c } ≡ entry
-      unfolding nextEntry
-      entry-is = rw l
+  -- the first line as it stands, and that of version 2
+  abbrev standing : List ℕ
+  standing = old found buffer size name (g .found-in)
 
-      entry-name : entry .name ≡ name
-      unfolding nextEntry
-      entry-name = refl
+  abbrev first : List ℕ
+  first = firstLine 2 (found .floor)
 
-      pub new-revision : last + 1 ≡ entry .revision
-      unfolding nextEntry
-      new-revision = ap (λ r. r + 1) l
+  -- the name's new line
+  abbrev line : List ℕ
+  line = entryLine (record { name = name; revision = last + 1; m = m; w = w; c = c })
 
-      module _ (more : last ≡ 65535 → ⊥) (line : List ℕ) (is : line ≡ entryLine (record { name = name; revision = last + 1; m = m; w = w; c = c })) where
-        abbrev moved : ℕ
-        moved = place .from + length line + (size - place .to)
+  abbrev moved : ℕ
+  moved = found .place .from + length line + (size - found .place .to)
 
-        -- the text with the name's line in its place, and the first line as it was
-        middle : old ++ lines ≡ take (place .from) buffer ++ (line ++ take (size - place .to) (drop (place .to) buffer))
-        middle =
-            let o = order in
-            let k : line ≡ entryLine entry = is ∙ ap entryLine entry-is in
-            spot .spliced entry entry-name ∙ rw (← k, take-take (place .from) size buffer (omega arith), drop-take (place .to) size buffer)
+  abbrev pub end : ℕ
+  end = moved + (length first - found .first)
 
-        middle-long : length (old ++ lines) ≡ moved
-        middle-long =
-            let o = order in
-            let a : length (take (place .from) buffer) ≡ place .from = length-take-le (place .from) buffer (omega arith) in
-            let d : length (drop (place .to) buffer) ≡ length buffer - place .to = length-drop (place .to) buffer in
-            let b : length (take (size - place .to) (drop (place .to) buffer)) ≡ size - place .to =
-            length-take-le (size - place .to) (drop (place .to) buffer) (omega arith) in
-            rw middle (simp length-append (omega arith))
+  abbrev Leaves : Changed → List ℕ → Type 0
+  Leaves = ChangeLeaves (changeRefusal buffer size name m w c) buffer size name m w c
 
-        new-is : changedText buffer size name m w c ≡ firstLine 2 (found .floor) ++ lines
-        unfolding changedText catalogueText changedBy
-        new-is = rw floor-is
+  bounds : (found .place .from ≤ found .place .to) × (found .place .to ≤ size) × (size ≤ length buffer) × (size ≤ 4096) × (found .first ≤ length first)
+  bounds = order found buffer size name (g .found-in)
 
-        pub first-inside : found .first ≤ moved
-        first-inside = let a = length-append old lines in let n = middle-long in let f = first-is in omega arith
+  entry-is : record { name = name; revision = last + 1; m = m; w = w; c = c } ≡ entry
+  unfolding nextEntry
+  entry-is = rw (g .last-is)
 
-        abbrev end : ℕ
-        end = moved + (length (firstLine 2 (found .floor)) - found .first)
+  entry-name : entry .name ≡ name
+  unfolding nextEntry
+  entry-name = refl
 
-        new-long : length (changedText buffer size name m w c) ≡ end
-        new-long =
-            let a = length-append old lines in
-            let b = length-append (firstLine 2 (found .floor)) lines in
-            let n = middle-long in
-            let f = first-is in
-            let g = first-more in
-            ap length new-is ∙ omega arith
+  -- the bytes behind the name's line
+  abbrev tail : List ℕ
+  tail = take (size - found .place .to) (drop (found .place .to) buffer)
 
-        both-tests : ltb 4096 (length (changedText buffer size name m w c)) || ltb (length buffer) (length (changedText buffer size name m w c)) ≡ true
-            → changeRefusal buffer size name m w c ≡ 21
-        unfolding changeRefusal
-        both-tests e = rw (ne-eqb (lastRevision (cat .floor) (stored buffer size name)) 65535 (λ z. more (l ∙ z)), e)
+  tail-long : length tail ≡ size - found .place .to
+  tail-long =
+      let o = bounds in
+      let d : length (drop (found .place .to) buffer) ≡ length buffer - found .place .to = length-drop (found .place .to) buffer in
+      length-take-le (size - found .place .to) (drop (found .place .to) buffer) (omega arith)
 
-        pub change-long : 4096 < end → (Changed.Refused 21 ≡ changeAnswer buffer size name m w c) × (buffer ≡ changeBuffer buffer size name m w c)
-        change-long h = refused 20 (both-tests (rw (lt-ltb 4096 (length (changedText buffer size name m w c)) (let n = new-long in omega arith))))
+  -- the text with the name's line in its place, and the first line as it was
+  middle : standing ++ lines ≡ take (found .place .from) buffer ++ (line ++ tail)
+  middle =
+      let o = bounds in
+      let k : line ≡ entryLine entry = ap entryLine entry-is in
+      spot found buffer size name (g .found-in) .spliced entry entry-name
+      ∙ rw (← k, take-take (found .place .from) size buffer (omega arith), drop-take (found .place .to) size buffer)
 
-        pub change-full : end ≤ 4096 → length buffer < end
-            → (Changed.Refused 21 ≡ changeAnswer buffer size name m w c) × (buffer ≡ changeBuffer buffer size name m w c)
-        change-full h k =
-            let n = new-long in
-            refused 20
-            (both-tests (rw (
-              le-ltb 4096 (length (changedText buffer size name m w c)) (omega arith),
-              lt-ltb (length buffer) (length (changedText buffer size name m w c)) (omega arith),
-            )))
+  middle-long : length (standing ++ lines) ≡ moved
+  middle-long =
+      let o = bounds in
+      let a : length (take (found .place .from) buffer) ≡ found .place .from = length-take-le (found .place .from) buffer (omega arith) in
+      let t = tail-long in
+      rw middle (simp length-append (omega arith))
 
-        module _ (h : end ≤ 4096) (k : end ≤ length buffer) where
-          fits : SpliceFits buffer size (place .from) (place .to) line
-          fits = let o = order in record { order = omega arith; inside = omega arith; held = omega arith; room = omega arith }
+  new-is : changedText buffer size name m w c ≡ first ++ lines
+  unfolding changedText catalogueText changedBy
+  new-is = rw (floor-is found buffer size name (g .found-in))
 
-          spliced : splicedIn buffer size (place .from) (place .to) line ≡ withText (old ++ lines) buffer
-          unfolding splicedIn written withText
-          spliced =
-              let n = middle-long in
-              let o = order in
-              let d : length (drop (place .to) buffer) ≡ length buffer - place .to = length-drop (place .to) buffer in
-              let b : length (take (size - place .to) (drop (place .to) buffer)) ≡ size - place .to =
-              length-take-le (size - place .to) (drop (place .to) buffer) (omega arith) in
-              let tail : List ℕ = take (size - place .to) (drop (place .to) buffer) in
-              let j : place .from + length (line ++ tail) ≡ length (old ++ lines) = let q = length-append line tail in omega arith in
-              rw (j, middle) (sym (append-assoc (take (place .from) buffer) (line ++ tail) _))
+  new-long : length (changedText buffer size name m w c) ≡ end
+  new-long =
+      let a = length-append standing lines in
+      let b = length-append first lines in
+      let n = middle-long in
+      let f = first-is found buffer size name (g .found-in) in
+      let o = bounds in
+      ap length new-is ∙ omega arith
 
-          not-refused : changeRefusal buffer size name m w c ≡ 0
-          unfolding changeRefusal
-          not-refused =
-              let n = new-long in
-              rw (
-                ne-eqb (lastRevision (cat .floor) (stored buffer size name)) 65535 (λ z. more (l ∙ z)),
-                le-ltb 4096 (length (changedText buffer size name m w c)) (omega arith),
-                le-ltb (length buffer) (length (changedText buffer size name m w c)) (omega arith),
-              )
+  refusal-is : changeRefusal buffer size name m w c
+      ≡ refuse 21 (ltb 4096 (length (changedText buffer size name m w c)) || ltb (length buffer) (length (changedText buffer size name m w c)))
+  unfolding changeRefusal
+  refusal-is =
+      rw (ne-eqb (lastRevision ((catalogueIn buffer size) .floor) (stored buffer size name)) 65535 (λ z. g .more (g .last-is ∙ z)))
 
-          module _ (after : List ℕ)
-              (e : SpliceFits buffer size (place .from) (place .to) line → after ≡ splicedIn buffer size (place .from) (place .to) line) where
-            after-is : after ≡ withText (old ++ lines) buffer
-            after-is = e fits ∙ spliced
+  pub change-long : 4096 < end → Leaves (Changed.Refused 21) buffer
+  change-long h =
+      let n = new-long in
+      refused buffer size name m w c _ 20 (refusal-is ∙ rw (lt-ltb 4096 (length (changedText buffer size name m w c)) (omega arith)))
 
-            room : length (firstLine 2 (found .floor) ++ lines) ≤ length buffer
-            room = let n = sym (ap length new-is) ∙ new-long in omega arith
+  pub change-full : end ≤ 4096 → length buffer < end → Leaves (Changed.Refused 21) buffer
+  change-full h k =
+      let n = new-long in
+      refused buffer size name m w c _ 20
+      (refusal-is ∙ rw (
+        le-ltb 4096 (length (changedText buffer size name m w c)) (omega arith),
+        lt-ltb (length buffer) (length (changedText buffer size name m w c)) (omega arith),
+      ))
 
-            grows : length old ≤ length (firstLine 2 (found .floor))
-            grows = let f = first-is in let g = first-more in omega arith
+  module _ (h : end ≤ 4096) (k : end ≤ length buffer) where
+    pub line-fits : SpliceFits buffer size (found .place .from) (found .place .to) line
+    line-fits = let o = bounds in record { order = omega arith; inside = omega arith; held = omega arith; room = omega arith }
 
-            pub change-done : (last-buffer : List ℕ)
-                → (SpliceFits after moved 0 (found .first) (firstLine 2 (found .floor))
-                → last-buffer ≡ splicedIn after moved 0 (found .first) (firstLine 2 (found .floor)))
-                → (Changed.Done end (last + 1) ≡ changeAnswer buffer size name m w c) × (last-buffer ≡ changeBuffer buffer size name m w c)
-            unfolding changeAnswer changeBuffer
-            change-done last-buffer q =
-                let f = first-fits buffer after old (firstLine 2 (found .floor)) lines after-is grows room in
-                let s = first-spliced buffer after old (firstLine 2 (found .floor)) lines after-is grows room in
-                let whole : SpliceFits after moved 0 (found .first) (firstLine 2 (found .floor)) = rw (← middle-long, first-is) f in
-                rw not-refused (
-                  ap₂ Changed.Done (sym new-long) new-revision,
-                  q whole ∙ rw (← middle-long, first-is, new-is) s,
-                )
+    spliced : splicedIn buffer size (found .place .from) (found .place .to) line ≡ withText (standing ++ lines) buffer
+    unfolding splicedIn written withText
+    spliced =
+        let n = middle-long in
+        let o = bounds in
+        let t = tail-long in
+        let j : found .place .from + length (line ++ tail) ≡ length (standing ++ lines) = let q = length-append line tail in omega arith in
+        rw (j, middle) (sym (append-assoc (take (found .place .from) buffer) (line ++ tail) _))
+
+    not-refused : changeRefusal buffer size name m w c ≡ 0
+    not-refused =
+        let n = new-long in
+        refusal-is ∙ rw (
+          le-ltb 4096 (length (changedText buffer size name m w c)) (omega arith),
+          le-ltb (length buffer) (length (changedText buffer size name m w c)) (omega arith),
+        )
+
+    module _ (after : List ℕ) (e : after ≡ splicedIn buffer size (found .place .from) (found .place .to) line) where
+      room : length (first ++ lines) ≤ length buffer
+      room = let n = sym (ap length new-is) ∙ new-long in omega arith
+
+      grows : length standing ≤ length first
+      grows = let f = first-is found buffer size name (g .found-in) in let o = bounds in omega arith
+
+      pub first-splice-fits : SpliceFits after moved 0 (found .first) first
+      first-splice-fits =
+          rw (← middle-long, first-is found buffer size name (g .found-in)) (first-fits buffer after standing first lines (e ∙ spliced) grows room)
+
+      pub change-done : (last-buffer : List ℕ) → last-buffer ≡ splicedIn after moved 0 (found .first) first → Leaves (Changed.Done end (last + 1)) last-buffer
+      change-done last-buffer q =
+          let s = first-spliced buffer after standing first lines (e ∙ spliced) grows room in
+          rw not-refused (
+            refl,
+            (
+              ap₂ (λ x y. x ∷ y ∷ []) (sym new-long) (ap (λ (e : Entry). e .revision) entry-is),
+              q ∙ rw (← middle-long, first-is found buffer size name (g .found-in), new-is) s,
+            ),
+          )
 
 -- ---- Put
 module _ (m w c : ℕ) (name : List ℕ) (expected : ℕ) (buffer : List ℕ) (size : ℕ) where
-  pub put-number : changedNumber (putOf m w c name expected buffer size) ≡ putRefusal m w c name expected buffer size
-  unfolding putOf
-  put-number = go (putRefusal m w c name expected buffer size)
-    where
-      go : (r : ℕ) → changedNumber (changedAs r (length (changedText buffer size name m w c)) ((changedEntry buffer size name m w c) .revision)) ≡ r
-      go zero = refl
-      go (suc r) = refl
-
   abbrev Put : Changed → List ℕ → Type 0
-  Put r after = (r ≡ putOf m w c name expected buffer size) × (after ≡ putBuffer m w c name expected buffer size)
+  Put r after =
+      (changedNumber r ≡ putRefusal m w c name expected buffer size) × ((changedFigures r ≡ putFigures m w c name expected buffer size)
+      × (after ≡ putBuffer m w c name expected buffer size))
 
   answered : (r : ℕ) → putRefusal m w c name expected buffer size ≡ suc r → Put (Changed.Refused (suc r)) buffer
-  unfolding putOf putBuffer
-  answered r e = rw e (refl, refl)
+  unfolding putFigures putBuffer
+  answered = refused buffer size name m w c (putRefusal m w c name expected buffer size)
 
   pub put-unsold : (r : ℕ) → r ≡ saleRefusalIn byteLimits m w c → (r ≡ 0 → ⊥) → Put (Changed.Refused r) buffer
   unfolding putRefusal
@@ -297,26 +301,21 @@ module _ (m w c : ℕ) (name : List ℕ) (expected : ℕ) (buffer : List ℕ) (s
         unfolding putRefusal textRefusal nameRefusal expectedRefusal
         put-other n = answered 18 (rw (sold, whole, good, ne-eqb (foundRevision (stored buffer size name)) expected n))
 
-        pub put-change : foundRevision (stored buffer size name) ≡ expected → Put (changeAnswer buffer size name m w c) (changeBuffer buffer size name m w c)
-        unfolding putOf putBuffer changeAnswer changeBuffer putRefusal textRefusal nameRefusal expectedRefusal
-        put-change e = rw (sold, whole, good, eq-eqb (foundRevision (stored buffer size name)) expected e) (refl, refl)
+        pub put-change : foundRevision (stored buffer size name) ≡ expected → (r : Changed) (after : List ℕ)
+            → ChangeLeaves (changeRefusal buffer size name m w c) buffer size name m w c r after → Put r after
+        unfolding putFigures putBuffer putRefusal textRefusal nameRefusal expectedRefusal
+        put-change e r after h = rw (sold, whole, good, eq-eqb (foundRevision (stored buffer size name)) expected e) h
 
 -- ---- Remove
 module _ (name : List ℕ) (expected : ℕ) (buffer : List ℕ) (size : ℕ) where
-  pub remove-number : changedNumber (removeOf name expected buffer size) ≡ removeRefusal name expected buffer size
-  unfolding removeOf
-  remove-number = go (removeRefusal name expected buffer size)
-    where
-      go : (r : ℕ) → changedNumber (changedAs r (length (changedText buffer size name 0 0 0)) ((changedEntry buffer size name 0 0 0) .revision)) ≡ r
-      go zero = refl
-      go (suc r) = refl
-
   abbrev Removed : Changed → List ℕ → Type 0
-  Removed r after = (r ≡ removeOf name expected buffer size) × (after ≡ removeBuffer name expected buffer size)
+  Removed r after =
+      (changedNumber r ≡ removeRefusal name expected buffer size) × ((changedFigures r ≡ removeFigures name expected buffer size)
+      × (after ≡ removeBuffer name expected buffer size))
 
   told : (r : ℕ) → removeRefusal name expected buffer size ≡ suc r → Removed (Changed.Refused (suc r)) buffer
-  unfolding removeOf removeBuffer
-  told r e = rw e (refl, refl)
+  unfolding removeFigures removeBuffer
+  told = refused buffer size name 0 0 0 (removeRefusal name expected buffer size)
 
   pub remove-bad : formed buffer size ≡ false → Removed (Changed.Refused 16) buffer
   unfolding removeRefusal textRefusal
@@ -346,12 +345,13 @@ module _ (name : List ℕ) (expected : ℕ) (buffer : List ℕ) (size : ℕ) whe
               ne-eqb ((stored buffer size name) .m) 0 there,
             ))
 
-        pub remove-change : (stored buffer size name) .revision ≡ expected → Removed (changeAnswer buffer size name 0 0 0) (changeBuffer buffer size name 0 0 0)
-        unfolding removeOf removeBuffer changeAnswer changeBuffer removeRefusal textRefusal nameRefusal foundRefusal expectedRefusal
-        remove-change e =
+        pub remove-change : (stored buffer size name) .revision ≡ expected → (r : Changed) (after : List ℕ)
+            → ChangeLeaves (changeRefusal buffer size name 0 0 0) buffer size name 0 0 0 r after → Removed r after
+        unfolding removeFigures removeBuffer removeRefusal textRefusal nameRefusal foundRefusal expectedRefusal
+        remove-change e r after h =
             rw (
               whole,
               good,
               eq-eqb (foundRevision (stored buffer size name)) expected (revision-is ∙ e),
               ne-eqb ((stored buffer size name) .m) 0 there,
-            ) (refl, refl)
+            ) h

@@ -6,7 +6,8 @@ ghost use mathlib.Core.Bool.{true, cond};
 ghost use lib.Dec.{eqb};
 ghost use Rattle.catalogue_text.specs.Names.{goodName};
 ghost use Rattle.catalogue_scan.specs.Places.{FoundIn};
-ghost use Rattle.catalogue_calls.specs.Calls.{lookupRefusal, lookedOf, lookedNumber, putRefusal, putOf, putBuffer, removeRefusal, removeOf, removeBuffer, changedNumber, changeAnswer, changeBuffer};
+ghost use Rattle.catalogue_calls.specs.Calls.{lookupRefusal, lookupFigures, lookedNumber, lookedFigures, changeRefusal, ChangeLeaves};
+ghost use Rattle.catalogue_calls.specs.Calls.{putRefusal, putFigures, putBuffer, removeRefusal, removeFigures, removeBuffer, changedNumber, changedFigures};
 
 // Revision and shape, or the number of a refusal.
 pub enum Looked {
@@ -22,8 +23,8 @@ pub enum Changed {
 
 // The service Lookup.
 pub fn lookup(buffer: &[u8], size: usize, name: &[u8]) -> Looked
-    ensures answer { λ r. ⌜ r ≡ lookedOf (now (buffer .entry)) size (now (name .entry)) ⌝ }
     ensures number { λ r. ⌜ lookedNumber r ≡ lookupRefusal (now (buffer .entry)) size (now (name .entry)) ⌝ }
+    ensures figures { λ r. ⌜ lookedFigures r ≡ lookupFigures (now (buffer .entry)) size (now (name .entry)) ⌝ }
 {
     match catalogue_scan::scan_buffer(buffer, size, name) {
         Scanned::Bad => Looked::Refused(16),
@@ -68,8 +69,7 @@ fn last_revision(revision: u16, floor: u16) -> u16
 // Writes a name's line, with zeros for one that is gone, and the first line of version 2. The length is tested before anything is written.
 fn change(found: Found, m: u8, w: u8, c: u8, name: &[u8], buffer: &mut [u8], size: usize) -> Changed
     requires { ⌜ FoundIn found (now buffer) size (now name) × (goodName (now name) ≡ true) ⌝ }
-    ensures answer { λ r. ⌜ r ≡ changeAnswer (now (buffer .entry)) size (now (name .entry)) m w c ⌝ }
-    ensures buffer { λ _. ⌜ now (buffer .exit) ≡ changeBuffer (now (buffer .entry)) size (now (name .entry)) m w c ⌝ }
+    ensures { λ r. ⌜ ChangeLeaves (changeRefusal (now (buffer .entry)) size (now (name .entry)) m w c) (now (buffer .entry)) size (now (name .entry)) m w c r (now (buffer .exit)) ⌝ }
 {
     let place = found.place;
     let last = last_revision(place.revision, found.floor);
@@ -108,8 +108,8 @@ pub fn put(
     buffer: &mut [u8],
     size: usize,
 ) -> Changed
-    ensures answer { λ r. ⌜ r ≡ putOf m w c (now (name .entry)) expected (now (buffer .entry)) size ⌝ }
     ensures number { λ r. ⌜ changedNumber r ≡ putRefusal m w c (now (name .entry)) expected (now (buffer .entry)) size ⌝ }
+    ensures figures { λ r. ⌜ changedFigures r ≡ putFigures m w c (now (name .entry)) expected (now (buffer .entry)) size ⌝ }
     ensures buffer { λ _. ⌜ now (buffer .exit) ≡ putBuffer m w c (now (name .entry)) expected (now (buffer .entry)) size ⌝ }
 {
     let unsold = shape::sale_refusal(m, w, c);
@@ -133,8 +133,8 @@ pub fn put(
 
 // The service Remove.
 pub fn remove(name: &[u8], expected: usize, buffer: &mut [u8], size: usize) -> Changed
-    ensures answer { λ r. ⌜ r ≡ removeOf (now (name .entry)) expected (now (buffer .entry)) size ⌝ }
     ensures number { λ r. ⌜ changedNumber r ≡ removeRefusal (now (name .entry)) expected (now (buffer .entry)) size ⌝ }
+    ensures figures { λ r. ⌜ changedFigures r ≡ removeFigures (now (name .entry)) expected (now (buffer .entry)) size ⌝ }
     ensures buffer { λ _. ⌜ now (buffer .exit) ≡ removeBuffer (now (name .entry)) expected (now (buffer .entry)) size ⌝ }
 {
     match catalogue_scan::scan_buffer(buffer, size, name) {

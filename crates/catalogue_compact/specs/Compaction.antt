@@ -1,7 +1,7 @@
 -- Compaction: "drops all gone lines and gives their room back".
 use mathlib.Core.Bool.{not}
 use mathlib.Core.List.{List, [], _∷_}
-use Prim.Native.Nat.{ℕ, zero, suc, _-_, _≤_}
+use Prim.Native.Nat.{ℕ, _-_, _≤_}
 use lib.ListN.{length, take, drop}
 use mathlib.Core.Path.{_≡_}
 use lib.Dec.{T}
@@ -19,25 +19,20 @@ compactRefusal buffer size = refuse 16 (not (formed buffer size))
 unfoldable pub compactedText : List ℕ → ℕ → List ℕ
 compactedText buffer size = catalogueText (compacted (catalogueIn buffer size))
 
--- "It answers the text's length"
-abbrev pub compactedAs : ℕ → ℕ → Compacted
-compactedAs zero size = Compacted.Done size
-compactedAs (suc r) size = Compacted.Refused (suc r)
-
--- of any call
-unfoldable pub compactOf : List ℕ → ℕ → Compacted
-compactOf buffer size = compactedAs (compactRefusal buffer size) (length (compactedText buffer size))
+-- "It answers the text's length": the figures of any compaction, none on a refusal
+unfoldable pub compactFigures : List ℕ → ℕ → List ℕ
+compactFigures buffer size = unlessRefused (compactRefusal buffer size) (length (compactedText buffer size) ∷ []) []
 
 -- the buffer afterwards: the new text, and "bytes past a new text stay"; on a refusal all bytes stay
 unfoldable pub compactBuffer : List ℕ → ℕ → List ℕ
 compactBuffer buffer size = unlessRefused (compactRefusal buffer size) (withText (compactedText buffer size) buffer) buffer
 
--- the number given back, 0 for done
+-- the number of an answer, 0 for done
 abbrev pub compactedNumber : Compacted → ℕ
 compactedNumber (Compacted.Done size) = 0
 compactedNumber (Compacted.Refused r) = r
 
--- and the text's length, none on a refusal
+-- the figure of an answer: the text's length, none on a refusal
 abbrev pub compactedFigures : Compacted → List ℕ
 compactedFigures (Compacted.Done size) = size ∷ []
 compactedFigures (Compacted.Refused r) = []

@@ -35,7 +35,7 @@ use Rattle.catalogue_scan.specs.Places.{foundIn, FoundIn}
 use Rattle.catalogue_lines.specs.Splice.{SpliceFits, splicedIn}
 use Rattle.catalogue_lines.specs.SpliceLaws.{first-fits, first-spliced, drop-take}
 use Rattle.catalogue_compact.specs.declared.Compacted.{Compacted}
-use Rattle.catalogue_compact.specs.Compaction.{compactRefusal, compactedText, compactedAs, compactOf, compactBuffer, compactedNumber, LinesAt}
+use Rattle.catalogue_compact.specs.Compaction.{compactRefusal, compactedText, compactFigures, compactBuffer, compactedNumber, compactedFigures, LinesAt}
 
 -- what stands behind bytes that were written
 drop-written : (out : List ℕ) (at : ℕ) (text : List ℕ) (k : ℕ) → at ≤ length out → at + length text ≤ k → drop k (written out at text) ≡ drop k out
@@ -283,10 +283,12 @@ module _ (start : List ℕ) (size first : ℕ) (list : List Entry) (buffer : Lis
     some : (e : Entry) × (more : List Entry) × (d .rest ≡ e ∷ more)
     some = let n = ahead-long in first-of (d .rest) (omega arith)
 
-    pub turn-inside : (end < size) × (at ≤ end)
+    pub turn-inside : (end < size) × (at ≤ end) × (size ≤ length buffer)
     turn-inside =
         let n = end-is (some .0) (some .1) (some .2) end en in
-        (end-inside (some .0) (some .1) (some .2) end en, omega arith)
+        let b = buffer-long in
+        let h = d .held in
+        (end-inside (some .0) (some .1) (some .2) end en, omega arith, omega arith)
 
     pub turn : (line : Line) → line ≡ readLine (take (end - at) (drop at buffer)) → (after : List ℕ) (next : ℕ)
         → next ≡ cond (eqb (line .m) 0) to (to + (end + 1 - at))
@@ -347,26 +349,27 @@ first-least version floor list t = go (versions version floor list t)
 
 -- ---- Compaction
 module _ (buffer : List ℕ) (size : ℕ) where
-  pub compact-number : compactedNumber (compactOf buffer size) ≡ compactRefusal buffer size
-  unfolding compactOf
-  compact-number = go (compactRefusal buffer size)
-    where
-      go : (r : ℕ) → compactedNumber (compactedAs r (length (compactedText buffer size))) ≡ r
-      go zero = refl
-      go (suc r) = refl
-
   abbrev Compact : Compacted → List ℕ → Type 0
-  Compact r after = (r ≡ compactOf buffer size) × (after ≡ compactBuffer buffer size)
+  Compact r after =
+      (compactedNumber r ≡ compactRefusal buffer size) × ((compactedFigures r ≡ compactFigures buffer size) × (after ≡ compactBuffer buffer size))
 
   pub compact-bad : formed buffer size ≡ false → Compact (Compacted.Refused 16) buffer
-  unfolding compactOf compactBuffer compactRefusal
-  compact-bad e = rw e (refl, refl)
+  unfolding compactFigures compactBuffer compactRefusal
+  compact-bad e = rw e (refl, (refl, refl))
 
   compact-new : formed buffer size ≡ true → (n : ℕ) → n ≡ length (compactedText buffer size) → (after : List ℕ)
       → after ≡ withText (compactedText buffer size) buffer
       → Compact (Compacted.Done n) after
-  unfolding compactOf compactBuffer compactRefusal
-  compact-new e n p after q = rw e (ap Compacted.Done p, q)
+  unfolding compactFigures compactBuffer compactRefusal
+  compact-new e n p after q = rw e (refl, (ap (λ x. x ∷ []) p, q))
+
+-- what holds once the gone lines are dropped: there is room for the new first line, and with it the text is compacted
+pub record Compacts (found : Found) (buffer : List ℕ) (size floor end : ℕ) (after : List ℕ) : Type 0 where
+  pub order : found .first ≤ end
+  pub most : end - found .first + length (firstLine 2 floor) ≤ 4096
+  pub fits : SpliceFits after end 0 (found .first) (firstLine 2 floor)
+  pub done : (last : List ℕ) → last ≡ splicedIn after end 0 (found .first) (firstLine 2 floor)
+      → Compact buffer size (Compacted.Done (end - found .first + length (firstLine 2 floor))) last
 
 module _ (found : Found) (buffer : List ℕ) (size : ℕ) (name : List ℕ) (p : FoundIn found buffer size name) where
   abbrev cat : Catalogue
@@ -421,7 +424,7 @@ module _ (found : Found) (buffer : List ℕ) (size : ℕ) (name : List ℕ) (p :
       compact-new buffer size (p .whole) size (sym (formed-long buffer size (p .whole)) ∙ ap length (sym c)) buffer
       (sym (with-same buffer size (p .whole)) ∙ ap (λ t. withText t buffer) (sym c))
 
-  -- with some
+  -- with gone lines
   module _ (some : found .top ≡ 0 → ⊥) (floor : ℕ) (f : floor ≡ max (found .floor) (found .top)) where
     left : List ℕ
     left = linesOf (withoutGone (cat .list))
@@ -468,36 +471,27 @@ module _ (found : Found) (buffer : List ℕ) (size : ℕ) (name : List ℕ) (p :
       unfolding left
       end-is-long = let a = length-append old (linesOf (withoutGone (cat .list))) in let f = first-is in omega arith
 
-      pub compact-room : (found .first ≤ end) × (end - found .first + length (firstLine 2 floor) ≤ 4096)
+      long : end - found .first + length (firstLine 2 floor) ≡ length (firstLine 2 floor ++ left)
+      long =
+          let a = length-append old left in
+          let b = length-append (firstLine 2 floor) left in
+          let g = first-is in
+          let h = end-is-long in
+          omega arith
+
+      pub compacts : Compacts found buffer size floor end after
       unfolding left
-      compact-room =
+      compacts =
           let r = room in
           let a = length-append (firstLine 2 floor) (linesOf (withoutGone (cat .list))) in
           let m = formed-parts buffer size (p .whole) .most in
-          (omega arith, omega arith)
-
-      pub compact-done : (last : List ℕ)
-          → (SpliceFits after end 0 (found .first) (firstLine 2 floor) → last ≡ splicedIn after end 0 (found .first) (firstLine 2 floor))
-          → Compact buffer size (Compacted.Done (end - found .first + length (firstLine 2 floor))) last
-      compact-done last w =
-          let k = first-fits buffer after old (firstLine 2 floor) left after-is grows held in
-          let s = first-spliced buffer after old (firstLine 2 floor) left after-is grows held in
-          let fits : SpliceFits after end 0 (found .first) (firstLine 2 floor) =
-          subst (λ x. SpliceFits after end 0 x (firstLine 2 floor)) (sym first-is)
-          (subst (λ x. SpliceFits after x 0 (length old) (firstLine 2 floor)) end-is-long k) in
-          let n : end - found .first + length (firstLine 2 floor) ≡ length (compactedText buffer size) =
-          long ∙ ap length (sym new-is) in
-          compact-new buffer size (p .whole) _ n last
-          (w fits ∙ ap (λ x. splicedIn after end 0 x (firstLine 2 floor)) first-is
-          ∙ ap (λ x. splicedIn after x 0 (length old) (firstLine 2 floor)) (sym end-is-long) ∙ s ∙ ap (λ t. withText t buffer) (sym new-is))
-        where
-          long : end - found .first + length (firstLine 2 floor) ≡ length (firstLine 2 floor ++ left)
-          long =
-              let a = length-append old left in
-              let b = length-append (firstLine 2 floor) left in
-              let g = first-is in
-              let h = end-is-long in
-              omega arith
+          record {
+            order = omega arith;
+            most = omega arith;
+            fits = rw (← end-is-long, first-is) (first-fits buffer after old (firstLine 2 floor) left after-is grows held);
+            done = λ last w. compact-new buffer size (p .whole) _ (long ∙ ap length (sym new-is)) last
+                (w ∙ rw (← end-is-long, first-is, new-is) (first-spliced buffer after old (firstLine 2 floor) left after-is grows held));
+          }
 
 -- a compacted text is not longer
 pub compact-room-of : (buffer : List ℕ) (size : ℕ) → formed buffer size ≡ true → length (compactedText buffer size) ≤ size

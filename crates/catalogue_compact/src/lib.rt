@@ -11,7 +11,7 @@ ghost use Rattle.catalogue_text.specs.Catalogue.{Catalogue, linesOf};
 ghost use Rattle.catalogue_text.specs.Changes.{withoutGone};
 ghost use Rattle.catalogue_text.specs.Buffers.{catalogueIn};
 ghost use Rattle.catalogue_scan.specs.Places.{FoundIn};
-ghost use Rattle.catalogue_compact.specs.Compaction.{compactRefusal, compactOf, compactBuffer, compactedNumber, LinesAt};
+ghost use Rattle.catalogue_compact.specs.Compaction.{compactRefusal, compactFigures, compactBuffer, compactedNumber, compactedFigures, LinesAt};
 
 // The text's length, or the number of a refusal.
 pub enum Compacted {
@@ -28,7 +28,7 @@ fn keep_line(buffer: &mut [u8], at: usize, next: usize, to: usize, m: u8) -> usi
     if m == 0 {
         return to;
     }
-    catalogue_lines::shift_down(buffer, at, next, to);
+    catalogue_lines::move_down(buffer, at, next, to);
     to + (next - at)
 }
 
@@ -61,8 +61,8 @@ fn larger(a: u16, b: u16) -> u16
 
 // The service Compact.
 pub fn compact(buffer: &mut [u8], size: usize) -> Compacted
-    ensures answer { λ r. ⌜ r ≡ compactOf (now (buffer .entry)) size ⌝ }
     ensures number { λ r. ⌜ compactedNumber r ≡ compactRefusal (now (buffer .entry)) size ⌝ }
+    ensures figures { λ r. ⌜ compactedFigures r ≡ compactFigures (now (buffer .entry)) size ⌝ }
     ensures buffer { λ _. ⌜ now (buffer .exit) ≡ compactBuffer (now (buffer .entry)) size ⌝ }
 {
     match catalogue_scan::scan_buffer(buffer, size, b"") {

@@ -9,7 +9,7 @@ use borrow.Author.Tests.{eqb-false, ltb-false, not-false, le-leb, eq-eqb, ne-eqb
 use lib.Dec.{T, eqb, leb, ltb}
 use lib.ListN.{length, take, drop}
 use Rattle.counting.specs.TestLaws.{and-l, and-r, and-intro}
-use Rattle.code.specs.Refusals.{refuse, _orElse_}
+use Rattle.code.specs.Refusals.{refuse, _orElse_, unlessRefused}
 use Rattle.code.specs.RefusalsLaws.{refuse-zero, orElse-zero}
 use Rattle.shape.specs.Laws.{sold-of-refusal}
 use Rattle.shape.specs.Shapes.{byteLimits}
@@ -26,14 +26,12 @@ use Rattle.catalogue_text.specs.Changes.{entryFor, entryIn, putIn, foundRevisio
 use Rattle.catalogue_text.specs.ChangesLaws.{put-found, put-others, put-good, kept-good, kept-entry, largest-most, largest-holds}
 use Rattle.catalogue_text.specs.Buffers.{formed, catalogueIn, withText}
 use Rattle.catalogue_text.specs.BuffersLaws.{formed-parts, formed-good, formed-long, with-same, with-front, with-past, with-length, with-read, with-formed}
-use Rattle.catalogue_calls.specs.declared.Looked.{Looked}
-use Rattle.catalogue_calls.specs.declared.Changed.{Changed}
-use Rattle.catalogue_calls.specs.Calls.{textRefusal, nameRefusal, stored, foundRefusal, lookupRefusal, lookedAt, lookedOf, changedEntry, changedText}
-use Rattle.catalogue_calls.specs.Calls.{expectedRefusal, changeRefusal, putRefusal, removeRefusal, changedAs, putOf, putBuffer, removeOf, removeBuffer}
-use Rattle.catalogue_compact.specs.declared.Compacted.{Compacted}
-use Rattle.catalogue_compact.specs.Compaction.{compactRefusal, compactedText, compactOf, compactBuffer}
+use Rattle.catalogue_calls.specs.Calls.{textRefusal, nameRefusal, stored, foundRefusal, lookupRefusal, entryFigures, lookupFigures, changedEntry, changedText}
+use Rattle.catalogue_calls.specs.Calls.{expectedRefusal, changeRefusal, changeFigures, putRefusal, removeRefusal, putFigures, putBuffer, removeFigures}
+use Rattle.catalogue_calls.specs.Calls.{removeBuffer}
+use Rattle.catalogue_compact.specs.Compaction.{compactRefusal, compactedText, compactFigures, compactBuffer}
 use Rattle.catalogue_compact.specs.Laws.{compact-room-of}
-use Rattle.catalogue_history.specs.Demand.{ChangeDone, ChangeRefused, CompactDone}
+use Rattle.catalogue_history.specs.Demand.{lookedIn, ChangeDone, ChangeRefused, CompactDone}
 
 -- a stored revision is at most 65,535
 revision-most : (name last : List ℕ) (list : List Entry) → T (goodFrom last list) → (entryFor name list) .revision ≤ 65535
@@ -115,17 +113,21 @@ or-none : (a b : Bool) → (a || b) ≡ false → (a ≡ false) × (b ≡ false)
 or-none true b e = absurd (true≢false e)
 or-none false b e = (refl, e)
 
+-- the number of a lookup, and the figures of its entry unless it is refused
+abbrev lookedAt : ℕ → Entry → ℕ × List ℕ
+lookedAt r e = (r, unlessRefused r (entryFigures e) [])
+
 looked-by : (buffer after : List ℕ) (size new : ℕ) (name : List ℕ) → formed buffer size ≡ true → formed after new ≡ true
-    → stored after new name ≡ stored buffer size name → lookedOf after new name ≡ lookedOf buffer size name
-unfolding lookedOf lookupRefusal textRefusal foundRefusal
+    → stored after new name ≡ stored buffer size name → lookedIn after new name ≡ lookedIn buffer size name
+unfolding lookedIn lookupFigures lookupRefusal textRefusal foundRefusal
 looked-by buffer after size new name f g e = rw (f, g, e)
 
 pub looked-is : (buffer : List ℕ) (size : ℕ) (name : List ℕ) (e : Entry) → formed buffer size ≡ true → goodName name ≡ true → stored buffer size name ≡ e
-    → lookedOf buffer size name ≡ cond (isGone e) (Looked.Refused 18) (Looked.Found (e .revision) (e .m) (e .w) (e .c))
-unfolding lookedOf lookupRefusal textRefusal nameRefusal foundRefusal
+    → lookedIn buffer size name ≡ cond (isGone e) (18, []) (0, entryFigures e)
+unfolding lookedIn lookupFigures lookupRefusal textRefusal nameRefusal foundRefusal
 looked-is buffer size name e f g s = rw (f, g, s) (go (isGone e))
   where
-    go : (b : Bool) → lookedAt (refuse 18 b) e ≡ cond b (Looked.Refused 18) (Looked.Found (e .revision) (e .m) (e .w) (e .c))
+    go : (b : Bool) → lookedAt (refuse 18 b) e ≡ cond b (18, []) (0, entryFigures e)
     go true = refl
     go false = refl
 
@@ -172,16 +174,15 @@ module _ (buffer : List ℕ) (size : ℕ) (name : List ℕ) (m w c : ℕ) (whole
       differ true e = absurd (n (sym (same-eq ((nextEntry name m w c cat) .name) other e) ∙ entry-name))
       differ false e = refl
 
-  shape-is : cond (isGone (changedEntry buffer size name m w c)) (Looked.Refused 18)
-      (Looked.Found ((changedEntry buffer size name m w c) .revision) ((changedEntry buffer size name m w c) .m) ((changedEntry buffer size name m w c) .w)
-      ((changedEntry buffer size name m w c) .c))
-      ≡ cond (eqb m 0) (Looked.Refused 18) (Looked.Found ((changedEntry buffer size name m w c) .revision) m w c)
+  shape-is : _≡_ {A = ℕ × List ℕ} (cond (isGone (changedEntry buffer size name m w c)) (18, []) (0, entryFigures (changedEntry buffer size name m w c)))
+      (cond (eqb m 0) (18, []) (0, (changedEntry buffer size name m w c) .revision ∷ m ∷ w ∷ c ∷ []))
   unfolding nextEntry
   shape-is = refl
 
-  pub change-done : (answer : Changed) → answer ≡ Changed.Done (length new) ((changedEntry buffer size name m w c) .revision)
-      → (after : List ℕ) → after ≡ withText new buffer → ChangeDone answer after buffer size name m w c
-  change-done answer a after e = rw e (record {
+  pub change-done : (number : ℕ) → number ≡ 0 → (figures : List ℕ) → figures ≡ changeFigures buffer size name m w c
+      → (after : List ℕ) → after ≡ withText new buffer → ChangeDone number figures after buffer size name m w c
+  change-done number z figures a after e = rw e (record {
+    done = z;
     answered = a;
     text = with-front new buffer (changes .2);
     whole = change-formed;
@@ -199,9 +200,10 @@ module _ (buffer : List ℕ) (size : ℕ) (name : List ℕ) (m w c : ℕ) (whole
 module _ (m w c : ℕ) (name : List ℕ) (expected : ℕ) (buffer : List ℕ) (size : ℕ) where
   -- a refused put changes no byte
   pub put-refused : (r : ℕ) → putRefusal m w c name expected buffer size ≡ suc r
-      → ChangeRefused (putOf m w c name expected buffer size) (putBuffer m w c name expected buffer size) buffer (suc r)
-  unfolding putOf putBuffer
-  put-refused r e = record { answered = rw e; stays = rw e }
+      → ChangeRefused (putRefusal m w c name expected buffer size) (putFigures m w c name expected buffer size)
+      (putBuffer m w c name expected buffer size) buffer (suc r)
+  unfolding putFigures putBuffer
+  put-refused r e = record { answered = e; none = rw e; stays = rw e }
 
   module _ (z : putRefusal m w c name expected buffer size ≡ 0) where
     pub put-tests : (saleRefusalIn byteLimits m w c ≡ 0) × (formed buffer size ≡ true) × (goodName name ≡ true) × (changeRefusal buffer size name m w c ≡ 0)
@@ -216,18 +218,20 @@ module _ (m w c : ℕ) (name : List ℕ) (expected : ℕ) (buffer : List ℕ) (s
     pub put-shaped : shapeOrGone m w c ≡ true
     put-shaped = shape-numbers m w c (sold-of-refusal m w c (put-tests .0) .good) .0
 
-    -- "after a put, lookup of that name gives that shape and revision, and of every other name what it gave before"
-    pub put-done : ChangeDone (putOf m w c name expected buffer size) (putBuffer m w c name expected buffer size) buffer size name m w c
-    unfolding putOf putBuffer
-    put-done = change-done buffer size name m w c (put-tests .1) (put-tests .2) put-shaped (put-tests .3) _ (rw z) _ (rw z)
+    -- after a put, lookup of that name gives that shape and revision, and of every other name what it gave before
+    pub put-done : ChangeDone (putRefusal m w c name expected buffer size) (putFigures m w c name expected buffer size)
+        (putBuffer m w c name expected buffer size) buffer size name m w c
+    unfolding putFigures putBuffer
+    put-done = change-done buffer size name m w c (put-tests .1) (put-tests .2) put-shaped (put-tests .3) _ z _ (rw z) _ (rw z)
 
 -- ---- Remove
 module _ (name : List ℕ) (expected : ℕ) (buffer : List ℕ) (size : ℕ) where
-  -- nor does a refused remove
+  -- a refused remove changes no byte
   pub remove-refused : (r : ℕ) → removeRefusal name expected buffer size ≡ suc r
-      → ChangeRefused (removeOf name expected buffer size) (removeBuffer name expected buffer size) buffer (suc r)
-  unfolding removeOf removeBuffer
-  remove-refused r e = record { answered = rw e; stays = rw e }
+      → ChangeRefused (removeRefusal name expected buffer size) (removeFigures name expected buffer size)
+      (removeBuffer name expected buffer size) buffer (suc r)
+  unfolding removeFigures removeBuffer
+  remove-refused r e = record { answered = e; none = rw e; stays = rw e }
 
   module _ (z : removeRefusal name expected buffer size ≡ 0) where
     pub remove-tests : (formed buffer size ≡ true) × (goodName name ≡ true) × (changeRefusal buffer size name 0 0 0 ≡ 0)
@@ -240,9 +244,10 @@ module _ (name : List ℕ) (expected : ℕ) (buffer : List ℕ) (size : ℕ) whe
         (not-false _ (refuse-zero 15 _ (a .0)), not-false _ (refuse-zero 16 _ (b .0)), e .1)
 
     -- a removed name is not found, and every other name as before
-    pub remove-done : ChangeDone (removeOf name expected buffer size) (removeBuffer name expected buffer size) buffer size name 0 0 0
-    unfolding removeOf removeBuffer
-    remove-done = change-done buffer size name 0 0 0 (remove-tests .0) (remove-tests .1) gone-numbers (remove-tests .2) _ (rw z) _ (rw z)
+    pub remove-done : ChangeDone (removeRefusal name expected buffer size) (removeFigures name expected buffer size)
+        (removeBuffer name expected buffer size) buffer size name 0 0 0
+    unfolding removeFigures removeBuffer
+    remove-done = change-done buffer size name 0 0 0 (remove-tests .0) (remove-tests .1) gone-numbers (remove-tests .2) _ z _ (rw z) _ (rw z)
 
 -- ---- Compaction
 module _ (buffer : List ℕ) (size : ℕ) (whole : formed buffer size ≡ true) where
@@ -278,21 +283,21 @@ module _ (buffer : List ℕ) (size : ℕ) (whole : formed buffer size ≡ true) 
   none-gone name = refl
 
   looked-gone : (b : List ℕ) (n : ℕ) (name : List ℕ) → formed b n ≡ true → isGone (stored b n name) ≡ true
-      → lookedOf b n name ≡ lookedAt (nameRefusal name orElse 18) (stored b n name)
-  unfolding lookedOf lookupRefusal textRefusal foundRefusal
+      → lookedIn b n name ≡ lookedAt (nameRefusal name orElse 18) (stored b n name)
+  unfolding lookedIn lookupFigures lookupRefusal textRefusal foundRefusal
   looked-gone b n name f g = rw (f, g)
 
   refused-alike : (r : ℕ) (e f : Entry) → lookedAt (r orElse 18) e ≡ lookedAt (r orElse 18) f
   refused-alike zero e f = refl
   refused-alike (suc r) e f = refl
 
-  found-alike : (name : List ℕ) → lookedOf (withText left buffer) (length left) name ≡ lookedOf buffer size name
+  found-alike : (name : List ℕ) → lookedIn (withText left buffer) (length left) name ≡ lookedIn buffer size name
   found-alike name = go (compacted-entry held (formed-good buffer size whole) name)
     where
       go : (entryIn name (compacted held) ≡ entryIn name held)
           ⊎ ((isGone (entryIn name held) ≡ true) × (entryIn name (compacted held) ≡ entryFor name [])
           × ((entryIn name held) .revision ≤ (compacted held) .floor))
-          → lookedOf (withText left buffer) (length left) name ≡ lookedOf buffer size name
+          → lookedIn (withText left buffer) (length left) name ≡ lookedIn buffer size name
       go (inl e) = looked-by buffer (withText left buffer) size (length left) name whole compact-formed (ap (entryIn name) compact-read ∙ e)
       go (inr (g, e, l)) =
           let h : isGone (stored (withText left buffer) (length left) name) ≡ true = ap isGone (ap (entryIn name) compact-read ∙ e) ∙ none-gone name in
@@ -306,13 +311,14 @@ module _ (buffer : List ℕ) (size : ℕ) (whole : formed buffer size ≡ true) 
 
   -- "Compaction drops all gone lines and gives their room back"
   pub compact-done : CompactDone buffer size
-  unfolding compactOf compactRefusal
+  unfolding compactFigures compactRefusal
   compact-done = record {
+    done = rw whole;
     answered = rw whole;
     text = ap (take (length left)) after ∙ with-front left buffer (less .0);
     whole = ap (λ b. formed b (length left)) after ∙ compact-formed;
     read = ap (λ b. catalogueIn b (length left)) after ∙ compact-read;
-    found = λ name. ap (λ b. lookedOf b (length left) name) after ∙ found-alike name;
+    found = λ name. ap (λ b. lookedIn b (length left) name) after ∙ found-alike name;
     past = ap (drop (length left)) after ∙ with-past left buffer (less .0);
     lent = ap length after ∙ with-length left buffer (less .0);
     none = λ n. (after ∙ ap (λ t. withText t buffer) (same-text n) ∙ with-same buffer size whole, ap length (same-text n) ∙ formed-long buffer size whole);

@@ -3,14 +3,11 @@ use mathlib.Core.Path.{_≡_}
 use mathlib.Core.Bool.{true}
 use mathlib.Core.List.{List, [], _∷_, _++_}
 use Prim.Native.Nat.{ℕ, _≤_}
-use lib.ListN.{take}
+use lib.ListN.{getD, take}
 use Rattle.catalogue_text.specs.Catalogue.{Entry, Catalogue}
 use Rattle.catalogue_text.specs.Buffers.{formed, catalogueIn}
-use Rattle.catalogue_calls.specs.declared.Looked.{Looked}
-use Rattle.catalogue_calls.specs.declared.Changed.{Changed}
-use Rattle.catalogue_calls.specs.Calls.{lookedOf, putOf, putBuffer, removeOf, removeBuffer}
-use Rattle.catalogue_compact.specs.declared.Compacted.{Compacted}
-use Rattle.catalogue_compact.specs.Compaction.{compactOf, compactBuffer}
+use Rattle.catalogue_calls.specs.Calls.{lookupFigures, putFigures, putBuffer, removeFigures, removeBuffer}
+use Rattle.catalogue_compact.specs.Compaction.{compactFigures, compactBuffer}
 
 -- a buffer and the length of its text
 pub record Lent : Type 0 where
@@ -25,29 +22,19 @@ pub data CatalogueCall : Type 0 where
   lookup : (name : List ℕ) → CatalogueCall
   lend : (rest : List ℕ) → CatalogueCall
 
--- the length to be given to the next call: the one answered, or after a refusal the one before
-abbrev pub sizeAfter : Changed → ℕ → ℕ
-sizeAfter (Changed.Done size revision) before = size
-sizeAfter (Changed.Refused r) before = before
-
--- the same of a compaction
-abbrev pub sizeCompacted : Compacted → ℕ → ℕ
-sizeCompacted (Compacted.Done size) before = size
-sizeCompacted (Compacted.Refused r) before = before
-
--- what a call leaves, as the contracts say it
+-- what a call leaves, as the contracts say it; the length to be given to the next call is the one answered, or after a refusal the one before
 abbrev pub afterCall : CatalogueCall → Lent → Lent
 afterCall (put m w c name expected) lent = record {
   buffer = putBuffer m w c name expected (lent .buffer) (lent .size);
-  size = sizeAfter (putOf m w c name expected (lent .buffer) (lent .size)) (lent .size);
+  size = getD (putFigures m w c name expected (lent .buffer) (lent .size)) 0 (lent .size);
 }
 afterCall (remove name expected) lent = record {
   buffer = removeBuffer name expected (lent .buffer) (lent .size);
-  size = sizeAfter (removeOf name expected (lent .buffer) (lent .size)) (lent .size);
+  size = getD (removeFigures name expected (lent .buffer) (lent .size)) 0 (lent .size);
 }
 afterCall compact lent = record {
   buffer = compactBuffer (lent .buffer) (lent .size);
-  size = sizeCompacted (compactOf (lent .buffer) (lent .size)) (lent .size);
+  size = getD (compactFigures (lent .buffer) (lent .size)) 0 (lent .size);
 }
 afterCall (lookup name) lent = lent
 afterCall (lend rest) lent = record { buffer = take (lent .size) (lent .buffer) ++ rest; size = lent .size }
@@ -76,9 +63,9 @@ pub record Between (early late : Lent) : Type 0 where
   pub whole : formed (late .buffer) (late .size) ≡ true
   -- "a name with a revision never stands for two shapes": two lines with the same name and revision carry the same shape
   pub one-shape : (e f : Entry) → LineIn e early → LineIn f late → e .name ≡ f .name → e .revision ≡ f .revision → e ≡ f
-  -- so do two lookups
-  pub one-lookup : (name : List ℕ) (r m w c k l n : ℕ) → lookedOf (early .buffer) (early .size) name ≡ Looked.Found r m w c
-      → lookedOf (late .buffer) (late .size) name ≡ Looked.Found r k l n → (m ≡ k) × (w ≡ l) × (c ≡ n)
+  -- two lookups that give the same revision of a name give the same shape
+  pub one-lookup : (name : List ℕ) (r m w c k l n : ℕ) → lookupFigures (early .buffer) (early .size) name ≡ r ∷ m ∷ w ∷ c ∷ []
+      → lookupFigures (late .buffer) (late .size) name ≡ r ∷ k ∷ l ∷ n ∷ [] → (m ≡ k) × (w ≡ l) × (c ≡ n)
   -- a name's revisions only rise
   pub rises : (e f : Entry) → LineIn e early → LineIn f late → e .name ≡ f .name → e .revision ≤ f .revision
   -- the revision of a line that was dropped is at most the floor

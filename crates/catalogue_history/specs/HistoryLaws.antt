@@ -7,11 +7,11 @@ use Prim.Native.Nat.{ℕ, zero, suc, _+_, _≤_, _<_}
 use native.Mathlib.Omega.{arith}
 use native.Mathlib.Decide.{ℕ-discrete}
 use borrow.Author.Tests.{eq-eqb, ne-eqb, eqb-true, eqb-false, le-leb}
-use lib.ListN.{length, take, length-append}
+use lib.ListN.{length, getD, take, length-append}
 use lib.Seq.{take-at, length-take-le}
 use lib.Dec.{T, eqb}
 use Rattle.counting.specs.TestLaws.{and-l, and-r}
-use Rattle.code.specs.Refusals.{refuse, _orElse_}
+use Rattle.code.specs.Refusals.{refuse, _orElse_, unlessRefused}
 use Rattle.code.specs.RefusalsLaws.{refuse-zero, orElse-zero}
 use Rattle.text.specs.Fields.{same}
 use Rattle.text.specs.FieldLaws.{same-eq}
@@ -24,16 +24,13 @@ use Rattle.catalogue_text.specs.Changes.{entryFor, entryIn, putIn, lastRevision
 use Rattle.catalogue_text.specs.ChangesLaws.{put-found, put-others, compacted-floor}
 use Rattle.catalogue_text.specs.Buffers.{formed, catalogueIn}
 use Rattle.catalogue_text.specs.BuffersLaws.{formed-good, formed-parts}
-use Rattle.catalogue_calls.specs.declared.Looked.{Looked}
-use Rattle.catalogue_calls.specs.declared.Changed.{Changed}
-use Rattle.catalogue_calls.specs.Calls.{textRefusal, nameRefusal, foundRefusal, stored, lookedAt, lookedOf, lookupRefusal, putRefusal, putOf, putBuffer}
-use Rattle.catalogue_calls.specs.Calls.{removeRefusal, removeOf, removeBuffer}
-use Rattle.catalogue_compact.specs.declared.Compacted.{Compacted}
-use Rattle.catalogue_compact.specs.Compaction.{compactOf, compactBuffer}
+use Rattle.catalogue_calls.specs.Calls.{textRefusal, nameRefusal, foundRefusal, stored, lookupRefusal, entryFigures, lookupFigures, putRefusal, putFigures}
+use Rattle.catalogue_calls.specs.Calls.{putBuffer, removeRefusal, removeFigures, removeBuffer}
+use Rattle.catalogue_compact.specs.Compaction.{compactFigures, compactBuffer}
 use Rattle.catalogue_history.specs.Demand.{ChangeDone, ChangeRefused, CompactDone}
 use Rattle.catalogue_history.specs.DemandLaws.{compacted-entry, last-most, put-done, put-refused, remove-done, remove-refused}
 use Rattle.catalogue_history.specs.DemandLaws.{compact-done}
-use Rattle.catalogue_history.specs.History.{Lent, CatalogueCall, put, remove, compact, lookup, lend, sizeAfter, sizeCompacted, afterCall, afterCalls}
+use Rattle.catalogue_history.specs.History.{Lent, CatalogueCall, put, remove, compact, lookup, lend, afterCall, afterCalls}
 use Rattle.catalogue_history.specs.History.{readIn}
 use Rattle.catalogue_history.specs.History.{LineOf, here, there, LineIn, Between, NeverTwo}
 
@@ -151,17 +148,17 @@ becomes : (lent : Lent) (next : Catalogue) (after : List ℕ) (size new : ℕ) �
     → ((name : List ℕ) → Kept name (readIn lent) next) → Step lent (record { buffer = after; size = size })
 becomes lent next after size new s f r k = rw s (f, λ name. subst (Kept name (readIn lent)) (sym r) (k name))
 
-changed : (lent : Lent) → formed (lent .buffer) (lent .size) ≡ true → (answer : Changed) (after name : List ℕ) (m w c r : ℕ)
-    → (r ≡ 0 → ChangeDone answer after (lent .buffer) (lent .size) name m w c)
-    → ((k : ℕ) → r ≡ suc k → ChangeRefused answer after (lent .buffer) (suc k))
-    → Step lent (record { buffer = after; size = sizeAfter answer (lent .size) })
-changed lent f answer after name m w c zero done refused =
+changed : (lent : Lent) → formed (lent .buffer) (lent .size) ≡ true → (r : ℕ) (figures after name : List ℕ) (m w c : ℕ)
+    → (r ≡ 0 → ChangeDone r figures after (lent .buffer) (lent .size) name m w c)
+    → ((k : ℕ) → r ≡ suc k → ChangeRefused r figures after (lent .buffer) (suc k))
+    → Step lent (record { buffer = after; size = getD figures 0 (lent .size) })
+changed lent f zero figures after name m w c done refused =
     let d = done refl in
-    becomes lent (changedBy name m w c (readIn lent)) after (sizeAfter answer (lent .size)) _ (ap (λ a. sizeAfter a (lent .size)) (d .answered)) (d .whole)
+    becomes lent (changedBy name m w c (readIn lent)) after (getD figures 0 (lent .size)) _ (ap (λ l. getD l 0 (lent .size)) (d .answered)) (d .whole)
     (d .read) (λ other. change-kept name m w c (readIn lent) other)
-changed lent f answer after name m w c (suc k) done refused =
+changed lent f (suc k) figures after name m w c done refused =
     let d = refused k refl in
-    stays lent f after (sizeAfter answer (lent .size)) (d .stays) (ap (λ a. sizeAfter a (lent .size)) (d .answered))
+    stays lent f after (getD figures 0 (lent .size)) (d .stays) (ap (λ l. getD l 0 (lent .size)) (d .none))
 
 -- the text in another buffer is read as before
 lent-again : (lent : Lent) (rest : List ℕ) → formed (lent .buffer) (lent .size) ≡ true → Step lent (afterCall (lend rest) lent)
@@ -183,17 +180,17 @@ lent-again lent rest f =
 
 call-step : (call : CatalogueCall) (lent : Lent) → formed (lent .buffer) (lent .size) ≡ true → Step lent (afterCall call lent)
 call-step (put m w c name expected) lent f =
-    changed lent f (putOf m w c name expected (lent .buffer) (lent .size)) (putBuffer m w c name expected (lent .buffer) (lent .size)) name m w c
-    (putRefusal m w c name expected (lent .buffer) (lent .size)) (λ z. put-done m w c name expected (lent .buffer) (lent .size) z)
+    changed lent f (putRefusal m w c name expected (lent .buffer) (lent .size)) (putFigures m w c name expected (lent .buffer) (lent .size))
+    (putBuffer m w c name expected (lent .buffer) (lent .size)) name m w c (λ z. put-done m w c name expected (lent .buffer) (lent .size) z)
     (λ k e. put-refused m w c name expected (lent .buffer) (lent .size) k e)
 call-step (remove name expected) lent f =
-    changed lent f (removeOf name expected (lent .buffer) (lent .size)) (removeBuffer name expected (lent .buffer) (lent .size)) name 0 0 0
-    (removeRefusal name expected (lent .buffer) (lent .size)) (λ z. remove-done name expected (lent .buffer) (lent .size) z)
+    changed lent f (removeRefusal name expected (lent .buffer) (lent .size)) (removeFigures name expected (lent .buffer) (lent .size))
+    (removeBuffer name expected (lent .buffer) (lent .size)) name 0 0 0 (λ z. remove-done name expected (lent .buffer) (lent .size) z)
     (λ k e. remove-refused name expected (lent .buffer) (lent .size) k e)
 call-step compact lent f =
     let d = compact-done (lent .buffer) (lent .size) f in
-    becomes lent (compacted (readIn lent)) (compactBuffer (lent .buffer) (lent .size)) (sizeCompacted (compactOf (lent .buffer) (lent .size)) (lent .size)) _
-    (ap (λ a. sizeCompacted a (lent .size)) (d .answered)) (d .whole) (d .read) (compact-kept (readIn lent) (formed-good (lent .buffer) (lent .size) f))
+    becomes lent (compacted (readIn lent)) (compactBuffer (lent .buffer) (lent .size)) (getD (compactFigures (lent .buffer) (lent .size)) 0 (lent .size)) _
+    (ap (λ l. getD l 0 (lent .size)) (d .answered)) (d .whole) (d .read) (compact-kept (readIn lent) (formed-good (lent .buffer) (lent .size) f))
 call-step (lookup name) lent f = (f, λ other. kept-same other (readIn lent))
 call-step (lend rest) lent f = lent-again lent rest f
 
@@ -335,9 +332,9 @@ record Shown (e : Entry) (r m w c : ℕ) : Type 0 where
   width : e .w ≡ w
   checks : e .c ≡ c
 
-looked-shown : (buffer : List ℕ) (size : ℕ) (name : List ℕ) (r m w c : ℕ) → lookedOf buffer size name ≡ Looked.Found r m w c
+looked-shown : (buffer : List ℕ) (size : ℕ) (name : List ℕ) (r m w c : ℕ) → lookupFigures buffer size name ≡ r ∷ m ∷ w ∷ c ∷ []
     → Shown (stored buffer size name) r m w c
-unfolding lookedOf lookupRefusal foundRefusal
+unfolding lookupFigures lookupRefusal foundRefusal
 looked-shown buffer size name r m w c e = go (lookupRefusal buffer size name) refl e
   where
     open-test : lookupRefusal buffer size name ≡ 0 → isGone (stored buffer size name) ≡ false
@@ -346,13 +343,14 @@ looked-shown buffer size name r m w c e = go (lookupRefusal buffer size name) re
         let b = orElse-zero (nameRefusal name) _ (a .1) in
         refuse-zero 17 _ (b .1)
 
-    go : (k : ℕ) → lookupRefusal buffer size name ≡ k → lookedAt k (stored buffer size name) ≡ Looked.Found r m w c → Shown (stored buffer size name) r m w c
+    go : (k : ℕ) → lookupRefusal buffer size name ≡ k → unlessRefused k (entryFigures (stored buffer size name)) [] ≡ r ∷ m ∷ w ∷ c ∷ []
+        → Shown (stored buffer size name) r m w c
     go zero z h = record { there = open-test z; revision = cc; groups = cc; width = cc; checks = cc }
     go (suc k) z h = let q : _≡_ {A = ℕ} 0 1 = cc in absurd (omega arith)
 
 module _ (early late : Lent) (f : formed (early .buffer) (early .size) ≡ true) (s : Step early late) where
-  lookups-same : (name : List ℕ) (r m w c k l n : ℕ) → lookedOf (early .buffer) (early .size) name ≡ Looked.Found r m w c
-      → lookedOf (late .buffer) (late .size) name ≡ Looked.Found r k l n → (m ≡ k) × (w ≡ l) × (c ≡ n)
+  lookups-same : (name : List ℕ) (r m w c k l n : ℕ) → lookupFigures (early .buffer) (early .size) name ≡ r ∷ m ∷ w ∷ c ∷ []
+      → lookupFigures (late .buffer) (late .size) name ≡ r ∷ k ∷ l ∷ n ∷ [] → (m ≡ k) × (w ≡ l) × (c ≡ n)
   lookups-same name r m w c k l n p q =
       let a = looked-shown (early .buffer) (early .size) name r m w c p in
       let b = looked-shown (late .buffer) (late .size) name r k l n q in

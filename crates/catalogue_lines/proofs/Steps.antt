@@ -5,6 +5,7 @@ use mathlib.Core.List.{List, [], _∷_}
 use Prim.Native.Nat.{ℕ, suc, _+_, _-_, _≤_, _<_}
 use native.Mathlib.Numerals.{add-one}
 use native.Mathlib.Omega.{arith}
+use native.Mathlib.Decide.{decLe}
 use borrow.Author.Tests.{lt-ltb, le-ltb, le-leb, lt-leb, eq-eqb, ne-eqb}
 use lib.Dec.{eqb, leb, ltb}
 use lib.ListN.{length, getD, take, drop, length-drop, drop-of-length-le}
@@ -23,12 +24,18 @@ use Rattle.catalogue_lines.specs.Reading.{unread, numbersGood, lineIf, g
 
 -- a byte of a name
 module _ (x : ℕ) where
-  pub byte-letter : 97 ≤ x → ltb x 123 ≡ nameByte x
-  byte-letter l =
-      simp (le-leb 97 x l, le-leb 48 x (omega arith), le-ltb x 58 (omega arith), ne-eqb x 45 (λ e. omega arith)) (sym (or-false (ltb x 123)))
+  at-most : (k : ℕ) → leb x k ≡ ltb x (suc k)
+  at-most k = elim (decLe x k) [
+    | yes l ↦ le-leb x k l ∙ sym (lt-ltb x (suc k) (omega arith))
+    | no l ↦ lt-leb x k (omega arith) ∙ sym (le-ltb x (suc k) (omega arith))
+  ]
 
-  pub byte-digit : x < 97 → 48 ≤ x → ltb x 58 ≡ nameByte x
-  byte-digit h l = simp (lt-leb 97 x h, le-leb 48 x l, ne-eqb x 45 (λ e. omega arith)) (sym (or-false (ltb x 58)))
+  pub byte-letter : 97 ≤ x → leb x 122 ≡ nameByte x
+  byte-letter l =
+      at-most 122 ∙ simp (le-leb 97 x l, le-leb 48 x (omega arith), le-ltb x 58 (omega arith), ne-eqb x 45 (λ e. omega arith)) (sym (or-false (ltb x 123)))
+
+  pub byte-digit : x < 97 → 48 ≤ x → leb x 57 ≡ nameByte x
+  byte-digit h l = at-most 57 ∙ simp (lt-leb 97 x h, le-leb 48 x l, ne-eqb x 45 (λ e. omega arith)) (sym (or-false (ltb x 58)))
 
   pub byte-hyphen : x < 97 → x < 48 → eqb x 45 ≡ nameByte x
   byte-hyphen h l = simp (lt-leb 97 x h, lt-leb 48 x l)

@@ -300,11 +300,10 @@ module _ (line : List ℕ) (size : ℕ) (f₁ : Field) (s : size ≡ endOf 9 0 l
     four-is : f₄ ≡ fourth line
     four-is = e₄ ∙ ap (λ (f : Field). fieldAfter (f .end) line) three
 
-    pub read-longer : f₄ .end < length line → readLine line ≡ unread
-    read-longer l = line-longer line (sym says ∙ shaped) (subst (λ (f : Field). f .end < length line) four-is l)
-
-    pub read-numbers : goodName (lineName line) ≡ true → length line ≤ f₄ .end
-        → readLine line ≡ lineIf size (f₁ .value) (f₂ .value) (f₃ .value) (f₄ .value)
-    read-numbers g l =
-        let e = line-read line g (sym says ∙ shaped) (subst (λ (f : Field). length line ≤ f .end) four-is l) in
-        rw (s, one, two, three, four-is) e
+    pub read-rest : goodName (lineName line) ≡ true
+        → (f₄ .end < length line → readLine line ≡ unread)
+        × (length line ≤ f₄ .end → readLine line ≡ lineIf size (f₁ .value) (f₂ .value) (f₃ .value) (f₄ .value))
+    read-rest g = (
+      (λ l. line-longer line (sym says ∙ shaped) (subst (λ (f : Field). f .end < length line) four-is l)),
+      λ l. rw (s, one, two, three, four-is) (line-read line g (sym says ∙ shaped) (subst (λ (f : Field). length line ≤ f .end) four-is l)),
+    )

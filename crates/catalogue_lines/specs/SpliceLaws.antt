@@ -89,7 +89,7 @@ move-none buffer at n part = let z : n - n ≡ 0 = omega arith in rw z (sym (wri
 -- ---- a line in the place of some bytes
 pub splice-step : (buffer moved after line : List ℕ) (size from to : ℕ) → SpliceFits buffer size from to line
     → moved ≡ written buffer (from + length line) (take (size - to) (drop to buffer)) → after ≡ putAt moved from line
-    → (length moved ≡ length buffer) × (after ≡ splicedIn buffer size from to line)
+    → after ≡ splicedIn buffer size from to line
 unfolding splicedIn
 splice-step buffer moved after line size from to f e p =
     let tail : List ℕ = take (size - to) (drop to buffer) in
@@ -99,10 +99,8 @@ splice-step buffer moved after line size from to f e p =
     let r = f .room in
     let d : length (drop to buffer) ≡ length buffer - to = length-drop to buffer in
     let n : length tail ≡ size - to = length-take-le (size - to) (drop to buffer) (omega arith) in
-    let s : length moved ≡ length buffer = ap length e ∙ length-written buffer (from + length line) tail (omega arith) in (
-      s,
-      p ∙ put-room moved from line (omega arith) .1 ∙ rw e (written-under buffer from line tail (omega arith)),
-    )
+    let s : length moved ≡ length buffer = ap length e ∙ length-written buffer (from + length line) tail (omega arith) in
+    p ∙ put-room moved from line (omega arith) .1 ∙ rw e (written-under buffer from line tail (omega arith))
 
 -- ---- numbers put one after the other
 pub record Put (out : List ℕ) (at : ℕ) (done : List ℕ) (next : ℕ) (after : List ℕ) : Type 0 where
@@ -175,10 +173,7 @@ module _ (name o₁ : List ℕ) (at : ℕ) (short : length name ≤ 16) (p₁ : 
     cells-few : length (cellsOf 4 numbers) ≤ 24
     cells-few = let m = cells-most 4 numbers in omega arith
 
-    pub line-end : end < 48
-    line-end = let n = named .place in let m = cells-few in omega arith
-
-    pub line-put : (end + 1 ≡ length (lineWith 4 name numbers)) × (set o₂ end 10 ≡ padded 48 (lineWith 4 name numbers))
+    pub line-put : (end < 48) × (end + 1 ≡ length (lineWith 4 name numbers)) × (set o₂ end 10 ≡ padded 48 (lineWith 4 name numbers))
     unfolding lineWith
     line-put =
         let n = named .place in
@@ -188,6 +183,7 @@ module _ (name o₁ : List ℕ) (at : ℕ) (short : length name ≤ 16) (p₁ : 
         let whole : o₂ ≡ written (replicate 48 0) 0 body =
         q₂ ∙ rw (named .holds, n) (written-on (replicate 48 0) 0 name (cellsOf 4 numbers) (omega arith)) in
         let a : body ++ (10 ∷ []) ≡ name ++ (cellsOf 4 numbers ++ (10 ∷ [])) = append-assoc name (cellsOf 4 numbers) (10 ∷ []) in (
+          omega arith,
           (let z = length-append body (10 ∷ []) in let y = ap length a in omega arith),
           rw whole (written-next (replicate 48 0) 0 body end 10 (omega arith) (omega arith)) ∙ written-padded 48 (body ++ (10 ∷ [])) ∙ ap (padded 48) a,
         )

@@ -32,13 +32,13 @@ struct Field {
 fn is_name_byte(x: u8) -> bool
     ensures { λ r. ⌜ r ≡ nameByte x ⌝ }
 {
-    if 97 <= x {
-        return x < 123;
+    if b'a' <= x {
+        return x <= b'z';
     }
-    if 48 <= x {
-        return x < 58;
+    if b'0' <= x {
+        return x <= b'9';
     }
-    x == 45
+    x == b'-'
 }
 
 // Whether a name is 1 to 16 such bytes.
@@ -190,7 +190,7 @@ pub struct Row {
 }
 
 // Moves the bytes between two places down to a place not after them.
-fn move_down(buffer: &mut [u8], from: usize, end: usize, to: usize)
+pub fn move_down(buffer: &mut [u8], from: usize, end: usize, to: usize)
     requires { ⌜ (to ≤ from) × (from ≤ end) × (end ≤ length (now buffer)) ⌝ }
     ensures { λ _. ⌜ now (buffer .exit) ≡ written (now (buffer .entry)) to (take (end - from) (drop from (now (buffer .entry)))) ⌝ }
 {
@@ -227,44 +227,12 @@ fn move_bytes(buffer: &mut [u8], from: usize, end: usize, to: usize)
     move_up(buffer, from, end, to);
 }
 
-// Moves the bytes between two places down, if they lie in the buffer and the new place is not after them; else nothing changes.
-pub fn shift_down(buffer: &mut [u8], from: usize, end: usize, to: usize)
-    ensures fits { λ _. ⌜ (to ≤ from → from ≤ end → end ≤ length (now (buffer .entry)) → now (buffer .exit) ≡ written (now (buffer .entry)) to (take (end - from) (drop from (now (buffer .entry))))) ⌝ }
-    ensures stays { λ _. ⌜ ((to ≤ from → from ≤ end → length (now (buffer .entry)) < end) → now (buffer .exit) ≡ now (buffer .entry)) ⌝ }
-{
-    if from < to {
-        return;
-    }
-    if end < from {
-        return;
-    }
-    if buffer.len() < end {
-        return;
-    }
-    move_down(buffer, from, end, to);
-}
-
-// Puts a line in the place of the bytes from one place to another of a text of so many bytes, if it fits; else nothing changes.
+// Puts a line in the place of the bytes from one place to another of a text of so many bytes.
 pub fn splice(buffer: &mut [u8], size: usize, from: usize, to: usize, line: &[u8])
-    ensures fits { λ _. ⌜ (SpliceFits (now (buffer .entry)) size from to (now (line .entry)) → now (buffer .exit) ≡ splicedIn (now (buffer .entry)) size from to (now (line .entry))) ⌝ }
-    ensures stays { λ _. ⌜ ((SpliceFits (now (buffer .entry)) size from to (now (line .entry)) → ⊥) → now (buffer .exit) ≡ now (buffer .entry)) ⌝ }
+    requires { ⌜ SpliceFits (now buffer) size from to (now line) ⌝ }
+    ensures { λ _. ⌜ now (buffer .exit) ≡ splicedIn (now (buffer .entry)) size from to (now (line .entry)) ⌝ }
 {
-    if to < from {
-        return;
-    }
-    if size < to {
-        return;
-    }
-    if buffer.len() < size {
-        return;
-    }
-    if buffer.len() - from < line.len() {
-        return;
-    }
     let start = from + line.len();
-    if buffer.len() - start < size - to {
-        return;
-    }
     move_bytes(buffer, to, size, start);
     text::put_text(buffer, from, line);
 }
@@ -315,18 +283,11 @@ fn shaped_line(name: &[u8], revision: u16, m: u8, w: u8, c: u8) -> Row
     }
 }
 
-// The line of a name of at most 16 bytes with its revision and its shape, or the word gone if m is 0; of a longer name the empty line, without a
-// line feed.
+// The line of a name of at most 16 bytes with its revision and its shape, or the word gone if m is 0.
 pub fn entry_line(name: &[u8], revision: u16, m: u8, w: u8, c: u8) -> Row
-    ensures line { λ r. ⌜ (length (now (name .entry)) ≤ 16 → HoldsRow r (entryLine (record { name = now (name .entry); revision = revision; m = m; w = w; c = c }))) ⌝ }
-    ensures none { λ r. ⌜ (16 < length (now (name .entry)) → HoldsRow r []) ⌝ }
+    requires { ⌜ length (now name) ≤ 16 ⌝ }
+    ensures { λ r. ⌜ HoldsRow r (entryLine (record { name = now (name .entry); revision = revision; m = m; w = w; c = c })) ⌝ }
 {
-    if 16 < name.len() {
-        return Row {
-            bytes: [0u8; 48],
-            length: 0,
-        };
-    }
     if m == 0 {
         return row_with(name, revision, b"\tgone\n");
     }

@@ -351,7 +351,7 @@ module _ (text : List ℕ) (t : T (ofForm text)) where
   unfolding ofForm
   read-good = and-l (goodCatalogue (catalogueOf text)) (same (catalogueText (catalogueOf text)) text) t
 
-  -- "a text that is accepted is the text of the list that it is read as"
+  -- A text that is accepted is the text of the list that it is read as.
   pub text-of-read : catalogueText (catalogueOf text) ≡ text
   unfolding ofForm
   text-of-read =

@@ -206,7 +206,7 @@ next-raised name m w c cat n = rw (ne-eqb ((entryIn name cat) .revision) 0 n)
 pub gone-expects : (e : Entry) → isGone e ≡ true → foundRevision e ≡ 0
 gone-expects e g = rw g
 
--- "the floor never falls"
+-- The floor never falls.
 pub compacted-floor : (cat : Catalogue) → cat .floor ≤ (compacted cat) .floor
 unfolding compacted
 compacted-floor cat = go (noneGone (cat .list))

@@ -44,7 +44,7 @@ module _ (E : Edition) (S : Sound E) (m w c : ℕ) (few : m ≤ S .r) (wide : 0 
   unfolding Bridge.symbol
   same-symbol x s p = mod-eq-of-lt (s .each p)
 
-  -- "the columns of the lost places are independent": two codewords that agree at all present places are equal, for an excess of at most two
+  -- The columns of the lost places are independent: two codewords that agree at all present places are equal, for an excess of at most two
   pub unique : (marks x y : List ℕ) → Codeword E m w c x → Codeword E m w c y → Agree (m * w) marks x y → excess m w c marks ≤ 2 → x ≡ y
   unfolding BridgeLaws.geometry Bridge.symbol
   unique marks x y X Y a h =

@@ -14,7 +14,7 @@ abbrev pub _orElse_ : ℕ → ℕ → ℕ
 zero orElse s = s
 suc r orElse s = suc r
 
--- "On every refusal all lent buffers [..] stay as they were": what a buffer holds at the end
+-- "On every refusal all lent buffers [..] stay as they were": what a buffer holds at the end, or what is answered beside the number
 abbrev pub unlessRefused : ℕ → List ℕ → List ℕ → List ℕ
 unlessRefused zero written lent = written
 unlessRefused (suc r) written lent = lent

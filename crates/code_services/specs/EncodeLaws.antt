@@ -16,8 +16,8 @@ use Rattle.code.specs.Refusals.{unlessRefused}
 use Rattle.code.specs.RefusalsLaws.{orElse-zero}
 use Rattle.code.specs.Limits.{Limits, placeCount, dataCount, GoodIn, SoldIn, saleRefusalIn, bufferRefusalIn}
 use Rattle.code.specs.LimitsLaws.{refusal-of-sold, retired-of-good, word-of-good, good-of-buffers, buffers-of-good}
-use Rattle.code_services.specs.Places.{isCheck, extractOf, placedOf, placedWordIn, checkMarks, mark}
-use Rattle.code_services.specs.PlacesLaws.{checks-inner, checks-last, marks-length, marks-at, marks-small, placed-length, placed-word, placed-below}
+use Rattle.code_services.specs.Places.{isCheck, extractOf, placedOf, checkMarks, mark}
+use Rattle.code_services.specs.PlacesLaws.{checks-inner, checks-last, marks-length, marks-at, marks-small, placed-length, placed-below}
 use Rattle.code_services.specs.PlacesLaws.{extract-placed}
 use Rattle.code_services.specs.PlacesLaws.{extract-agree, agree-extract}
 use Rattle.code_services.specs.MarksLaws.{marks-of-good}
@@ -66,6 +66,22 @@ module _ {E : Edition} (S : Sound E) {m w c : ℕ} (good : GoodIn (E .limits) m 
       let last : lostIn w (checkMarks m w c) g ≡ c + 2 = lost-count g (omega arith) ∙ checks-last good g (omega arith) in
       ap (λ n. totalBelow n (λ i. lostIn w (checkMarks m w c) i - c)) e ∙ total-suc g (λ i. lostIn w (checkMarks m w c) i - c) ∙ omega arith
 
+  -- with the check places lost any word of n is accepted, and its excess is 2
+  pub checks-low : excess m w c (checkMarks m w c) ≤ 2
+  checks-low = let e = two in omega arith
+
+  pub checks-accepted : (word : List ℕ) → length word ≡ m * w → recoverRefusalIn (E .limits) m w c word (checkMarks m w c) ≡ 0
+  unfolding recoverRefusalIn
+  checks-accepted word size =
+      simp (
+        word-of-good m w c (length word) good size,
+        marks-of-good m w c (checkMarks m w c) (record {
+          good = good;
+          size = marks-length m w c;
+          each = λ p. let h = marks-small m w c p in omega arith;
+        }),
+      )
+
   wide : 0 < w
   wide = let g = good in omega arith
 
@@ -91,18 +107,18 @@ module _ {E : Edition} (S : Sound E) {m w c : ℕ} (good : GoodIn (E .limits) m 
     unfolding encodedIn
     encoded-is =
         sym (ap (λ (o : Outcome). o .word) (recovered-done E S m w c few wide narrow (placedOf m w c carries) (checkMarks m w c) symbols agreeing
-        (let e = two in omega arith) agreeing-agrees))
+        checks-low agreeing-agrees))
 
     agrees : Agrees E m w c (checkMarks m w c) (placedOf m w c carries) (encodedIn E m w c carries)
     agrees = subst (Agrees E m w c (checkMarks m w c) (placedOf m w c carries)) encoded-is agreeing-agrees
 
-    -- "it is a codeword; extract gives the data back; it is the only codeword with that data": of all four c, so that every data has one codeword
+    -- It is a codeword, Extract gives the data back, and it is the only codeword with that data: of all four c, so that any data have one codeword.
     pub encoded : Encoded E m w c carries (encodedIn E m w c carries)
     encoded = record {
       codeword = agrees .codeword;
       carries = extract-agree m w c _ _ (λ p l e. agrees .agree p l (lost-check p l ∙ e)) ∙ extract-placed good carries size;
       only = λ y C d.
-          only-one E S m w c few wide narrow (placedOf m w c carries) (checkMarks m w c) symbols (let e = two in omega arith)
+          only-one E S m w c few wide narrow (placedOf m w c carries) (checkMarks m w c) symbols checks-low
           y (encodedIn E m w c carries)
           (record {
             codeword = C;
@@ -114,16 +130,7 @@ module _ {E : Edition} (S : Sound E) {m w c : ℕ} (good : GoodIn (E .limits) m 
 
     -- a recovery of the check places is done, and gives the encoded word
     not-refused : recoverRefusalIn (E .limits) m w c (placedOf m w c carries) (checkMarks m w c) ≡ 0
-    unfolding recoverRefusalIn
-    not-refused =
-        simp (
-          word-of-good m w c (length (placedOf m w c carries)) good (placed-length m w c carries),
-          marks-of-good m w c (checkMarks m w c) (record {
-            good = good;
-            size = marks-length m w c;
-            each = λ p. let h = marks-small m w c p in omega arith;
-          }),
-        )
+    not-refused = checks-accepted (placedOf m w c carries) (placed-length m w c carries)
 
     pub checks-recovered : (recoverIn E m w c (placedOf m w c carries) (checkMarks m w c)) .number ≡ 0
     unfolding recoverIn
@@ -131,7 +138,7 @@ module _ {E : Edition} (S : Sound E) {m w c : ℕ} (good : GoodIn (E .limits) m 
         ap (λ r. (unlessBefore r (recovered E m w c (placedOf m w c carries) (checkMarks m w c)) (placedOf m w c carries) (checkMarks m w c)) .number)
         not-refused
         ∙ ap (λ (o : Outcome). o .number) (recovered-done E S m w c few wide narrow (placedOf m w c carries) (checkMarks m w c) symbols agreeing
-        (let e = two in omega arith) agreeing-agrees)
+        checks-low agreeing-agrees)
 
     pub recovered-checks : (recoverIn E m w c (placedOf m w c carries) (checkMarks m w c)) .word ≡ encodedIn E m w c carries
     unfolding recoverIn encodedIn
@@ -170,21 +177,11 @@ retired E m w c carries word g e =
     let z = encode-retired m w c (length word) (length carries) g e in
     record { refused = ap answerAt z; stays = ap (λ r. unlessRefused r (encodedIn E m w c carries) word) z }
 
--- a call whose buffers are not refused: the word after the data are placed, and at the end
-module _ (E : Edition) (m w c : ℕ) (carries word after : List ℕ) (accepted : encodeRefusalIn (E .limits) m w c (length word) (length carries) ≡ 0)
-    (put : after ≡ placedWordIn (E .limits) m w c carries word) where
-  G : GoodIn (E .limits) m w c × (length word ≡ placeCount m w) × (length carries ≡ dataCount m w c)
-  G = good-of-encode m w c (length word) (length carries) accepted
-
-  put-is : after ≡ placedOf m w c carries
-  put-is = put ∙ placed-word (G .0) carries word (G .1) (G .2)
-
-  pub after-size : length after ≡ m * w
-  after-size = ap length put-is ∙ placed-length m w c carries
-
-  pub buffer-end : Sound E → ((i : ℕ) → getD carries i 0 < 2 ^ E .bits) → (end : List ℕ) → end ≡ (recoverIn E m w c after (checkMarks m w c)) .word → end
-      ≡ encodedBufferIn E m w c carries word
-  unfolding encodedBufferIn
-  buffer-end S small end e =
-      e ∙ ap (λ u. (recoverIn E m w c u (checkMarks m w c)) .word) put-is ∙ recovered-checks S (G .0) carries (G .2) small
-      ∙ sym (ap (λ r. unlessRefused r (encodedIn E m w c carries) word) accepted)
+-- a call that is accepted, at its end
+pub buffer-end : {E : Edition} (S : Sound E) (m w c : ℕ) (carries word end : List ℕ) → encodeRefusalIn (E .limits) m w c (length word) (length carries) ≡ 0
+    → ((i : ℕ) → getD carries i 0 < 2 ^ E .bits) → end ≡ (recoverIn E m w c (placedOf m w c carries) (checkMarks m w c)) .word
+    → end ≡ encodedBufferIn E m w c carries word
+unfolding encodedBufferIn
+buffer-end {E} S m w c carries word end accepted small e =
+    let G = good-of-encode m w c (length word) (length carries) accepted in
+    e ∙ recovered-checks S (G .0) carries (G .2) small ∙ sym (ap (λ r. unlessRefused r (encodedIn E m w c carries) word) accepted)

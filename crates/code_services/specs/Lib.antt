@@ -1,3 +1,5 @@
+pub mod Answered
+pub mod AnsweredLaws
 pub mod Marks
 pub mod MarksLaws
 pub mod Places

@@ -63,14 +63,6 @@ extractedIn L m w c word bytes = answerAt (bufferRefusalIn L m w c (length word)
 unfoldable pub extractedDataIn : Limits → ℕ → ℕ → ℕ → List ℕ → List ℕ → List ℕ
 extractedDataIn L m w c word bytes = unlessRefused (bufferRefusalIn L m w c (length word) (length bytes)) (extractOf m w c word) bytes
 
--- the word buffer after place, and the marks after mark_checks
-unfoldable pub placedWordIn : Limits → ℕ → ℕ → ℕ → List ℕ → List ℕ → List ℕ
-placedWordIn L m w c bytes word = unlessRefused (bufferRefusalIn L m w c (length word) (length bytes)) (placedOf m w c bytes) word
-
--- unless shape or length is refused
-unfoldable pub markedChecksIn : Limits → ℕ → ℕ → ℕ → List ℕ → List ℕ
-markedChecksIn L m w c marks = unlessRefused (wordRefusalIn L m w c (length marks)) (checkMarks m w c) marks
-
 -- The service Check marks, for encoding by a rebuild: refused with 1 to 4, 26, 29 and then 5, as Encode is
 unfoldable pub checkMarksRefusalIn : Limits → ℕ → ℕ → ℕ → ℕ → ℕ
 checkMarksRefusalIn L m w c lent = saleRefusalIn L m w c orElse wordRefusalIn L m w c lent

@@ -13,8 +13,8 @@ use borrow.Author.Tests.{le-leb, lt-leb, eq-eqb, ne-eqb}
 use Rattle.code.specs.RefusalsLaws.{orElse-zero}
 use Rattle.code.specs.Limits.{Limits, placeCount, dataCount, GoodIn, saleRefusalIn, wordRefusalIn}
 use Rattle.code.specs.LimitsLaws.{data-and-checks, good-of-word, word-of-good, buffers-of-good}
-use Rattle.code_services.specs.Places.{isCheck, othersFrom, dataPlaces, bytesAt, extractOf, placedOf, mark, checkMarks, extractedDataIn, placedWordIn}
-use Rattle.code_services.specs.Places.{marksFrom, markedChecksIn, checkMarksRefusalIn}
+use Rattle.code_services.specs.Places.{isCheck, othersFrom, dataPlaces, bytesAt, extractOf, placedOf, mark, checkMarks, extractedDataIn}
+use Rattle.code_services.specs.Places.{marksFrom, checkMarksRefusalIn}
 use Rattle.code_services.specs.PlacesRuns.{withChecks}
 use Rattle.code_engine.specs.GroupsLaws.{groups-whole}
 use Rattle.counting.specs.Count.{totalBelow, countBelow, one}
@@ -91,17 +91,6 @@ module _ {L : Limits} {m w c : ℕ} (good : GoodIn L m w c) where
   pub extract-placed : (bytes : List ℕ) → length bytes ≡ dataCount m w c → extractOf m w c (placedOf m w c bytes) ≡ bytes
   unfolding extractOf placedOf dataPlaces bytesAt
   extract-placed bytes e = FromLaws.others-spread (isCheck m w c) 0 (placeCount m w) [] bytes refl (e ∙ sym data-length)
-
--- what a call that is not refused leaves
-module _ {L : Limits} {m w c : ℕ} (good : GoodIn L m w c) where
-  pub placed-word : (bytes word : List ℕ) → length word ≡ placeCount m w → length bytes ≡ dataCount m w c → placedWordIn L m w c bytes word
-      ≡ placedOf m w c bytes
-  unfolding placedWordIn
-  placed-word bytes word e f = rw (buffers-of-good m w c (length word) (length bytes) good e f)
-
-  pub marked-checks : (marks : List ℕ) → length marks ≡ placeCount m w → markedChecksIn L m w c marks ≡ checkMarks m w c
-  unfolding markedChecksIn
-  marked-checks marks e = rw (word-of-good m w c (length marks) good e)
 
 module _ (m w c : ℕ) where
   pub placed-length : (bytes : List ℕ) → length (placedOf m w c bytes) ≡ placeCount m w

@@ -1,6 +1,7 @@
 -- Demand 2 of Recover as it runs: "Recovery is refused as undetermined exactly when two different codewords agree at every present place, else
 -- as contradictory exactly when no codeword agrees with the present bytes, else the single agreeing codeword stands in the word"; and the
--- group that a 9 carries. It is stated of recoverIn, with which, in the edition of bytes, the contract of recover::recover is an equation.
+-- group that a 9 carries. It is stated of recoverIn, whose number, group, word and marks the contract of recover::recover gives, in the edition of
+-- bytes.
 use mathlib.Core.Path.{_≡_}
 use mathlib.Core.Logic.{_↔_}
 use mathlib.Core.List.{List}

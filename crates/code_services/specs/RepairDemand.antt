@@ -1,5 +1,5 @@
 -- Demand 2 of Repair as it runs: "One group's repair obeys the same rule over its own equations", and touches nothing outside its group. It is
--- stated of repairIn, with which, in the edition of bytes, the contract of repair::repair is an equation.
+-- stated of repairIn, whose number, group, word and marks the contract of repair::repair gives, in the edition of bytes.
 use mathlib.Core.Path.{_≡_}
 use mathlib.Core.Logic.{_↔_, _⊎_}
 use mathlib.Core.List.{List}

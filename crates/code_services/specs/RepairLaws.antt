@@ -15,10 +15,10 @@ use lib.Seq.{ext-getD}
 use Rattle.code.specs.Refusals.{refuse, _orElse_}
 use Rattle.code.specs.RefusalsLaws.{refuse-most, orElse-most, orElse-first}
 use Rattle.answers.specs.declared.Mending.{Mending}
-use Rattle.answers.specs.Answers.{mendingAt}
 use Rattle.code.specs.Lent.{LentIn}
 use Rattle.code.specs.LentLaws.{part-stretch, part-length, with-lent}
 use Rattle.code.specs.Limits.{Limits}
+use Rattle.code_services.specs.Answered.{AnswersBy}
 use Rattle.code_services.specs.Attempt.{AcceptedIn}
 use Rattle.code_services.specs.Recover.{unlessBefore, recoverRefusalIn}
 use Rattle.code_services.specs.RecoverLaws.{unless-before}
@@ -136,11 +136,15 @@ module _ (E : Edition) (m w c g : ℕ) (word marks : List ℕ) (A : AcceptedIn (
       ∙ ap inWhole (sym (ap (λ n. repaired E n c g (lentOf word) (lentOf marks)) (part-length L g l refl)
       ∙ ap₂ (repaired E w c g) (part-stretch L g l refl) (part-stretch M g l refl)))
 
-  pub service-lent : (r : Mending) (part held : List ℕ) → r ≡ mendingAt (left .number) (left .group) → part ≡ left .word → held ≡ left .marks
-      → (r ≡ mendingAt ((repairIn E m w c g word marks) .number) ((repairIn E m w c g word marks) .group))
+  pub service-lent : (r : Mending) (part held : List ℕ) → AnswersBy r left → part ≡ left .word → held ≡ left .marks
+      → AnswersBy r (repairIn E m w c g word marks)
       × ((putBack word part ≡ (repairIn E m w c g word marks) .word) × (putBack marks held ≡ (repairIn E m w c g word marks) .marks))
   service-lent r part held n p h = (
-    n ∙ ap (λ o. mendingAt (o .number) (o .group)) (sym whole),
+    record {
+      number = n .number ∙ ap (λ o. o .number) (sym whole);
+      group = n .group ∙ ap (λ o. o .group) (sym whole);
+      refusal = n .refusal;
+    },
     (
       with-lent w g word part ∙ ap (withStretch w g word) p ∙ ap (λ o. o .word) (sym whole),
       with-lent w g marks held ∙ ap (withStretch w g marks) h

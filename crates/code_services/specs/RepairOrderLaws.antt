@@ -14,11 +14,12 @@ use lib.Dec.{ltb}
 use lib.ListN.{length, getD, drop, replicate, length-replicate, getD-replicate, drop-of-length-le}
 use lib.Seq.{drop-cons}
 use Rattle.answers.specs.declared.Mending.{Mending}
-use Rattle.answers.specs.Answers.{mendingAt}
 use Rattle.code.specs.Refusals.{refuse, _orElse_}
 use Rattle.code.specs.RefusalsLaws.{orElse-zero}
 use Rattle.code.specs.Limits.{GoodIn, wordRefusalIn}
 use Rattle.code.specs.LimitsLaws.{good-of-word}
+use Rattle.code_services.specs.Answered.{AnswersBy}
+use Rattle.code_services.specs.AnsweredLaws.{answers-of, answers-same}
 use Rattle.code_services.specs.Marks.{marksRefusalIn}
 use Rattle.code_services.specs.MarksLaws.{good-of-marks}
 use Rattle.code.specs.Edition.{Edition, Sound}
@@ -224,7 +225,7 @@ module _ (E : Edition) (m w c : ℕ) (list : List ℕ) (i : ℕ) (word marks : L
 module _ {E : Edition} (sound : Sound E) (m w c : ℕ) (list word marks word₁ marks₁ word₂ marks₂ : List ℕ) (r : Mending)
     (small : (p : ℕ) → getD word p 0 < 2 ^ E .bits)
     (before : held word₁ marks₁ ≡ heldAfterList E m w c list (held word marks))
-    (answer-is : r ≡ mendingAt ((recoverIn E m w c word₁ marks₁) .number) ((recoverIn E m w c word₁ marks₁) .group))
+    (answer-is : AnswersBy r (recoverIn E m w c word₁ marks₁))
     (word-is : word₂ ≡ (recoverIn E m w c word₁ marks₁) .word) (marks-is : marks₂ ≡ (recoverIn E m w c word₁ marks₁) .marks) where
   outcome : recoverIn E m w c word₁ marks₁ ≡ recoverAfter E m w c list word marks
   outcome = ap (recoverHeld E m w c) before
@@ -232,8 +233,8 @@ module _ {E : Edition} (sound : Sound E) (m w c : ℕ) (list word marks word₁ 
   S : SameEnd (recoverAfter E m w c list word marks) (recoverIn E m w c word marks)
   S = same-recovery sound m w c list word marks small
 
-  pub after-answer : r ≡ mendingAt ((recoverAfter E m w c list word marks) .number) ((recoverAfter E m w c list word marks) .group)
-  after-answer = answer-is ∙ ap (λ o. mendingAt (o .number) (o .group)) outcome
+  pub after-answer : AnswersBy r (recoverAfter E m w c list word marks)
+  after-answer = answers-of outcome answer-is
 
   pub after-word : word₂ ≡ (recoverAfter E m w c list word marks) .word
   after-word = word-is ∙ ap (λ o. o .word) outcome
@@ -242,10 +243,10 @@ module _ {E : Edition} (sound : Sound E) (m w c : ℕ) (list word marks word₁ 
   after-marks = marks-is ∙ ap (λ o. o .marks) outcome
 
   -- the clauses in their order
-  pub contract : (r ≡ mendingAt ((recoverAfter E m w c list word marks) .number) ((recoverAfter E m w c list word marks) .group))
+  pub contract : AnswersBy r (recoverAfter E m w c list word marks)
       × ((word₂ ≡ (recoverAfter E m w c list word marks) .word)
       × ((marks₂ ≡ (recoverAfter E m w c list word marks) .marks)
-      × ((r ≡ mendingAt ((recoverIn E m w c word marks) .number) ((recoverIn E m w c word marks) .group))
+      × (AnswersBy r (recoverIn E m w c word marks)
       × (((recoverIn E m w c word marks) .number ≡ 0 → word₂ ≡ (recoverIn E m w c word marks) .word)
       × ((recoverIn E m w c word marks) .number ≡ 0 → marks₂ ≡ (recoverIn E m w c word marks) .marks)))))
   contract = (
@@ -254,7 +255,7 @@ module _ {E : Edition} (sound : Sound E) (m w c : ℕ) (list word marks word₁ 
       after-word,
       (
         after-marks,
-        (after-answer ∙ ap₂ mendingAt (S .number) (S .group), ((λ e. after-word ∙ S .word (S .number ∙ e)), (λ e. after-marks ∙ S .marks (S .number ∙ e)))),
+        (answers-same S after-answer, ((λ e. after-word ∙ S .word (S .number ∙ e)), (λ e. after-marks ∙ S .marks (S .number ∙ e)))),
       ),
     ),
   )

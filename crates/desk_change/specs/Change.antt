@@ -1,10 +1,7 @@
 -- What Lose and Find answer, and what the desk holds then: "Let a job take "place lost" and "place found" by handle."
-use mathlib.Core.Path.{_≡_}
-use Prim.Native.Nat.{ℕ, zero, suc}
+use Prim.Native.Nat.{ℕ}
 use lib.Dec.{leb, ltb}
 use lib.ListN.{set}
-use Rattle.answers.specs.declared.Answer.{Answer}
-use Rattle.answers.specs.Answers.{answerAt, answerNumber}
 use Rattle.code.specs.Refusals.{refuse, _orElse_}
 use Rattle.code.specs.Limits.{placeCount}
 use Rattle.desk_job.specs.declared.Job.{Job}
@@ -12,6 +9,7 @@ use Rattle.desk_record.specs.declared.Desk.{Desk}
 use Rattle.desk_job.specs.Jobs.{withMarks}
 use Rattle.desk_record.specs.Desks.{jobAt, withJob, slotOf}
 use Rattle.desk_record.specs.Refusal.{handleRefusal}
+use Rattle.desk_record.specs.Calls.{Changing, changingBy}
 
 -- "sets that place's mark and these figures": the job with that mark 1 for lost or 0 for found; marks past n and all other fields stay
 abbrev pub changed : ℕ → ℕ → Job → Job
@@ -33,18 +31,9 @@ changeNumber mark handle place desk = handleRefusal handle desk orElse placeNumb
 unfoldable pub placeRefusal : ℕ → ℕ → Desk → ℕ
 placeRefusal handle place desk = handleRefusal handle desk orElse past place (jobAt desk (slotOf handle))
 
--- A number given back, 0 for done, and the desk then.
-pub record Changing : Type 0 where
-  pub number : ℕ
-  pub desk : Desk
-
 -- by its number: the desk with that job changed, or the desk as it was
 abbrev pub changeBy : ℕ → ℕ → ℕ → ℕ → Desk → Changing
-changeBy zero mark handle place desk = record {
-  number = 0;
-  desk = withJob desk (slotOf handle) (changed mark place (jobAt desk (slotOf handle)));
-}
-changeBy (suc r) mark handle place desk = record { number = suc r; desk = desk }
+changeBy r mark handle place desk = changingBy r (withJob desk (slotOf handle) (changed mark place (jobAt desk (slotOf handle)))) desk
 
 -- the whole call
 unfoldable pub changeOf : ℕ → ℕ → ℕ → Desk → Changing
@@ -57,9 +46,3 @@ loseOf = changeOf 1
 -- "place found"
 abbrev pub findOf : ℕ → ℕ → Desk → Changing
 findOf = changeOf 0
-
--- what Lose or Find leaves and answers
-pub record ChangeGives (o : Changing) (desk : Desk) (answer : Answer) : Type 0 where
-  pub desk-is : desk ≡ o .desk
-  pub answer-is : answer ≡ answerAt (o .number)
-  pub number-is : answerNumber answer ≡ o .number

@@ -12,7 +12,6 @@ use lib.ListN.{length, getD, set, length-set}
 use lib.Seq.{getD-take, getD-set-same, getD-set-other, set-getD, set-set, set-out, take-set-lt}
 use Rattle.counting.specs.Count.{one}
 use Rattle.answers.specs.declared.Answer.{Answer}
-use Rattle.answers.specs.AnswersLaws.{answer-refused}
 use Rattle.code.specs.Refusals.{refuse, _orElse_}
 use Rattle.code.specs.RefusalsLaws.{refuse-zero, orElse-zero}
 use Rattle.shape.specs.Shapes.{byteLimits}
@@ -29,13 +28,10 @@ use Rattle.desk_job.specs.JobLaws.{good-iff, figures-iff, sound-job-iff}
 use Rattle.desk_record.specs.Desks.{jobAt, withJob, slotOf}
 use Rattle.desk_record.specs.Refusal.{handleRefusal}
 use Rattle.desk_record.specs.RefusalLaws.{open-taken}
-use Rattle.desk_change.specs.Change.{changed, past, placeNumber, changeNumber, placeRefusal, changeBy, changeOf, ChangeGives}
+use Rattle.desk_record.specs.Calls.{ChangeGives}
+use Rattle.desk_record.specs.CallsLaws.{call-refused, call-done}
+use Rattle.desk_change.specs.Change.{changed, past, placeNumber, changeNumber, placeRefusal, changeOf}
 use Rattle.desk_change.specs.CountsLaws.{count-raised, excess-raised, counts-set}
-
--- "On every refusal all lent buffers and the desk stay as they were."
-pub change-refused : (r : ℕ) → (r ≡ 0 → ⊥) → (mark handle place : ℕ) (desk : Desk) → changeBy r mark handle place desk ≡ record { number = r; desk = desk }
-change-refused zero some mark handle place desk = absurd (some refl)
-change-refused (suc r) some mark handle place desk = refl
 
 -- a job with other marks and figures
 abbrev pub figured : Job → List ℕ → List ℕ → ℕ → Job
@@ -172,6 +168,38 @@ module _ (job : Job) (s : isSoundJob job ≡ true) (p : ℕ) (l : p < job .m * j
         figures-set 0 (count - 1) (let a = count-is in let b = count-again in omega arith) (job .excess - one (ltb (job .c) count))
         (let a = excess-again in omega arith)
 
+  -- the mark set to 1 or to 0, by the count with the place lost
+  module _ (mark : ℕ) (other : ¬ (getD (job .marks) p 0 ≡ mark)) where
+    pub set-lost : mark ≡ 1 → changed mark p job
+        ≡ figured job (set (job .marks) p mark) (set (job .lost) (p / job .w) (getD (job .lost) (p / job .w) 0 + mark))
+        (job .excess + one (ltb (job .c) (getD (job .lost) (p / job .w) 0 + mark)))
+    set-lost e =
+        let k = mark-most in
+        let z : getD (job .marks) p 0 ≡ 0 = omega arith in
+        subst (λ v. changed v p job ≡ figured job (set (job .marks) p v) (set (job .lost) g (count + v)) (job .excess + one (ltb (job .c) (count + v))))
+        (sym e) (lost-job z)
+
+    module _ (e : mark ≡ 0) where
+      was-lost : getD (job .marks) p 0 ≡ 1
+      was-lost = let k = mark-most in omega arith
+
+      with-it : count ≡ count + mark
+      with-it = omega arith
+
+      pub count-found : 1 ≤ getD (job .lost) (p / job .w) 0 + mark
+      count-found = subst (λ x. 1 ≤ x) with-it (count-some was-lost)
+
+      pub excess-found : one (ltb (job .c) (getD (job .lost) (p / job .w) 0 + mark)) ≤ job .excess
+      excess-found = subst (λ x. one (ltb (job .c) x) ≤ job .excess) with-it (excess-some was-lost)
+
+      pub set-found : changed mark p job
+          ≡ figured job (set (job .marks) p mark) (set (job .lost) (p / job .w) (getD (job .lost) (p / job .w) 0 + mark - 1))
+          (job .excess - one (ltb (job .c) (getD (job .lost) (p / job .w) 0 + mark)))
+      set-found =
+          subst (λ x. changed mark p job ≡ figured job (set (job .marks) p mark) (set (job .lost) g (x - 1)) (job .excess - one (ltb (job .c) x))) with-it
+          (subst (λ v. changed v p job ≡ figured job (set (job .marks) p v) (set (job .lost) g (count - 1)) (job .excess - one (ltb (job .c) count)))
+          (sym e) (found-job was-lost))
+
   -- a find doesn't raise the excess
   pub found-few : changed 0 p job .excess ≤ job .excess
   found-few = elim (ℕ-discrete (getD (job .marks) p 0) 0) [
@@ -253,9 +281,7 @@ refusal-parts handle place desk e =
 module _ (mark handle place : ℕ) (desk : Desk) where
   gives-by : (r : ℕ) → (r ≡ 0 → ⊥) → changeNumber mark handle place desk ≡ r → ChangeGives (changeOf mark handle place desk) desk (Answer.Refused r)
   unfolding changeOf
-  gives-by r some e =
-      subst (λ o. ChangeGives o desk (Answer.Refused r)) (sym (ap (λ n. changeBy n mark handle place desk) e ∙ change-refused r some mark handle place desk))
-      (record { desk-is = refl; answer-is = sym (answer-refused r some); number-is = refl })
+  gives-by r some e = call-refused (changeNumber mark handle place desk) r e some _ desk
 
   -- 31, 12 or 25
   pub gives-refused : (r : ℕ) → (r ≡ 0 → ⊥) → placeRefusal handle place desk ≡ r → ChangeGives (changeOf mark handle place desk) desk (Answer.Refused r)
@@ -287,7 +313,4 @@ module _ (mark handle place : ℕ) (desk : Desk) where
     pub gives-done : placeNumber mark place (jobAt desk (slotOf handle)) ≡ 0
         → ChangeGives (changeOf mark handle place desk) (withJob desk (slotOf handle) (changed mark place (jobAt desk (slotOf handle)))) Answer.Done
     unfolding changeOf
-    gives-done e =
-        let j = changed mark place (jobAt desk (slotOf handle)) in
-        subst (λ n. ChangeGives (changeBy n mark handle place desk) (withJob desk (slotOf handle) j) Answer.Done)
-        (sym (change-place ∙ e)) (record { desk-is = refl; answer-is = refl; number-is = refl })
+    gives-done e = call-done (changeNumber mark handle place desk) (change-place ∙ e) _ desk

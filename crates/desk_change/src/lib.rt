@@ -1,6 +1,7 @@
 // The services Lose and Find, by value: a place of an open job is lost, or found again.
 use answers::Answer;
 use desk_job::Job;
+use desk_record::After;
 use desk_record::Desk;
 ghost use mathlib.Core.Path.{_≡_};
 ghost use mathlib.Core.Bool.{true};
@@ -8,13 +9,8 @@ ghost use Prim.Native.Nat.{_*_, _<_};
 ghost use lib.Dec.{ltb};
 ghost use Rattle.counting.specs.Count.{one};
 ghost use Rattle.desk_job.specs.Jobs.{isSoundJob};
-ghost use Rattle.desk_change.specs.Change.{changed, placeRefusal, loseOf, findOf, ChangeGives};
-
-// What Lose or Find answers, and the desk then.
-pub struct AfterChange {
-    pub desk: Desk,
-    pub answer: Answer,
-}
+ghost use Rattle.desk_record.specs.Calls.{ChangeGives};
+ghost use Rattle.desk_change.specs.Change.{changed, placeRefusal, loseOf, findOf};
 
 // 1 if a group's lost count is above c, so that its last loss adds to the excess; else 0.
 fn over(c: u8, count: u8) -> u8
@@ -23,21 +19,29 @@ fn over(c: u8, count: u8) -> u8
     if c < count { 1 } else { 0 }
 }
 
-// The job with a place lost: its mark, its group's count, and the excess.
-fn with_lost(job: Job, place: usize) -> Job
-    requires { ⌜ (isSoundJob job ≡ true) × (place < job .m * job .w) ⌝ }
-    ensures { λ r. ⌜ r ≡ changed 1 place job ⌝ }
+// The job with the mark of a place set, 1 for lost or 0 for found, and with it its group's count and the excess.
+fn with_mark(job: Job, place: usize, mark: u8) -> Job
+    requires { ⌜ (isSoundJob job ≡ true) × (place < job .m * job .w) × (mark < 2) ⌝ }
+    ensures { λ r. ⌜ r ≡ changed mark place job ⌝ }
 {
     let mut marks = job.marks;
-    if marks[place] == 1 {
+    if marks[place] == mark {
         return job;
     }
-    marks[place] = 1;
+    marks[place] = mark;
     let mut lost = job.lost;
+    let mut excess = job.excess;
     let g = place / (job.w as usize);
-    let count = lost[g] + 1;
-    lost[g] = count;
+    // its group's count with the place lost, and what the place adds to the excess then
+    let count = lost[g] + mark;
     let more = over(job.c, count);
+    if mark == 1 {
+        lost[g] = count;
+        excess += more;
+    } else {
+        lost[g] = count - 1;
+        excess -= more;
+    }
     Job {
         taken: job.taken,
         m: job.m,
@@ -47,35 +51,7 @@ fn with_lost(job: Job, place: usize) -> Job
         handle: job.handle,
         marks: marks,
         lost: lost,
-        excess: job.excess + more,
-    }
-}
-
-// The job with a place found: its mark, its group's count, and the excess.
-fn with_found(job: Job, place: usize) -> Job
-    requires { ⌜ (isSoundJob job ≡ true) × (place < job .m * job .w) ⌝ }
-    ensures { λ r. ⌜ r ≡ changed 0 place job ⌝ }
-{
-    let mut marks = job.marks;
-    if marks[place] == 0 {
-        return job;
-    }
-    marks[place] = 0;
-    let mut lost = job.lost;
-    let g = place / (job.w as usize);
-    let count = lost[g];
-    lost[g] = count - 1;
-    let less = over(job.c, count);
-    Job {
-        taken: job.taken,
-        m: job.m,
-        w: job.w,
-        c: job.c,
-        served: job.served,
-        handle: job.handle,
-        marks: marks,
-        lost: lost,
-        excess: job.excess - less,
+        excess: excess,
     }
 }
 
@@ -94,12 +70,12 @@ fn place_refusal(desk: Desk, handle: u64, place: usize) -> u8
 }
 
 // The service Lose.
-pub fn lose(desk: Desk, handle: u64, place: usize) -> AfterChange
+pub fn lose(desk: Desk, handle: u64, place: usize) -> After
     ensures { λ r. ⌜ ChangeGives (loseOf handle place desk) (r .desk) (r .answer) ⌝ }
 {
     let r = place_refusal(desk, handle, place);
     if r != 0 {
-        return AfterChange {
+        return After {
             desk: desk,
             answer: Answer::Refused(r),
         };
@@ -107,27 +83,27 @@ pub fn lose(desk: Desk, handle: u64, place: usize) -> AfterChange
     let s = (handle % 8) as usize;
     let mut d = desk;
     let job = d.jobs[s];
-    let then = with_lost(job, place);
+    let then = with_mark(job, place, 1);
     if 2 < then.excess {
-        return AfterChange {
+        return After {
             desk: d,
             answer: Answer::Refused(8),
         };
     }
     d.jobs[s] = then;
-    AfterChange {
+    After {
         desk: d,
         answer: Answer::Done,
     }
 }
 
 // The service Find. It can't meet 8, since the excess of fewer losses is no larger.
-pub fn find(desk: Desk, handle: u64, place: usize) -> AfterChange
+pub fn find(desk: Desk, handle: u64, place: usize) -> After
     ensures { λ r. ⌜ ChangeGives (findOf handle place desk) (r .desk) (r .answer) ⌝ }
 {
     let r = place_refusal(desk, handle, place);
     if r != 0 {
-        return AfterChange {
+        return After {
             desk: desk,
             answer: Answer::Refused(r),
         };
@@ -135,9 +111,9 @@ pub fn find(desk: Desk, handle: u64, place: usize) -> AfterChange
     let s = (handle % 8) as usize;
     let mut d = desk;
     let job = d.jobs[s];
-    let then = with_found(job, place);
+    let then = with_mark(job, place, 0);
     d.jobs[s] = then;
-    AfterChange {
+    After {
         desk: d,
         answer: Answer::Done,
     }

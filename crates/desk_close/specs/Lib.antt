@@ -1,3 +1,3 @@
 pub mod Read
 pub mod Close
-pub mod CloseLaws
+pub mod ReadLaws

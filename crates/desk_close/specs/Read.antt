@@ -11,7 +11,7 @@ pub record Reading : Type 0 where
   pub number : ℕ
   pub served : ℕ
 
--- by its number
+-- by its number: the served count, or none
 abbrev pub readBy : ℕ → ℕ → Desk → Reading
 readBy zero handle desk = record { number = 0; served = jobAt desk (slotOf handle) .served }
 readBy (suc r) handle desk = record { number = suc r; served = 0 }
@@ -20,23 +20,19 @@ readBy (suc r) handle desk = record { number = suc r; served = 0 }
 unfoldable pub readOf : ℕ → Desk → Reading
 readOf handle desk = readBy (handleRefusal handle desk) handle desk
 
--- the answer by its number and figure
-abbrev pub countedAt : ℕ → ℕ → Counted
-countedAt zero served = Counted.Served served
-countedAt (suc r) served = Counted.Refused (suc r)
-
--- the number given back, 0 for done
+-- the number of an answer, 0 for done
 abbrev pub countedNumber : Counted → ℕ
 countedNumber (Counted.Served served) = 0
 countedNumber (Counted.Refused r) = r
 
--- and the served count, 0 if there is none
+-- the served count of an answer, 0 if there is none
 abbrev pub countedServed : Counted → ℕ
 countedServed (Counted.Served served) = served
 countedServed (Counted.Refused r) = 0
 
 -- what Read answers
 pub record ReadGives (o : Reading) (answer : Counted) : Type 0 where
-  pub answer-is : answer ≡ countedAt (o .number) (o .served)
   pub number-is : countedNumber answer ≡ o .number
   pub served-is : countedServed answer ≡ o .served
+  -- no refusal has the number of done
+  pub refusal-some : ¬ (answer ≡ Counted.Refused 0)

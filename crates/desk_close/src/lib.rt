@@ -1,19 +1,15 @@
 // The services Read and Close, by value.
 use answers::Answer;
+use desk_record::After;
 use desk_record::Desk;
+ghost use Rattle.desk_record.specs.Calls.{ChangeGives};
 ghost use Rattle.desk_close.specs.Read.{readOf, ReadGives};
-ghost use Rattle.desk_close.specs.Close.{closeOf, CloseGives};
+ghost use Rattle.desk_close.specs.Close.{closeOf};
 
 // The served count of a job, or the number of a refusal.
 pub enum Counted {
     Served(u32),
     Refused(u8),
-}
-
-// What Close answers, and the desk then.
-pub struct After {
-    pub desk: Desk,
-    pub answer: Answer,
 }
 
 // The service Read.
@@ -31,7 +27,7 @@ pub fn read(desk: Desk, handle: u64) -> Counted
 
 // The service Close.
 pub fn close(desk: Desk, handle: u64) -> After
-    ensures { λ r. ⌜ CloseGives (closeOf handle desk) (r .desk) (r .answer) ⌝ }
+    ensures { λ r. ⌜ ChangeGives (closeOf handle desk) (r .desk) (r .answer) ⌝ }
 {
     let r = desk_record::handle_refusal(desk, handle);
     if r != 0 {

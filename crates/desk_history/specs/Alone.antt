@@ -25,9 +25,10 @@ pub record Alike (h : ℕ) (word : List ℕ) (d e : Desk) : Type 0 where
   pub find-number : (place : ℕ) → findOf h place d .number ≡ findOf h place e .number
   pub find-job : (place : ℕ) → jobAt (findOf h place d .desk) (slotOf h) ≡ jobAt (findOf h place e .desk) (slotOf h)
 
--- Two desks open alike: the same number and handle, in the same slot.
+-- Two desks open alike: the same number and handle, in the same slot, and where it is done the same job there.
 pub record OpenAlike (m w c : ℕ) (marks : List ℕ) (d e : Desk) : Type 0 where
   pub slot : freeSlot d ≡ freeSlot e
   pub number : openOf m w c marks d .number ≡ openOf m w c marks e .number
   pub handle : openOf m w c marks d .handle ≡ openOf m w c marks e .handle
   pub count : openOf m w c marks d .desk .t ≡ openOf m w c marks e .desk .t
+  pub job : openOf m w c marks d .number ≡ 0 → jobAt (openOf m w c marks d .desk) (freeSlot d) ≡ jobAt (openOf m w c marks e .desk) (freeSlot e)

@@ -16,11 +16,13 @@ use Rattle.desk_record.specs.declared.Desk.{Desk}
 use Rattle.desk_job.specs.Jobs.{emptyJob, noJob, isTaken}
 use Rattle.desk_record.specs.Desks.{jobAt, slotOf, isSound}
 use Rattle.desk_open.specs.Open.{freeFrom, freeSlot, openNumber, openBy, openOf, newJob, newHandle}
+use Rattle.desk_open.specs.OpenLaws.{open-parts}
 use Rattle.desk_close.specs.Read.{readBy, readOf}
 use Rattle.desk_close.specs.Close.{closeBy, closeOf}
 use Rattle.desk_record.specs.Refusal.{handleRefusal}
 use Rattle.desk_serve.specs.Serve.{jobRecovery, jobNumber, serveNumber, groupOfNine, serveBy, serveOf, servedOnce}
 use Rattle.desk_change.specs.Change.{changed, placeNumber, changeNumber, changeBy, changeOf}
+use Rattle.desk_history.specs.PutLaws.{put-same}
 use Rattle.desk_history.specs.Effects.{holdsHandle}
 use Rattle.desk_history.specs.EffectsLaws.{slot-below, handle-refusal}
 use Rattle.desk_history.specs.Alone.{Alike, OpenAlike}
@@ -149,6 +151,15 @@ module _ (m w c : ℕ) (marks : List ℕ) (d e : Desk) (size-d : length (d .jobs
   open-counts zero = ap (λ t. t + 1) same-t
   open-counts (suc r) = same-t
 
+  open-jobs : (r : ℕ) → openNumber m w c marks d ≡ r → openBy r m w c marks d .number ≡ 0
+      → jobAt (openBy r m w c marks d .desk) (freeSlot d) ≡ jobAt (openBy r m w c marks e .desk) (freeSlot e)
+  open-jobs zero q z =
+      let room = open-parts m w c marks d size-d q .room in
+      put-same d size-d (d .t + 1) (freeSlot d) room (newJob m w c marks (newHandle d))
+      ∙ ap (newJob m w c marks) same-handle
+      ∙ sym (put-same e size-e (e .t + 1) (freeSlot e) (subst (λ s. s < 8) same-slot room) (newJob m w c marks (newHandle e)))
+  open-jobs (suc r) q z = absurd (omega arith)
+
   -- sound desks with the same t and the same slots taken, whatever jobs they hold
   pub open-alone : OpenAlike m w c marks d e
   unfolding openOf
@@ -157,6 +168,7 @@ module _ (m w c : ℕ) (marks : List ℕ) (d e : Desk) (size-d : length (d .jobs
     number = ap (λ r. openBy r m w c marks d .number) same-open ∙ open-numbers (openNumber m w c marks e);
     handle = ap (λ r. openBy r m w c marks d .handle) same-open ∙ open-handles (openNumber m w c marks e);
     count = ap (λ r. openBy r m w c marks d .desk .t) same-open ∙ open-counts (openNumber m w c marks e);
+    job = λ z. open-jobs (openNumber m w c marks d) refl z ∙ ap (λ r. jobAt (openBy r m w c marks e .desk) (freeSlot e)) same-open;
   }
 
 pub serve-leaves : (h : ℕ) (word : List ℕ) (desk : Desk) (s : ℕ) → (s ≡ slotOf h → ⊥) → jobAt (serveOf h word desk .desk) s ≡ jobAt desk s

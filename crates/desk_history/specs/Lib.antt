@@ -12,6 +12,8 @@ pub mod Alone
 pub mod AloneLaws
 pub mod Others
 pub mod OthersLaws
+pub mod Mixed
+pub mod MixedLaws
 pub mod Task
 pub mod TaskLaws
 pub mod Saved

@@ -16,12 +16,13 @@ use Rattle.code_services.specs.Judge.{judgedNumberIn}
 use Rattle.code_services.specs.RecoverDemand.{Named}
 use Rattle.desk_job.specs.declared.Job.{Job}
 use Rattle.desk_record.specs.declared.Desk.{Desk}
+use Rattle.desk_record.specs.Calls.{Changing}
 use Rattle.desk_job.specs.Jobs.{emptyJob, isFree, isTaken, jobMarks}
 use Rattle.desk_record.specs.Desks.{jobAt}
 use Rattle.desk_open.specs.Open.{Opening, newJob, openOf}
-use Rattle.desk_close.specs.Close.{Closing, closeOf}
+use Rattle.desk_close.specs.Close.{closeOf}
 use Rattle.desk_serve.specs.Serve.{Serving, servedOnce, serveOf}
-use Rattle.desk_change.specs.Change.{changed, Changing, loseOf, findOf}
+use Rattle.desk_change.specs.Change.{changed, loseOf, findOf}
 
 -- ---- soundness
 
@@ -29,7 +30,7 @@ use Rattle.desk_change.specs.Change.{changed, Changing, loseOf, findOf}
 abbrev pub TakenAt : Desk → ℕ → Type 0
 TakenAt desk s = isTaken (jobAt desk s) ≡ true
 
--- slot s "holds a good shape, its n marks of 0 or 1 with excess at most 2, and a handle 8u+s with u from 1 to t"; its "stored figures equal those
+-- slot s "holds a good shape, its n marks of 0 or 1 with excess at most 2, and a handle 8u+s with u from 1 to t"; its "stored figures always equal those
 -- worked from the marks [..], counts past group m−1 being 0"
 pub record HoldsJob (t s : ℕ) (job : Job) : Type 0 where
   pub shape : GoodIn byteLimits (job .m) (job .w) (job .c)
@@ -103,7 +104,7 @@ pub record HandleNumbers (handle : ℕ) (desk : Desk) (number : ℕ) : Type 0 wh
   pub done : (number ≡ 0) ↔ (SoundDesk desk × IsHeld desk handle)
 
 -- An accepted Close "frees the slot and sets all its fields to zero"; no other slot is touched, and t stays.
-pub record Closes (handle : ℕ) (desk : Desk) (o : Closing) : Type 0 where
+pub record Closes (handle : ℕ) (desk : Desk) (o : Changing) : Type 0 where
   pub slot : ℕ
   pub held : HeldIn desk handle slot
   pub count : o .desk .t ≡ desk .t

@@ -30,17 +30,17 @@ use Rattle.code_services.specs.RecoverDemand.{Named, RecoverDemandTwo}
 use Rattle.code_services.specs.RecoverDemandLaws.{recover-demand-two}
 use Rattle.desk_job.specs.declared.Job.{Job}
 use Rattle.desk_record.specs.declared.Desk.{Desk}
+use Rattle.desk_record.specs.Calls.{Changing}
 use Rattle.desk_job.specs.Jobs.{emptyJob, isGood, jobMarks}
 use Rattle.desk_record.specs.Desks.{jobAt, slotOf, isSound, isOpen}
 use Rattle.desk_record.specs.Refusal.{handleRefusal}
 use Rattle.desk_open.specs.Open.{freeSlot, openNumber, openBy, openOf, Opening}
 use Rattle.desk_close.specs.Read.{readBy, readOf}
-use Rattle.desk_close.specs.Close.{closeBy, closeOf, Closing}
+use Rattle.desk_close.specs.Close.{closeBy, closeOf}
 use Rattle.desk_serve.specs.Serve.{jobRecovery, jobNumber, Serving, servedOnce, serveNumber, serveBy, serveOf}
-use Rattle.desk_change.specs.Change.{Changing, changeNumber, changeBy, changeOf}
-use Rattle.desk_change.specs.ChangeLaws.{change-refused}
+use Rattle.desk_change.specs.Change.{changeNumber, changeBy, changeOf}
 use Rattle.desk_open.specs.OpenLaws.{open-refused}
-use Rattle.desk_close.specs.CloseLaws.{close-refused}
+use Rattle.desk_record.specs.CallsLaws.{changing-refused}
 use Rattle.desk_serve.specs.ServeLaws.{serve-refused, job-length, job-end, job-recovery}
 use Rattle.desk_job.specs.JobLaws.{good-iff}
 use Rattle.desk_record.specs.RefusalLaws.{open-good}
@@ -451,11 +451,11 @@ module _ (desk : Desk) where
         ap (λ (o : Serving). o .word) (serve-refused r (λ z. n (serve-number handle word desk r ∙ z)) handle word desk);
     by-close = λ handle n.
         let r = handleRefusal handle desk in
-        ap (λ (o : Closing). o .desk) (close-refused r (λ z. n (close-number handle desk r ∙ z)) handle desk);
+        ap (λ (o : Changing). o .desk) (changing-refused r (λ z. n (close-number handle desk r ∙ z)) _ desk);
     by-lose = λ handle place n.
         let r = changeNumber 1 handle place desk in
-        ap (λ (o : Changing). o .desk) (change-refused r (λ z. n (change-number 1 handle place desk r ∙ z)) 1 handle place desk);
+        ap (λ (o : Changing). o .desk) (changing-refused r (λ z. n (change-number 1 handle place desk r ∙ z)) _ desk);
     by-find = λ handle place n.
         let r = changeNumber 0 handle place desk in
-        ap (λ (o : Changing). o .desk) (change-refused r (λ z. n (change-number 0 handle place desk r ∙ z)) 0 handle place desk);
+        ap (λ (o : Changing). o .desk) (changing-refused r (λ z. n (change-number 0 handle place desk r ∙ z)) _ desk);
   }

@@ -19,6 +19,7 @@ isOther h (Close g) = not (eqb h g)
 isOther h (Lose g place) = not (eqb h g)
 isOther h (Find g place) = not (eqb h g)
 
+-- every call of a list is one of these
 unfoldable pub areOthers : ℕ → List DeskCall → Bool
 areOthers h [] = true
 areOthers h (call ∷ calls) = isOther h call && areOthers h calls

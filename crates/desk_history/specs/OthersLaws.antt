@@ -54,7 +54,7 @@ module _ (h : ℕ) (desk : Desk) (F : Fit desk) (o : isOpen desk h ≡ true) whe
       other-job desk (F .size) (F .sound) g (change-parts mark g place desk e .0) (desk .t) (changed mark place (jobAt desk (slotOf g))) h o n
   change-other mark g place n (suc r) e = refl
 
-  other-step : (call : DeskCall) → isOther h call ≡ true → jobAt (step call desk .desk) (slotOf h) ≡ jobAt desk (slotOf h)
+  pub other-step : (call : DeskCall) → isOther h call ≡ true → jobAt (step call desk .desk) (slotOf h) ≡ jobAt desk (slotOf h)
   unfolding isOther step openOf serveOf closeOf changeOf
   other-step Fresh e = absurd (true≢false (sym e))
   other-step (Open m w c marks) e = open-other m w c marks (openNumber m w c marks desk) refl

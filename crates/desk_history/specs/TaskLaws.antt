@@ -21,7 +21,7 @@ use Rattle.desk_record.specs.Desks.{jobAt, slotOf, isOpen}
 use Rattle.desk_record.specs.Refusal.{handleRefusal}
 use Rattle.desk_open.specs.Open.{openNumber, openBy, openOf, newJob}
 use Rattle.desk_close.specs.Close.{closeOf}
-use Rattle.desk_serve.specs.Serve.{jobRecovery, jobNumber, Serving, serveNumber, serveBy, serveOf, servedOnce}
+use Rattle.desk_serve.specs.Serve.{jobRecovery, jobNumber, groupOfNine, Serving, serveNumber, serveBy, serveOf, servedOnce}
 use Rattle.desk_serve.specs.ServeLaws.{serve-job}
 use Rattle.desk_record.specs.Laws.{sound-of}
 use Rattle.code.specs.Outcome.{Outcome}
@@ -202,6 +202,14 @@ module _ (m w c : ℕ) (marks : List ℕ) (h : ℕ) (desk : Desk) (F : Fit desk)
   serve-word zero e = refl
   serve-word (suc r) e = absurd (omega arith)
 
+  serve-group : (r : ℕ) → serveBy r h word desk .group ≡ groupOfNine (serveBy r h word desk .number) (jobRecovery job word .group)
+  serve-group zero = refl
+  serve-group (suc r) = refl
+
+  serve-kept : (r : ℕ) → (serveBy r h word desk .number ≡ 0 → ⊥) → serveBy r h word desk .word ≡ word
+  serve-kept zero n = absurd (n refl)
+  serve-kept (suc r) n = refl
+
   by-job : serveOf h word desk ≡ serveBy (jobNumber job word) h word desk
   by-job = serve-job h word desk (handle-done h desk (sound-of desk (F .sound)) (W .held))
 
@@ -219,6 +227,11 @@ module _ (m w c : ℕ) (marks : List ℕ) (h : ℕ) (desk : Desk) (F : Fit desk)
   pub serves-by : ServesBy m w c marks h word desk
   serves-by = record {
     number = ap (λ (o : Serving). o .number) by-job ∙ serve-number (jobNumber job word) ∙ job-by;
+    group =
+        subst (λ (o : Serving). o .group ≡ groupOfNine (o .number) (recoverIn byteEdition m w c word marks .group)) (sym by-job)
+        (subst (λ (o : Outcome). serveBy (jobNumber job word) h word desk .group ≡ groupOfNine (serveBy (jobNumber job word) h word desk .number) (o .group))
+        (W .recovery word) (serve-group (jobNumber job word)));
+    refused = subst (λ (o : Serving). ¬ (o .number ≡ 0) → o .word ≡ word) (sym by-job) (serve-kept (jobNumber job word));
     done = λ e.
         ap (λ (o : Serving). o .word) by-job
         ∙ serve-word (jobNumber job word) (sym (ap (λ (o : Serving). o .number) by-job ∙ serve-number (jobNumber job word)) ∙ e)

@@ -24,7 +24,7 @@ noJob = record { taken = 0; m = 0; w = 0; c = 0; served = 0; handle = 0; marks =
 abbrev pub isFree : Job → Bool
 isFree job = eqb (job .taken) 0
 
--- and that of a taken one is 1
+-- the byte of a taken slot is 1
 abbrev pub isTaken : Job → Bool
 isTaken job = eqb (job .taken) 1
 

@@ -23,14 +23,19 @@ pub struct Job {
     pub c: u8,
     pub served: u32,
     pub handle: u64,
-    pub marks: [u8; 240],
-    pub lost: [u8; 15],
+    pub marks: [u8; Shape::MAX_PLACES],
+    pub lost: [u8; Shape::MAX_GROUPS],
     pub excess: u8,
+}
+
+impl Job {
+    // The end of the served count.
+    pub const MAX_SERVED: u32 = 4294967295;
 }
 
 // The figures of a loss pattern: each group's lost count, 0 past the last group, and the excess.
 pub struct Figures {
-    pub lost: [u8; 15],
+    pub lost: [u8; Shape::MAX_GROUPS],
     pub excess: usize,
 }
 
@@ -45,8 +50,8 @@ pub fn empty() -> Job
         c: 0,
         served: 0,
         handle: 0,
-        marks: [0; 240],
-        lost: [0; 15],
+        marks: [0; Shape::MAX_PLACES],
+        lost: [0; Shape::MAX_GROUPS],
         excess: 0,
     }
 }
@@ -81,7 +86,7 @@ pub fn figures_of(m: usize, w: usize, c: usize, marks: &[u8]) -> Figures
     ensures { λ r. ⌜ (GoodIn byteLimits m w c → length (now (marks .entry)) ≡ m * w → r ≡ lossFigures m w c (now (marks .entry))) ⌝ }
     ensures { λ r. ⌜ ((GoodIn byteLimits m w c → length (now (marks .entry)) ≡ m * w → ⊥) → r ≡ record { lost = replicate 15 0; excess = 0 }) ⌝ }
 {
-    let mut lost = [0u8; 15];
+    let mut lost = [0u8; Shape::MAX_GROUPS];
     let mut excess: usize = 0;
     if shape::word_refusal(m, w, c, marks.len()) != 0 {
         return Figures {
@@ -107,11 +112,11 @@ pub fn figures_of(m: usize, w: usize, c: usize, marks: &[u8]) -> Figures
 }
 
 // Whether fifteen counts are the same as fifteen others.
-fn same_counts(kept: [u8; 15], worked: [u8; 15]) -> bool
+fn same_counts(kept: [u8; Shape::MAX_GROUPS], worked: [u8; Shape::MAX_GROUPS]) -> bool
     ensures { λ r. ⌜ r ≡ allBelow 15 (λ g. eqb (getD kept g 0) (getD worked g 0)) ⌝ }
 {
     let mut g: usize = 0;
-    while g < 15 {
+    while g < Shape::MAX_GROUPS {
         if kept[g] != worked[g] {
             return false;
         }

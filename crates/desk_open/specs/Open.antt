@@ -60,17 +60,12 @@ openBy (suc r) m w c marks desk = record { number = suc r; handle = 0; desk = de
 unfoldable pub openOf : ℕ → ℕ → ℕ → List ℕ → Desk → Opening
 openOf m w c marks desk = openBy (openNumber m w c marks desk) m w c marks desk
 
--- the answer, by the number and the handle
-abbrev pub openedAt : ℕ → ℕ → Opened
-openedAt zero handle = Opened.Handle handle
-openedAt (suc r) handle = Opened.Refused (suc r)
-
--- the number given back, 0 for done
+-- the number of an answer, 0 for done
 abbrev pub openedNumber : Opened → ℕ
 openedNumber (Opened.Handle handle) = 0
 openedNumber (Opened.Refused r) = r
 
--- and the handle, 0 if there is none
+-- the handle of an answer, 0 if there is none
 abbrev pub openedHandle : Opened → ℕ
 openedHandle (Opened.Handle handle) = handle
 openedHandle (Opened.Refused r) = 0
@@ -78,6 +73,7 @@ openedHandle (Opened.Refused r) = 0
 -- what Open leaves and answers
 pub record OpenGives (o : Opening) (desk : Desk) (answer : Opened) : Type 0 where
   pub desk-is : desk ≡ o .desk
-  pub answer-is : answer ≡ openedAt (o .number) (o .handle)
   pub number-is : openedNumber answer ≡ o .number
   pub handle-is : openedHandle answer ≡ o .handle
+  -- no refusal has the number of done
+  pub refusal-some : ¬ (answer ≡ Opened.Refused 0)

@@ -1,5 +1,5 @@
 -- Laws of Open: a refusal leaves the desk as it was, and what an accepted Open knows.
-use mathlib.Core.Path.{_≡_, refl, sym, ap, _∙_}
+use mathlib.Core.Path.{_≡_, refl, sym, ap, _∙_, subst}
 use mathlib.Core.Bool.{true, false, cond}
 use mathlib.Core.List.{List, [], _∷_, _++_, append-assoc}
 use Prim.Native.Nat.{ℕ, zero, suc, _+_, _-_, _*_, _≤_, _<_}
@@ -18,7 +18,7 @@ use Rattle.desk_open.specs.declared.Opened.{Opened}
 use Rattle.desk_job.specs.declared.Figures.{Figures}
 use Rattle.desk_job.specs.Figures.{lossFigures}
 use Rattle.desk_job.specs.Jobs.{isTaken}
-use Rattle.desk_open.specs.Open.{freeFrom, freeSlot, openNumber, openBy, openedAt, newJob}
+use Rattle.desk_open.specs.Open.{freeFrom, freeSlot, openNumber, openBy, newJob}
 use Rattle.desk_record.specs.Laws.{sound-parts}
 
 -- "On every refusal all lent buffers and the desk stay as they were."
@@ -27,9 +27,12 @@ pub open-refused : (r : ℕ) → (r ≡ 0 → ⊥) → (m w c : ℕ) (marks : Li
 open-refused zero some m w c marks desk = absurd (some refl)
 open-refused (suc r) some m w c marks desk = refl
 
-pub opened-refused : (r : ℕ) → (r ≡ 0 → ⊥) → (handle : ℕ) → openedAt r handle ≡ Opened.Refused r
-opened-refused zero some handle = absurd (some refl)
-opened-refused (suc r) some handle = refl
+pub handle-apart : (handle r : ℕ) → ¬ (Opened.Handle handle ≡ Opened.Refused r)
+handle-apart handle r e = subst IsHandle e tt
+  where
+    IsHandle : Opened → Type 0
+    IsHandle (Opened.Handle handle) = Unit
+    IsHandle (Opened.Refused r) = ⊥
 
 -- the lowest free slot is in the row, or just past it
 pub free-most : (jobs : List Job) (i : ℕ) → freeFrom jobs i ≤ i + length jobs

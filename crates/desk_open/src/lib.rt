@@ -1,6 +1,7 @@
 // The service Open, by value.
 use desk_job::Job;
 use desk_record::Desk;
+use shape::Shape;
 ghost use mathlib.Core.Path.{_≡_};
 ghost use mathlib.Core.List.{_++_};
 ghost use Prim.Native.Nat.{_-_, _≤_};
@@ -35,11 +36,11 @@ fn free_slot(desk: Desk) -> usize
 }
 
 // A copy of the marks, with 0 past them.
-fn kept(marks: &[u8]) -> [u8; 240]
+fn kept(marks: &[u8]) -> [u8; Shape::MAX_PLACES]
     requires { ⌜ length (now marks) ≤ 240 ⌝ }
     ensures { λ r. ⌜ r ≡ now (marks .entry) ++ replicate (240 - length (now (marks .entry))) 0 ⌝ }
 {
-    let mut copy = [0u8; 240];
+    let mut copy = [0u8; Shape::MAX_PLACES];
     let mut i: usize = 0;
     while i < marks.len() {
         copy[i] = marks[i];
@@ -59,7 +60,7 @@ fn open_refusal(desk: Desk, m: usize, w: usize, c: usize, marks: &[u8]) -> u8
     if r != 0 {
         return r;
     }
-    let last = desk.t == 65535;
+    let last = desk.t == Desk::MAX_ISSUED;
     let full = free_slot(desk) == 8;
     if last {
         return 10;

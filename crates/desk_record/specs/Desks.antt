@@ -21,11 +21,11 @@ jobAt desk s = getD (desk .jobs) s noJob
 abbrev pub withJob : Desk → ℕ → Job → Desk
 withJob desk s job = record { t = desk .t; jobs = set (desk .jobs) s job }
 
--- a handle 8u+s: its issue number u and its slot s
+-- the issue number u of a handle 8u+s
 abbrev pub issueOf : ℕ → ℕ
 issueOf handle = handle / 8
 
--- and its slot
+-- the slot s of a handle 8u+s
 abbrev pub slotOf : ℕ → ℕ
 slotOf handle = handle % 8
 

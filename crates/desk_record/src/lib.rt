@@ -1,4 +1,5 @@
 // The record of a desk of eight recovery jobs: Fresh, whether a desk is sound, and whether a handle is open.
+use answers::Answer;
 use desk_job::Job;
 ghost use mathlib.Core.Path.{_≡_};
 ghost use mathlib.Core.Bool.{cond, not, _&&_};
@@ -15,6 +16,17 @@ ghost use Rattle.desk_record.specs.Refusal.{soundRefusal, handleRefusal}
 pub struct Desk {
     pub t: u64,
     pub jobs: [Job; 8],
+}
+
+impl Desk {
+    // The end of the count t of handles issued.
+    pub const MAX_ISSUED: u64 = 65535;
+}
+
+// What Close, Lose and Find answer, and the desk then.
+pub struct After {
+    pub desk: Desk,
+    pub answer: Answer,
 }
 
 // The service Fresh.
@@ -90,7 +102,7 @@ pub fn is_sound(desk: Desk) -> bool
     ensures { λ r. ⌜ r ≡ isSound desk ⌝ }
 {
     let t = desk.t;
-    if 65535 < t {
+    if Desk::MAX_ISSUED < t {
         return false;
     }
     let first = desk.jobs[0];
@@ -136,7 +148,7 @@ fn sound_refusal(desk: Desk) -> u8
     if is_sound(desk) { 0 } else { 31 }
 }
 
-// 31 or 12, the refusals of a call with a handle; 0 if there is none.
+// The refusals of a call with a handle, in this order: 31 for a desk that is not sound, 12 for a handle that is not open; 0 if there is none.
 pub fn handle_refusal(desk: Desk, handle: u64) -> u8
     ensures { λ r. ⌜ r ≡ handleRefusal handle desk ⌝ }
 {

@@ -28,7 +28,7 @@ fn serve_job(job: Job, word: &mut [u8]) -> Mending
     if word.len() != n {
         return Mending::Refused(5);
     }
-    if job.served == 4294967295 {
+    if job.served == Job::MAX_SERVED {
         return Mending::Refused(13);
     }
     let mut marks = job.marks;

@@ -22,11 +22,12 @@ fn refusal(m: usize, w: usize, c: usize, word: usize, bytes: usize) -> u8
 // Recovers the check places of a word that holds its data; marks is room for the marks.
 fn fill_checks(m: usize, w: usize, c: usize, word: &mut [u8], marks: &mut [u8])
     requires { ⌜ GoodIn byteLimits m w c ⌝ }
+    requires { ⌜ length (now word) ≡ placeCount m w ⌝ }
     requires { ⌜ length (now marks) ≡ placeCount m w ⌝ }
     ensures { λ _. ⌜ now (word .exit) ≡ (recoverIn byteEdition m w c (now (word .entry)) (checkMarks m w c)) .word ⌝ }
 {
-    places::mark_checks(m, w, c, marks);
-    recover::recover(m, w, c, word, marks);
+    places::mark_groups(w, c, marks);
+    recover::recover_determined(m, w, c, word, marks);
 }
 
 // Encodes k bytes into a word of n: the one codeword that carries them.
@@ -39,7 +40,7 @@ pub fn encode(m: usize, w: usize, c: usize, bytes: &[u8], word: &mut [u8]) -> An
     if r != 0 {
         return Answer::Refused(r);
     }
-    places::place(m, w, c, bytes, word);
+    places::spread_data(m, w, c, bytes, word);
     let n = word.len();
     let mut marks = [0u8; 240];
     fill_checks(m, w, c, word, &mut marks[..n]);

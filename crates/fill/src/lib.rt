@@ -7,6 +7,7 @@ ghost use Rattle.code_engine.specs.Positions.{Inside, FoundLost};
 ghost use Rattle.code_engine.specs.Placed.{placed};
 ghost use Rattle.code_engine.specs.EquationsLaws.{EquationIn, EquationsIn};
 ghost use Rattle.code_engine.specs.Filled.{FilledIn};
+ghost use Rattle.fill.specs.OneLost.{withOthersSum};
 
 // Writes the right side of row i at position at[i], for each i below t.
 fn place(part: &mut [u8], at: [usize; 4], rows: [[u8; 16]; 4], t: usize)
@@ -83,6 +84,15 @@ fn equations(part: &[u8], at: [usize; 4], t: usize) -> [[u8; 16]; 4]
     equations_of(&x, at, t)
 }
 
+// Fills the one lost place, at p, by equation 0: its coefficients are 1, so the byte is the sum of the others.
+fn fill_one(part: &mut [u8], p: usize)
+    requires { ⌜ p < length (now part) ⌝ }
+    ensures { λ _. ⌜ now (part .exit) ≡ withOthersSum (now (part .entry)) p ⌝ }
+{
+    part[p] = 0;
+    part[p] = gf256::sum(part);
+}
+
 // Fills the lost places, if at most four of at most sixteen are lost; what stood there does not count. Else nothing changes.
 pub fn fill(part: &mut [u8], marks: &[u8])
     ensures { λ _. ⌜ FilledIn byteEdition (now (marks .entry)) (now (part .entry)) (now (part .exit)) ⌝ }
@@ -102,6 +112,10 @@ pub fn fill(part: &mut [u8], marks: &[u8])
         return;
     }
     let at = erasures.at;
+    if t == 1 {
+        fill_one(part, at[0]);
+        return;
+    }
     let zeros = [[0u8; 16]; 4];
     place(part, at, zeros, t);
     let rows = equations(part, at, t);

@@ -37,13 +37,21 @@ module _ (size : ℕ) (g : Gather) where
   unfolding finishRefusal
   finish-record h = orElse-first _ _ h
 
-  pub finish-length : gatherRefusal g ≡ 0 → (size ≡ gatherPlaces g → ⊥) → finishRefusal size g ≡ 5
+  -- 5 comes after the refusals of the record
+  pub finish-other : (size ≡ gatherPlaces g → ⊥) → finishRefusal size g ≡ (gatherRefusal g orElse 5)
   unfolding finishRefusal
-  finish-length e h = simp (e, ne-eqb size (gatherPlaces g) h)
+  finish-other h = ap (λ b. gatherRefusal g orElse refuse 5 (not b)) (ne-eqb size (gatherPlaces g) h)
+
+  pub finish-same : size ≡ gatherPlaces g → finishRefusal size g ≡ gatherRefusal g
+  unfolding finishRefusal
+  finish-same h = ap (λ b. gatherRefusal g orElse refuse 5 (not b)) (eq-eqb size (gatherPlaces g) h) ∙ none (gatherRefusal g)
+    where
+      none : (r : ℕ) → (r orElse 0) ≡ r
+      none zero = refl
+      none (suc r) = refl
 
   pub finish-fit : gatherRefusal g ≡ 0 → size ≡ gatherPlaces g → finishRefusal size g ≡ 0
-  unfolding finishRefusal
-  finish-fit e h = simp (e, eq-eqb size (gatherPlaces g) h)
+  finish-fit e h = finish-same h ∙ e
 
   -- none of them is 8 or 9
   pub finish-numbers : (finishRefusal size g ≤ 6) ⊎ (finishRefusal size g ≡ 22)

@@ -23,19 +23,20 @@ fn after(gather: Gather, answer: Mending) -> AfterFinish
     }
 }
 
-// The refusal of a finish before 8 and 9: that of the record, or 5; 0 if there is none.
+// The refusal of a finish before 8 and 9: that of the record, of which 22 is the last, and only then 5; 0 if there is none.
 fn finish_refusal(gather: Gather, size: usize) -> u8
     ensures { λ r. ⌜ r ≡ finishRefusal size gather ⌝ }
 {
-    let r = gather_record::refusal(gather);
-    if r != 0 {
-        return r;
-    }
+    let record = gather_record::refusal(gather);
     let n = (gather.m as usize) * (gather.w as usize);
-    if size != n { 5 } else { 0 }
+    if size != n {
+        answers::or_else(record, 5)
+    } else {
+        record
+    }
 }
 
-// Recovers a copy of what came, and writes it into the word if that is done.
+// Recovers a copy of what came: 8, or 9 with a group, or done, and then the word is written.
 fn recover_copy(gather: Gather, word: &mut [u8]) -> Mending
     requires { ⌜ finishRefusal (length (now word)) gather ≡ 0 ⌝ }
     ensures answer { λ r. ⌜ r ≡ mendingAt ((gatherRecovery gather) .number) ((gatherRecovery gather) .group) ⌝ }
@@ -57,7 +58,8 @@ fn recover_copy(gather: Gather, word: &mut [u8]) -> Mending
     }
 }
 
-// The service Finish. Once it is not refused before 8 and 9, the record is finished, whatever the recovery answers.
+// The service Finish. Its refusals, in this order: those of the record, 22 the last of them; 5; 8; 9. Once none before 8 applies, the record is finished,
+// whatever the recovery answers.
 pub fn finish(gather: Gather, word: &mut [u8]) -> AfterFinish
     ensures { λ r. ⌜ FinishGives (finishOf (now (word .entry)) gather) (now (word .exit)) (r .gather) (r .answer) ⌝ }
 {

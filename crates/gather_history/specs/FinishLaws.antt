@@ -23,9 +23,9 @@ use Rattle.gather_record.specs.Record.{Whole, gatherPlaces, gatherBytes, gather
 use Rattle.gather_record.specs.RecordLaws.{Open, open-unrefused, marks-open, begun-whole, bytes-size, marks-size}
 use Rattle.gather_finish.specs.Finish.{finishRefusal, gatherRecovery, closed, finishBy, finishOf}
 use Rattle.gather_finish.specs.FinishLaws.{finish-fit, finish-parts}
-use Rattle.gather_history.specs.History.{Stretch, afterStretches, Unrefused, Brings}
-use Rattle.gather_history.specs.StretchOrder.{Gathered, HoldsStretches, FinishesAs, FinishHolds, Alike, IdleHolds}
-use Rattle.gather_history.specs.StretchOrderLaws.{brought-or, brought-inside, gathered}
+use Rattle.gather_history.specs.History.{Stretch, afterStretches, Unrefused, accepted, Brings}
+use Rattle.gather_history.specs.StretchOrder.{Gathered, HoldsStretches, FinishesAs, FinishHolds, FinishAmongHolds, Alike, IdleHolds}
+use Rattle.gather_history.specs.StretchOrderLaws.{brought-or, brought-inside, gathered, refused-nothing}
 
 -- two recoveries that end alike give the same word to a lent one
 same-word : (a b : Outcome) (lent : List ℕ) → SameEnd a b → unlessRefused (a .number) (a .word) lent ≡ unlessRefused (b .number) (b .word) lent
@@ -141,6 +141,13 @@ finish-recovers m w c good ss u word marks H lent size =
     (finish-fit (length lent) (afterStretches ss (begun m w c)) (open-unrefused (afterStretches ss (begun m w c)) (now-open m w c good ss u))
     (size ∙ sym (ap₂ (λ a b. a * b) (m-is m w c good ss u) (w-is m w c good ss u))))
     (same-end m w c good ss u word marks H)
+
+-- refused stretches among the others
+pub finish-among : FinishAmongHolds
+finish-among m w c good ss word marks H lent size =
+    let R = refused-nothing ss (begun m w c) in
+    subst (λ g. FinishesAs (finishOf lent g) lent (recoverIn byteEdition m w c word marks)) (sym (R .0))
+    (finish-recovers m w c good (accepted ss (begun m w c)) (R .1) word marks H lent size)
 
 -- ---- bytes in places that never came
 

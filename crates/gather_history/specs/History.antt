@@ -48,7 +48,7 @@ pub record BringsOne (p x : ℕ) (s : Stretch) : Type 0 where
   pub place : p ≡ s .first + index
   pub byte : getD (s .bytes) index 0 ≡ x
 
--- and so does some stretch of a list
+-- some stretch of a list brings byte x to place p
 unfoldable pub Brings : ℕ → ℕ → List Stretch → Type 0
 Brings p x [] = ⊥
 Brings p x (s ∷ ss) = BringsOne p x s ⊎ Brings p x ss

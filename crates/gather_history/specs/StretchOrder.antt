@@ -63,6 +63,12 @@ FinishHolds =
     (m w c : ℕ) → GoodIn byteLimits m w c → (ss : List Stretch) → Unrefused ss (begun m w c) → (word marks : List ℕ) → HoldsStretches (m * w) ss word marks
     → (lent : List ℕ) → length lent ≡ m * w → FinishesAs (finishOf lent (afterStretches ss (begun m w c))) lent (recoverIn byteEdition m w c word marks)
 
+-- "a refused stretch changes nothing": in any list, refused stretches among the others, what came is what those that are not refused brought
+abbrev pub FinishAmongHolds : Type 0
+FinishAmongHolds =
+    (m w c : ℕ) → GoodIn byteLimits m w c → (ss : List Stretch) (word marks : List ℕ) → HoldsStretches (m * w) (accepted ss (begun m w c)) word marks
+    → (lent : List ℕ) → length lent ≡ m * w → FinishesAs (finishOf lent (afterStretches ss (begun m w c))) lent (recoverIn byteEdition m w c word marks)
+
 -- two finishes give the same number, group and word, and finish the gather or not alike
 pub record Alike (a b : Finishing) : Type 0 where
   pub number : a .number ≡ b .number

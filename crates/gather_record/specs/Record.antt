@@ -6,7 +6,7 @@ use Prim.Native.Nat.{ℕ, zero, suc}
 use lib.Dec.{eqb, ltb}
 use lib.ListN.{length, take, replicate}
 use Rattle.answers.specs.declared.Answer.{Answer}
-use Rattle.answers.specs.Answers.{answerAt, answerNumber}
+use Rattle.answers.specs.Answers.{answerNumber}
 use Rattle.code.specs.Refusals.{refuse, _orElse_}
 use Rattle.shape.specs.Shapes.{byteLimits}
 use Rattle.code.specs.Limits.{placeCount, shapeRefusalIn}
@@ -17,11 +17,11 @@ use Rattle.gather_record.specs.declared.Gather.{Gather}
 abbrev pub gatherPlaces : Gather → ℕ
 gatherPlaces g = placeCount (g .m) (g .w)
 
--- its n bytes; what stands past them doesn't matter
+-- the record's n bytes; what stands past them doesn't matter
 abbrev pub gatherBytes : Gather → List ℕ
 gatherBytes g = take (gatherPlaces g) (g .bytes)
 
--- its n marks: "places that never came are lost", 1; a place that came is 0
+-- the record's n marks: "places that never came are lost", 1; a place that came is 0
 abbrev pub gatherMarks : Gather → List ℕ
 gatherMarks g = take (gatherPlaces g) (g .marks)
 
@@ -59,5 +59,6 @@ beginOf m w c g = gatheringBy (shapeRefusalIn byteLimits m w c) (begun m w c) g
 -- what Begin and Take leave and answer
 pub record GatherGives (o : Gathering) (gather : Gather) (answer : Answer) : Type 0 where
   pub gather-is : gather ≡ o .gather
-  pub answer-is : answer ≡ answerAt (o .number)
   pub number-is : answerNumber answer ≡ o .number
+  -- no refusal has the number of done
+  pub refusal-some : ¬ (answer ≡ Answer.Refused 0)

@@ -1,5 +1,5 @@
 -- Laws of the record of a gather.
-use mathlib.Core.Path.{_≡_, refl, sym, _∙_, subst}
+use mathlib.Core.Path.{_≡_, refl, sym, ap, _∙_, subst}
 use mathlib.Core.Bool.{true, not}
 use Prim.Native.Nat.{ℕ, zero, suc, _*_, _<_}
 use native.Mathlib.Omega.{arith}
@@ -8,6 +8,7 @@ use lib.Dec.{T, eqb, ltb}
 use lib.ListN.{length, getD}
 use lib.Seq.{length-take-le, getD-take}
 use Rattle.answers.specs.declared.Answer.{Answer}
+use Rattle.answers.specs.Answers.{answerNumber}
 use Rattle.code.specs.Refusals.{refuse, _orElse_}
 use Rattle.code.specs.RefusalsLaws.{refuse-zero, orElse-zero, orElse-first}
 use Rattle.shape.specs.Shapes.{byteLimits}
@@ -20,11 +21,16 @@ use Rattle.gather_record.specs.Record.{gatherPlaces, gatherBytes, gather
 
 pub gives-refused : (r : ℕ) → (r ≡ 0 → ⊥) → (new old : Gather) → GatherGives (gatheringBy r new old) old (Answer.Refused r)
 gives-refused zero some new old = absurd (some refl)
-gives-refused (suc r) some new old = record { gather-is = refl; answer-is = refl; number-is = refl }
+gives-refused (suc r) some new old = record { gather-is = refl; number-is = refl; refusal-some = λ q. some (ap answerNumber q) }
 
 pub gives-done : (r : ℕ) → r ≡ 0 → (new old : Gather) → GatherGives (gatheringBy r new old) new Answer.Done
 gives-done r e new old =
-    subst (λ n. GatherGives (gatheringBy n new old) new Answer.Done) (sym e) (record { gather-is = refl; answer-is = refl; number-is = refl })
+    subst (λ n. GatherGives (gatheringBy n new old) new Answer.Done) (sym e)
+    (record { gather-is = refl; number-is = refl; refusal-some = λ q. subst IsDone q tt })
+  where
+    IsDone : Answer → Type 0
+    IsDone Answer.Done = Unit
+    IsDone (Answer.Refused r) = ⊥
 
 -- ---- the refusal of a record, case by case
 

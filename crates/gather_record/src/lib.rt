@@ -1,5 +1,6 @@
 // The record of a gather: a word that comes in stretches. Its refusals, and the service Begin.
 use answers::Answer;
+use shape::Shape;
 ghost use mathlib.Core.Path.{_≡_};
 ghost use Rattle.gather_record.specs.Record.{gatherRefusal, beginOf, GatherGives};
 
@@ -10,8 +11,8 @@ pub struct Gather {
     pub w: u8,
     pub c: u8,
     pub finished: u8,
-    pub bytes: [u8; 240],
-    pub marks: [u8; 240],
+    pub bytes: [u8; Shape::MAX_PLACES],
+    pub marks: [u8; Shape::MAX_PLACES],
 }
 
 // What Begin and Take answer, and the record then.
@@ -59,8 +60,8 @@ pub fn begin(gather: Gather, m: usize, w: usize, c: usize) -> After
         w: w as u8,
         c: c as u8,
         finished: 0,
-        bytes: [0; 240],
-        marks: [1; 240],
+        bytes: [0; Shape::MAX_PLACES],
+        marks: [1; Shape::MAX_PLACES],
     };
     After {
         gather: new,

@@ -102,17 +102,11 @@ pub fn sum(u: &[u8]) -> u8
     r
 }
 
-fn shorter(a: usize, b: usize) -> usize
-    ensures { λ r. ⌜ r ≡ min a b ⌝ }
-{
-    if a < b { a } else { b }
-}
-
 // The inner product of u and v; a v that is too short counts as followed by zeros.
 pub fn dot(u: &[u8], v: &[u8]) -> u8
     ensures { λ r. ⌜ r ≡ innerProduct 8 285 (length (now (u .entry))) (now (u .entry)) (now (v .entry)) ⌝ }
 {
-    let n = shorter(u.len(), v.len());
+    let n = buffers::smaller(u.len(), v.len());
     let mut r: u8 = 0;
     let mut i: usize = 0;
     while i < n {

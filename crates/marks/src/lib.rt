@@ -1,10 +1,13 @@
 // Marks of lost places: their refusal, the count of one group and the excess of a whole pattern.
 ghost use mathlib.Core.Path.{_≡_};
+ghost use mathlib.Core.Bool.{not};
 ghost use Prim.Native.Nat.{_-_, _*_, _/_, _≤_, min};
+ghost use lib.Dec.{eqb};
 ghost use lib.ListN.{length};
 ghost use Rattle.shape.specs.Shapes.{byteLimits};
 ghost use Rattle.code.specs.Marks.{lostIn, excess};
 ghost use Rattle.code.specs.Limits.{GoodIn};
+ghost use Rattle.code.specs.Refusals.{refuse, _orElse_};
 ghost use Rattle.code_services.specs.Marks.{areMarks, marksRefusalIn};
 
 // Whether every mark is 0 or 1. Computes the largest of all marks: a loop without an early exit is fast.
@@ -29,9 +32,19 @@ pub fn are_marks(marks: &[u8]) -> bool
 pub fn marks_refusal(m: usize, w: usize, c: usize, marks: &[u8]) -> u8
     ensures { λ r. ⌜ r ≡ marksRefusalIn byteLimits m w c (now (marks .entry)) ⌝ }
 {
-    let r = shape::word_refusal(m, w, c, marks.len());
+    let r = shape::shape_refusal(m, w, c);
     if r != 0 {
         return r;
+    }
+    beside_refusal(marks, m * w)
+}
+
+// The refusal of marks that are lent beside a word of n places: 5 if they are not as many, 6 if one is neither 0 nor 1; 0 if there is none.
+pub fn beside_refusal(marks: &[u8], n: usize) -> u8
+    ensures { λ r. ⌜ r ≡ refuse 5 (not (eqb (length (now (marks .entry))) n)) orElse refuse 6 (not (areMarks (now (marks .entry)))) ⌝ }
+{
+    if marks.len() != n {
+        return 5;
     }
     if are_marks(marks) { 0 } else { 6 }
 }
@@ -79,13 +92,6 @@ pub fn less(l: usize, c: usize) -> usize
     if c < l { l - c } else { 0 }
 }
 
-// The smaller of two numbers.
-pub fn smaller(l: usize, c: usize) -> usize
-    ensures { λ r. ⌜ r ≡ min l c ⌝ }
-{
-    if l < c { l } else { c }
-}
-
 // The excess of a pattern: the lost places less those that each group of w places can fill by its own c checks.
 // Groups that are whole count, and a width of 0 has none.
 pub fn pattern_excess(w: usize, c: usize, marks: &[u8]) -> usize
@@ -101,7 +107,7 @@ pub fn pattern_excess(w: usize, c: usize, marks: &[u8]) -> usize
         let e = a + w;
         let l = lost_in(&marks[a..e]);
         lost += l;
-        own += smaller(l, c);
+        own += buffers::smaller(l, c);
         a = e;
     }
     less(lost, own)

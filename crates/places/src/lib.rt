@@ -8,7 +8,7 @@ ghost use Rattle.shape.specs.Shapes.{byteLimits};
 ghost use Rattle.answers.specs.Answers.{answerNumber};
 ghost use Rattle.code.specs.Limits.{placeCount, dataCount, GoodIn, bufferRefusalIn};
 ghost use Rattle.code_services.specs.Places.{extractOf, placedOf};
-ghost use Rattle.code_services.specs.Places.{extractedIn, extractedDataIn, placedWordIn, markedChecksIn, checkMarksRefusalIn, checkMarksAnswerIn, checkMarksBufferIn};
+ghost use Rattle.code_services.specs.Places.{extractedIn, extractedDataIn, checkMarksRefusalIn, checkMarksAnswerIn, checkMarksBufferIn};
 ghost use Rattle.code_services.specs.PlacesRuns.{dataOf, dataIn, withChecks};
 
 // How many places of a group carry data, in the last group and in another; none where its checks are too many.
@@ -74,7 +74,7 @@ fn spread_part(bytes: &[u8], part: &mut [u8])
 }
 
 // Writes data into the data places, in word order, and 0 into the check places, group by group.
-fn spread_data(m: usize, w: usize, c: usize, bytes: &[u8], word: &mut [u8])
+pub fn spread_data(m: usize, w: usize, c: usize, bytes: &[u8], word: &mut [u8])
     requires { ⌜ GoodIn byteLimits m w c ⌝ }
     requires { ⌜ length (now word) ≡ placeCount m w ⌝ }
     requires { ⌜ length (now bytes) ≡ dataCount m w c ⌝ }
@@ -90,16 +90,6 @@ fn spread_data(m: usize, w: usize, c: usize, bytes: &[u8], word: &mut [u8])
         i = n;
         g += 1;
     }
-}
-
-// The word with data in its data places and 0 in its check places; nothing is written where the shape or a length is wrong.
-pub fn place(m: usize, w: usize, c: usize, bytes: &[u8], word: &mut [u8])
-    ensures { λ _. ⌜ now (word .exit) ≡ placedWordIn byteLimits m w c (now (bytes .entry)) (now (word .entry)) ⌝ }
-{
-    if shape::buffer_refusal(m, w, c, word.len(), bytes.len()) != 0 {
-        return;
-    }
-    spread_data(m, w, c, bytes, word);
 }
 
 // Marks the places of a part from d on.
@@ -126,16 +116,6 @@ pub fn mark_groups(w: usize, c: usize, marks: &mut [u8])
         mark_part(d, &mut marks[a..e]);
         a = e;
     }
-}
-
-// Marks with the check places lost; nothing is written where the shape or the length is wrong.
-pub fn mark_checks(m: usize, w: usize, c: usize, marks: &mut [u8])
-    ensures { λ _. ⌜ now (marks .exit) ≡ markedChecksIn byteLimits m w c (now (marks .entry)) ⌝ }
-{
-    if shape::word_refusal(m, w, c, marks.len()) != 0 {
-        return;
-    }
-    mark_groups(w, c, marks);
 }
 
 // The refusal of Check marks by the shape and the length of the marks: 1 to 4, 29, then 5; 0 if there is none.

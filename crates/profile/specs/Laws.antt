@@ -9,7 +9,7 @@ use native.Mathlib.Omega.{arith}
 use native.Mathlib.Decide.{decLt, ℕ-discrete}
 use borrow.Author.Tests.{leb-true, leb-false}
 use lib.ListN.{length}
-use Rattle.code.specs.Refusals.{refuse, _orElse_}
+use Rattle.code.specs.Refusals.{refuse, _orElse_, unlessRefused}
 use Rattle.code.specs.RefusalsLaws.{orElse-zero, orElse-first}
 use Rattle.code.specs.Limits.{shapeRefusalIn, wordRefusalIn}
 use Rattle.marks.specs.NumbersLaws.{marks-most}
@@ -27,12 +27,21 @@ use Rattle.counting.specs.Sets.{setsOf, setsBelow, firstIn}
 use Rattle.counting.specs.SetsLaws.{sets-found, sets-none, sets-before, below-found, below-none, before-total}
 use Rattle.profile.specs.Profile.{outside, covers, shownSet, Fits, Shown}
 use Rattle.profile.specs.ProfileLaws.{same-set, excess-outside}
-use Rattle.profile.specs.Profiled.{placeSetOf, placeNumbers, noSet, profiledNumberOf, profiledAt, profiledOf, profiledNumber, profiledPlaces}
+use Rattle.profile.specs.Profiled.{placeSetOf, placeNumbers, noSet, profiledNumberOf, profiledAt, profiledOf, profiledNumber}
+use Rattle.profile.specs.Profiled.{setShown, placesShown, profiledPlaces}
 use Rattle.profile.specs.Search.{foundAt}
 
 pub profiled-refused : (r : ℕ) (o : Option (List ℕ)) → (r ≡ 0 → ⊥) → profiledAt r o ≡ Profiled.Refused r
 profiled-refused zero o h = absurd (h refl)
 profiled-refused (suc r) o h = refl
+
+numbers : (s : List ℕ) → length s ≤ 4 → placeNumbers (placeSetOf s) ≡ s
+numbers [] l = refl
+numbers (a ∷ []) l = refl
+numbers (a ∷ b ∷ []) l = refl
+numbers (a ∷ b ∷ d ∷ []) l = refl
+numbers (a ∷ b ∷ d ∷ e ∷ []) l = refl
+numbers (a ∷ b ∷ d ∷ e ∷ f ∷ s) l = absurd (omega arith)
 
 module _ (m w c : ℕ) (marks : List ℕ) where
   pub profiled-number : profiledNumber (profiledOf m w c marks) ≡ profiledNumberOf m w c marks
@@ -69,6 +78,16 @@ module _ (m w c : ℕ) (marks : List ℕ) where
         fewest = beyond (length s) (b .2);
         first = λ t i e before. leb-false (outside m w marks t) 2 (sets-before (covers m w marks) (length s) 0 w w (omega arith) s (b .1) t i e before);
       }
+
+  pub profiled-places : profiledPlaces (profiledOf m w c marks) ≡ placesShown m w c marks
+  unfolding profiledOf placesShown profiledNumberOf
+  profiled-places = go (marksRefusalIn byteLimits m w c marks) refl (shownSet m w c marks) refl
+    where
+      go : (r : ℕ) → marksRefusalIn byteLimits m w c marks ≡ r → (o : Option (List ℕ)) → shownSet m w c marks ≡ o
+          → profiledPlaces (profiledAt r o) ≡ unlessRefused (r orElse refuse 28 (noSet o)) (setShown o) []
+      go zero a none e = refl
+      go zero a (some s) e = let l = shown-is s e .size in let g = good-of-marks m w c marks a .good in numbers s (omega arith)
+      go (suc r) a o e = refl
 
   pub none-shown : shownSet m w c marks ≡ none → (t : List ℕ) → length t ≤ c → 2 < outside m w marks t
   unfolding shownSet
@@ -182,14 +201,6 @@ module _ (m w c : ℕ) (marks : List ℕ) where
       let g = good-of-marks m w c marks a .good in
       let l = S .size in
       subst (Shown m w c marks) (sym (ap profiledPlaces (answer-of a (some (x .0)) (x .1)) ∙ numbers (x .0) (omega arith))) S
-    where
-      numbers : (s : List ℕ) → length s ≤ 4 → placeNumbers (placeSetOf s) ≡ s
-      numbers [] l = refl
-      numbers (a ∷ []) l = refl
-      numbers (a ∷ b ∷ []) l = refl
-      numbers (a ∷ b ∷ d ∷ []) l = refl
-      numbers (a ∷ b ∷ d ∷ e ∷ []) l = refl
-      numbers (a ∷ b ∷ d ∷ e ∷ f ∷ s) l = absurd (omega arith)
 
   -- "Yes must mean the general judge gives 0."
   pub yes-judged : profiledNumberOf m w c marks ≡ 0 → judgedNumberIn byteLimits m w c marks ≡ 0

@@ -4,7 +4,7 @@ use mathlib.Core.List.{List, [], _∷_}
 use mathlib.Core.Option.{Option, none, some}
 use Prim.Native.Nat.{ℕ, zero, suc}
 use lib.ListN.{length, getD, take}
-use Rattle.code.specs.Refusals.{refuse, _orElse_}
+use Rattle.code.specs.Refusals.{refuse, _orElse_, unlessRefused}
 use Rattle.shape.specs.Shapes.{byteLimits}
 use Rattle.code_services.specs.Marks.{marksRefusalIn}
 use Rattle.profile.specs.declared.PlaceSet.{PlaceSet}
@@ -43,7 +43,16 @@ abbrev pub profiledNumber : Profiled → ℕ
 profiledNumber (Profiled.Places p) = 0
 profiledNumber (Profiled.Refused r) = r
 
--- and the set that is shown, empty on a refusal
+-- the numbers of a set that is there
+abbrev pub setShown : Option (List ℕ) → List ℕ
+setShown none = []
+setShown (some s) = s
+
+-- "and shows the set", none on a refusal
+unfoldable pub placesShown : ℕ → ℕ → ℕ → List ℕ → List ℕ
+placesShown m w c marks = unlessRefused (profiledNumberOf m w c marks) (setShown (shownSet m w c marks)) []
+
+-- the place numbers of an answer, none on a refusal
 abbrev pub profiledPlaces : Profiled → List ℕ
 profiledPlaces (Profiled.Places p) = placeNumbers p
 profiledPlaces (Profiled.Refused r) = []

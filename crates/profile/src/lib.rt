@@ -5,7 +5,7 @@ ghost use Prim.Native.Nat.{ℕ, _+_, _*_, _≤_, _<_};
 ghost use lib.ListN.{length, getD};
 ghost use Rattle.counting.specs.Sets.{setsBelow, firstIn};
 ghost use Rattle.profile.specs.Search.{lostAt, within, foundIn, NoneSmaller, foundAt};
-ghost use Rattle.profile.specs.Profiled.{placeSetOf, profiledOf, profiledNumber, profiledNumberOf};
+ghost use Rattle.profile.specs.Profiled.{placeSetOf, profiledOf, profiledNumber, profiledNumberOf, profiledPlaces, placesShown};
 
 // A set of at most four place numbers, ascending: how many, and each, 0 past the last.
 pub struct PlaceSet {
@@ -142,6 +142,7 @@ fn first_set(counts: &[u8; 16], w: usize, c: usize) -> Found
 pub fn judge_profile(m: usize, w: usize, c: usize, marks: &[u8]) -> Profiled
     ensures answer { λ r. ⌜ r ≡ profiledOf m w c (now (marks .entry)) ⌝ }
     ensures number { λ r. ⌜ profiledNumber r ≡ profiledNumberOf m w c (now (marks .entry)) ⌝ }
+    ensures places { λ r. ⌜ profiledPlaces r ≡ placesShown m w c (now (marks .entry)) ⌝ }
 {
     let r = marks::marks_refusal(m, w, c, marks);
     if r != 0 {

@@ -1,4 +1,5 @@
 // Reading and writing for the programs, with waits and interruptions, and their first argument.
+// Left free here: what is read and what is written, since no contract can speak of files; each function is proved safe, and to end, given the contracts of the C library's functions.
 use libc::STDIN_FILENO;
 use libc::STDOUT_FILENO;
 use libc::types::timespec;
@@ -103,7 +104,7 @@ pub fn entry_as(number: u8, meaning: &[u8], advice: &[u8], failed: &[u8]) -> boo
         && write_out(b"\n", failed)
 }
 
-// The same with what the number means in the whole library.
+// An entry of a program's list of numbers: the number, what it means in the whole library and what to do about it.
 pub fn entry(number: u8, advice: &[u8], failed: &[u8]) -> bool {
     let mut text = [0u8; 64];
     let length = release::number_text(number as usize, &mut text);

@@ -180,7 +180,7 @@ fn entry(number: u8, advice: &[u8]) -> bool {
     program_io::entry(number, advice, b"rebuild: standard output")
 }
 
-// The same with what the number means in this program.
+// An entry of the list of numbers, with what the number means in this program.
 fn entry_as(number: u8, meaning: &[u8], advice: &[u8]) -> bool {
     program_io::entry_as(number, meaning, advice, b"rebuild: standard output")
 }
@@ -245,7 +245,7 @@ fn main() {
             write_help();
         }
         Request::Version => {
-            put(b"rebuild 1.1.0\n");
+            put(b"rebuild 1.1.1\n");
         }
         Request::Numbers => {
             write_numbers();

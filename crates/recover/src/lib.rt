@@ -7,13 +7,14 @@ ghost use mathlib.Core.Bool.{true, false};
 ghost use Prim.Native.Nat.{_*_, _≤_, _<_};
 ghost use lib.ListN.{length};
 ghost use Rattle.shape.specs.Shapes.{byteLimits};
-ghost use Rattle.answers.specs.Answers.{mendingAt, mendingNumber};
+ghost use Rattle.answers.specs.Answers.{mendingNumber};
 ghost use Rattle.code.specs.Limits.{GoodIn};
 ghost use Rattle.byte_edition.specs.Edition.{byteEdition};
 ghost use Rattle.code.specs.Word.{isLocal};
 ghost use Rattle.code.specs.Marks.{lostIn, excess};
 ghost use Rattle.syndrome.specs.Across.{acrossOf};
 ghost use Rattle.code_engine.specs.Tests.{brokenGroupIn, testedIn};
+ghost use Rattle.code_services.specs.Answered.{AnswersBy};
 ghost use Rattle.code_services.specs.Recover.{recoverRefusalIn, recoverIn};
 ghost use Rattle.code_services.specs.Attempt.{FullSatisfiedIn, AttemptIn};
 
@@ -25,7 +26,7 @@ pub fn refusal(m: usize, w: usize, c: usize, word: &[u8], marks: &[u8]) -> u8
     if r != 0 {
         return r;
     }
-    marks::marks_refusal(m, w, c, marks)
+    marks::beside_refusal(marks, word.len())
 }
 
 // Whether the first c local sums of one group's stretch are zero, given that filling it with these marks has already made as many of them zero as
@@ -108,10 +109,16 @@ fn attempt(m: usize, w: usize, c: usize, word: &mut [u8], marks: &[u8], found: &
 }
 
 // What comes after the test of the excess: the codeword that agrees is written and all marks are cleared, or it answers 9 with the group that contradicts and changes nothing.
-fn recover_determined(m: usize, w: usize, c: usize, word: &mut [u8], marks: &mut [u8]) -> Mending
+pub fn recover_determined(
+    m: usize,
+    w: usize,
+    c: usize,
+    word: &mut [u8],
+    marks: &mut [u8],
+) -> Mending
     requires { ⌜ recoverRefusalIn byteLimits m w c (now word) (now marks) ≡ 0 ⌝ }
     requires { ⌜ excess m w c (now marks) ≤ 2 ⌝ }
-    ensures answer { λ r. ⌜ r ≡ mendingAt ((recoverIn byteEdition m w c (now (word .entry)) (now (marks .entry))) .number) ((recoverIn byteEdition m w c (now (word .entry)) (now (marks .entry))) .group) ⌝ }
+    ensures answer { λ r. ⌜ AnswersBy r (recoverIn byteEdition m w c (now (word .entry)) (now (marks .entry))) ⌝ }
     ensures word { λ _. ⌜ now (word .exit) ≡ (recoverIn byteEdition m w c (now (word .entry)) (now (marks .entry))) .word ⌝ }
     ensures marks { λ _. ⌜ now (marks .exit) ≡ (recoverIn byteEdition m w c (now (word .entry)) (now (marks .entry))) .marks ⌝ }
     ensures never_eight { λ r. ⌜ (mendingNumber r ≡ 8 → ⊥) ⌝ }
@@ -129,7 +136,7 @@ fn recover_determined(m: usize, w: usize, c: usize, word: &mut [u8], marks: &mut
 
 // Recovers the whole word from its present bytes, or refuses and changes nothing.
 pub fn recover(m: usize, w: usize, c: usize, word: &mut [u8], marks: &mut [u8]) -> Mending
-    ensures answer { λ r. ⌜ r ≡ mendingAt ((recoverIn byteEdition m w c (now (word .entry)) (now (marks .entry))) .number) ((recoverIn byteEdition m w c (now (word .entry)) (now (marks .entry))) .group) ⌝ }
+    ensures answer { λ r. ⌜ AnswersBy r (recoverIn byteEdition m w c (now (word .entry)) (now (marks .entry))) ⌝ }
     ensures word { λ _. ⌜ now (word .exit) ≡ (recoverIn byteEdition m w c (now (word .entry)) (now (marks .entry))) .word ⌝ }
     ensures marks { λ _. ⌜ now (marks .exit) ≡ (recoverIn byteEdition m w c (now (word .entry)) (now (marks .entry))) .marks ⌝ }
 {
@@ -137,7 +144,7 @@ pub fn recover(m: usize, w: usize, c: usize, word: &mut [u8], marks: &mut [u8]) 
     if r != 0 {
         return Mending::Refused(r);
     }
-    if 2 < marks::excess_of(m, w, c, marks) {
+    if 2 < marks::pattern_excess(w, c, marks) {
         return Mending::Refused(8);
     }
     recover_determined(m, w, c, word, marks)

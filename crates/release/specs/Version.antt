@@ -1,9 +1,9 @@
 -- The numbers by which a caller sees that header and library belong together.
 use Prim.Native.Nat.{ℕ, _+_, _*_}
 
--- version 1.1.0, as 10,000 times the first figure, 100 times the second, and the third
+-- version 1.1.1, as 10,000 times the first figure, 100 times the second, and the third
 abbrev pub libraryVersion : ℕ
-libraryVersion = 1 * 10000 + 1 * 100 + 0
+libraryVersion = 1 * 10000 + 1 * 100 + 1
 
 -- the layout of a desk: 2 since jobs keep their lost counts and the excess (request 6)
 abbrev pub deskLayout : ℕ

@@ -84,7 +84,7 @@ const STARTS: [usize; 34] = [
 pub fn version() -> u32
     ensures { λ r. ⌜ r ≡ libraryVersion ⌝ }
 {
-    10100
+    10101
 }
 
 // The layout of a desk.
@@ -115,13 +115,6 @@ fn start(i: usize) -> usize
     if i < 34 { STARTS[i] } else { 0 }
 }
 
-// The smaller of two numbers.
-fn least(a: usize, b: usize) -> usize
-    ensures { λ r. ⌜ ((a ≤ b → r ≡ a) × (b ≤ a → r ≡ b)) ⌝ }
-{
-    if a <= b { a } else { b }
-}
-
 // Puts a text at the start of a buffer, cut where it has no room, and a zero byte after it.
 fn lend(text: &[u8], out: &mut [u8])
     ensures { λ _. ⌜ now (out .exit) ≡ lentText (now (text .entry)) (now (out .entry)) ⌝ }
@@ -129,12 +122,12 @@ fn lend(text: &[u8], out: &mut [u8])
     if out.len() == 0 {
         return;
     }
-    let n = least(text.len(), out.len() - 1);
+    let n = buffers::smaller(text.len(), out.len() - 1);
     let end = text::put_text(out, 0, &text[..n]);
     out[end] = 0;
 }
 
-// The same with a part of the texts.
+// Puts a part of the texts at the start of a buffer, cut where it has no room, and a zero byte after it.
 fn lend_part(a: usize, e: usize, out: &mut [u8])
     requires { ⌜ (a ≤ e) × (e ≤ 1247) ⌝ }
     ensures { λ _. ⌜ now (out .exit) ≡ lentText (take (e - a) (drop a joinedTexts)) (now (out .entry)) ⌝ }

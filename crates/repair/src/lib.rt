@@ -3,10 +3,10 @@ use answers::Mending;
 ghost use mathlib.Core.Path.{_≡_};
 ghost use Prim.Native.Nat.{_≤_, _<_};
 ghost use lib.ListN.{length};
-ghost use Rattle.answers.specs.Answers.{mendingAt};
 ghost use Rattle.byte_edition.specs.Edition.{byteEdition};
 ghost use Rattle.code.specs.Marks.{lostIn};
 ghost use Rattle.code.specs.Repair.{repaired};
+ghost use Rattle.code_services.specs.Answered.{AnswersBy};
 ghost use Rattle.code_services.specs.Repair.{repairIn, PartAttemptIn};
 
 // Fills the lost places of a stretch in found, and writes it into the stretch if it satisfies all of the group's equations.
@@ -35,7 +35,7 @@ fn repair_part(c: usize, g: usize, part: &mut [u8], marks: &mut [u8]) -> Mending
     requires { ⌜ c ≤ 4 ⌝ }
     requires { ⌜ length (now marks) ≡ length (now part) ⌝ }
     requires { ⌜ g < 256 ⌝ }
-    ensures { λ r. ⌜ r ≡ mendingAt ((repaired byteEdition (length (now (part .entry))) c g (now (part .entry)) (now (marks .entry))) .number) ((repaired byteEdition (length (now (part .entry))) c g (now (part .entry)) (now (marks .entry))) .group) ⌝ }
+    ensures { λ r. ⌜ AnswersBy r (repaired byteEdition (length (now (part .entry))) c g (now (part .entry)) (now (marks .entry))) ⌝ }
     ensures { λ _. ⌜ now (part .exit) ≡ (repaired byteEdition (length (now (part .entry))) c g (now (part .entry)) (now (marks .entry))) .word ⌝ }
     ensures { λ _. ⌜ now (marks .exit) ≡ (repaired byteEdition (length (now (part .entry))) c g (now (part .entry)) (now (marks .entry))) .marks ⌝ }
 {
@@ -54,7 +54,7 @@ fn repair_part(c: usize, g: usize, part: &mut [u8], marks: &mut [u8]) -> Mending
 
 // Repairs group g of the word, or refuses and changes nothing.
 pub fn repair(m: usize, w: usize, c: usize, g: usize, word: &mut [u8], marks: &mut [u8]) -> Mending
-    ensures answer { λ r. ⌜ r ≡ mendingAt ((repairIn byteEdition m w c g (now (word .entry)) (now (marks .entry))) .number) ((repairIn byteEdition m w c g (now (word .entry)) (now (marks .entry))) .group) ⌝ }
+    ensures answer { λ r. ⌜ AnswersBy r (repairIn byteEdition m w c g (now (word .entry)) (now (marks .entry))) ⌝ }
     ensures word { λ _. ⌜ now (word .exit) ≡ (repairIn byteEdition m w c g (now (word .entry)) (now (marks .entry))) .word ⌝ }
     ensures marks { λ _. ⌜ now (marks .exit) ≡ (repairIn byteEdition m w c g (now (word .entry)) (now (marks .entry))) .marks ⌝ }
 {

@@ -1,8 +1,8 @@
 // Repairs of groups and then a recovery, which answers as it would at once.
 use answers::Mending;
 ghost use mathlib.Core.Path.{_≡_};
-ghost use Rattle.answers.specs.Answers.{mendingAt};
 ghost use Rattle.byte_edition.specs.Edition.{byteEdition};
+ghost use Rattle.code_services.specs.Answered.{AnswersBy};
 ghost use Rattle.code_services.specs.Recover.{recoverIn};
 ghost use Rattle.code_services.specs.RepairOrder.{held, heldAfterList, recoverAfter};
 
@@ -27,10 +27,10 @@ pub fn repair_then_recover(
     marks: &mut [u8],
     list: &[usize],
 ) -> Mending
-    ensures answer { λ r. ⌜ r ≡ mendingAt ((recoverAfter byteEdition m w c (now (list .entry)) (now (word .entry)) (now (marks .entry))) .number) ((recoverAfter byteEdition m w c (now (list .entry)) (now (word .entry)) (now (marks .entry))) .group) ⌝ }
+    ensures answer { λ r. ⌜ AnswersBy r (recoverAfter byteEdition m w c (now (list .entry)) (now (word .entry)) (now (marks .entry))) ⌝ }
     ensures word { λ _. ⌜ now (word .exit) ≡ (recoverAfter byteEdition m w c (now (list .entry)) (now (word .entry)) (now (marks .entry))) .word ⌝ }
     ensures marks { λ _. ⌜ now (marks .exit) ≡ (recoverAfter byteEdition m w c (now (list .entry)) (now (word .entry)) (now (marks .entry))) .marks ⌝ }
-    ensures as_at_once { λ r. ⌜ r ≡ mendingAt ((recoverIn byteEdition m w c (now (word .entry)) (now (marks .entry))) .number) ((recoverIn byteEdition m w c (now (word .entry)) (now (marks .entry))) .group) ⌝ }
+    ensures as_at_once { λ r. ⌜ AnswersBy r (recoverIn byteEdition m w c (now (word .entry)) (now (marks .entry))) ⌝ }
     ensures same_word { λ _. ⌜ ((recoverIn byteEdition m w c (now (word .entry)) (now (marks .entry))) .number ≡ 0 → now (word .exit) ≡ (recoverIn byteEdition m w c (now (word .entry)) (now (marks .entry))) .word) ⌝ }
     ensures same_marks { λ _. ⌜ ((recoverIn byteEdition m w c (now (word .entry)) (now (marks .entry))) .number ≡ 0 → now (marks .exit) ≡ (recoverIn byteEdition m w c (now (word .entry)) (now (marks .entry))) .marks) ⌝ }
 {

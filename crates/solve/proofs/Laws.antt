@@ -156,18 +156,6 @@ module _ (k m : ℕ) (pos : 0 < k) (M : List (List ℕ)) where
       (ap (λ f. scaled k m f (row M i)) (ap (inverse k m) e ∙ one-power k m pos (2 ^ k - 2)) ∙ scaled-one k m pos (row M i) small)
       ∙ set-getD M i [])
 
-  -- one equation whose coefficient is 1
-  pub eliminated-one : ((c : ℕ) → getD (row M 0) c 0 < 2 ^ k) → entry M 0 0 ≡ 1 → M ≡ eliminated k m M 1
-  unfolding eliminated eliminatedTo pivot
-  eliminated-one small e =
-      cleared-first ∙ ap (λ A. cleared k m A 0 1) (normalized-one 0 small e) ∙ column-found k m M 0 1 0 M first (omega arith) (exchanged-same k m M 0)
-    where
-      first : 0 ≡ pivot M 0 1
-      first = search-found M 0 1 0 (omega arith) (λ z. let q : _≡_ {A = ℕ} 0 1 = sym z ∙ e in omega arith)
-
-      cleared-first : M ≡ cleared k m M 0 1
-      cleared-first = row-skip k m M 0 0 refl ∙ clear-next k m M 0 M 0 (clear-none k m M 0)
-
 -- ---- a row that stays as it is
 module _ (k m : ℕ) (x : List ℕ) (long : length x ≡ 64) (i : ℕ) (h : i < 4) where
   -- an entry of 0 adds nothing

@@ -201,24 +201,13 @@ fn rows_at(x: &[u8]) -> [[u8; 16]; 4]
     rows
 }
 
-fn at_most_4(t: usize) -> usize
-    ensures { λ r. ⌜ r ≡ min t 4 ⌝ }
-{
-    if t < 4 { t } else { 4 }
-}
-
-// Reduces the first t rows and columns to the identity, in every column that has a pivot; t above 4 is taken as 4. A single equation whose coefficient is 1 is already solved.
+// Reduces the first t rows and columns to the identity, in every column that has a pivot; t above 4 is taken as 4.
 pub fn eliminate(rows: [[u8; 16]; 4], t: usize) -> [[u8; 16]; 4]
     ensures { λ r. ⌜ r ≡ eliminated 8 285 rows (min t 4) ⌝ }
 {
-    let n = at_most_4(t);
+    let n = buffers::smaller(t, 4);
     let mut x = [0u8; 64];
     lay(rows, &mut x);
-    if n == 1 {
-        if x[0] == 1 {
-            return rows;
-        }
-    }
     eliminate_columns(&mut x, n);
     rows_at(&x)
 }

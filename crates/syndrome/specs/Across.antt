@@ -1,10 +1,12 @@
 -- The two sums across, as one value.
+use mathlib.Core.Path.{refl}
 use mathlib.Core.List.{List}
 use Prim.Native.Nat.{ℕ}
 use lib.ListN.{length}
 use Rattle.code.specs.Edition.{raised}
 use Rattle.byte_edition.specs.Edition.{byteEdition}
 use Rattle.code.specs.Word.{groupSum, coefficient, secondCoefficient, firstAcross, secondAcross}
+use Rattle.code_loops.specs.Directions.{PairType}
 use Rattle.syndrome.specs.declared.Sums.{Sums}
 
 abbrev pub acrossOf : ℕ → ℕ → ℕ → List ℕ → Sums
@@ -33,3 +35,13 @@ rowSums w c x y = record {
 -- what is given for a word that is not of a good shape's length
 abbrev pub noSums : Sums
 noSums = record { first = 0; second = 0 }
+
+-- the type of two sums
+abbrev pub byteSums : PairType Sums
+byteSums = record {
+  pair = λ a b. record { first = a; second = b };
+  first = λ s. s .first;
+  second = λ s. s .second;
+  first-is = λ a b. refl;
+  second-is = λ a b. refl;
+}

@@ -36,6 +36,14 @@ module _ (out after last numbers : List ℕ) (at next i : ℕ) (l : i < length n
         ap length (rw d at q ∙ room .1) ∙ length-written after next (9 ∷ decimal x) (omega arith) ∙ same,
       )
 
+-- a line whose line feed is put where the bytes before it end
+pub record Fed (out before line : List ℕ) (end : ℕ) : Type 0 where
+  pub room : end < length before
+  pub same : length before ≡ length out
+  pub size : end + 1 ≡ length line
+  pub most : end + 1 ≤ length out
+  pub holds : set before end 10 ≡ written out 0 line
+
 -- the name
 module _ (out name numbers one : List ℕ) (at : ℕ)
     (h : length name + 4 * length numbers < length out)
@@ -69,24 +77,20 @@ module _ (out name numbers one two : List ℕ) (at end : ℕ)
       let z = named out name numbers one at h a e₁ in
       rw (e₂, first out name numbers one at h a e₁, z) (written-on out 0 name (cells numbers) (omega arith))
 
-  pub line-same : length two ≡ length out
-  line-same =
-      let m = cells-most 2 numbers in
-      rw joined (length-written out 0 (name ++ cells numbers) (simp length-append (omega arith)))
-
-  pub line-room : end < length out
-  line-room = omega (arith, cells-most 2 numbers, named out name numbers one at h a e₁)
-
-  pub line-step : (end + 1 ≡ length (lineOf name numbers)) × (end + 1 ≤ length out) × (set two end 10 ≡ written out 0 (lineOf name numbers))
+  pub line-fed : Fed out two (lineOf name numbers) end
   unfolding lineWith
-  line-step =
+  line-fed =
       let m = cells-most 2 numbers in
       let y = named out name numbers one at h a e₁ in
-      let z : end ≡ 0 + length (name ++ cells numbers) = simp length-append (omega arith) in (
-        simp length-append (omega arith),
-        omega arith,
-        rw (joined, ← append-assoc name (cells numbers) (10 ∷ [])) (written-next out 0 (name ++ cells numbers) end 10 z (omega arith)),
-      )
+      let z : end ≡ 0 + length (name ++ cells numbers) = simp length-append (omega arith) in
+      let l : length two ≡ length out = rw joined (length-written out 0 (name ++ cells numbers) (simp length-append (omega arith))) in
+      record {
+        room = omega arith;
+        same = l;
+        size = simp length-append (omega arith);
+        most = omega arith;
+        holds = rw (joined, ← append-assoc name (cells numbers) (10 ∷ [])) (written-next out 0 (name ++ cells numbers) end 10 z (omega arith));
+      }
 
 -- a text put after the texts at the start
 module _ (out after last s t : List ℕ) (next r : ℕ) (h : length s + length t ≤ length out) (n : next ≡ 0 + length s) (e : after ≡ written out 0 s)
@@ -134,14 +138,15 @@ module _ (out one two three : List ℕ) (a b e x group : ℕ) (room : 32 ≤ len
         omega arith,
       )
 
-  pub nine-feed : (e < length three) × (length three ≡ length out)
-  nine-feed =
+  pub nine-fed : Fed out three (contradictoryWordLine x group) e
+  nine-fed =
       let h = nine-held in
+      let n = length-append before (10 ∷ []) in
       let l : length three ≡ length out = ap length (h .1) ∙ length-written out 0 before (omega arith) in
-      (omega arith, l)
-
-  pub nine-done : (e + 1 ≡ length (contradictoryWordLine x group)) × (e + 1 ≤ length out) × (set three e 10 ≡ written out 0 (contradictoryWordLine x group))
-  nine-done =
-      let h = nine-held in
-      let l = length-append before (10 ∷ []) in
-      rw nine-parts (omega arith, omega arith, rw (h .1) (written-next out 0 before e 10 (h .0) (omega arith)))
+      record {
+        room = omega arith;
+        same = l;
+        size = rw nine-parts (omega arith);
+        most = omega arith;
+        holds = rw (nine-parts, h .1) (written-next out 0 before e 10 (h .0) (omega arith));
+      }

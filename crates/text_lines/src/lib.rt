@@ -143,7 +143,7 @@ fn meaning(field: &[u8]) -> u16
     ensures { λ r. ⌜ r ≡ meaning (now (field .entry)) ⌝ }
 {
     if field.len() == 1 {
-        if field[0] == 45 {
+        if field[0] == b'-' {
             return 256;
         }
     }
@@ -225,7 +225,7 @@ fn kind_with(kind: u8, count: usize) -> u8
     if count == 3 { kind } else { 0 }
 }
 
-// The record of a line. A line of more than 1,024 bytes is not read.
+// The record of a line. A line of more than 1,024 bytes is not read. Left free where the kind is 0: the count, the bytes and the marks, which nobody reads.
 pub fn parse(line: &[u8]) -> Record
     ensures kind { λ r. ⌜ r .kind ≡ lineKind (now (line .entry)) ⌝ }
     ensures values { λ r. ⌜ ((r .kind ≡ 0 → ⊥) → HoldsRecord r (now (line .entry))) ⌝ }
@@ -261,6 +261,7 @@ pub fn parse(line: &[u8]) -> Record
 }
 
 // The numbers of a line of this name, each 0 to 255. A line of another name, with another field or of more than 1,024 bytes is not read.
+// Left free where it is not read: the count and the bytes, on which no answer depends.
 pub fn read_numbers(line: &[u8], name: &[u8]) -> Numbers
     ensures read { λ r. ⌜ r .read ≡ isNumbers (now (name .entry)) (now (line .entry)) ⌝ }
     ensures values { λ r. ⌜ (r .read ≡ true → HoldsNumbers r (now (line .entry))) ⌝ }

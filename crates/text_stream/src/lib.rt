@@ -32,13 +32,6 @@ struct Place {
     c: usize,
 }
 
-// The smaller of two numbers.
-fn least(a: usize, b: usize) -> usize
-    ensures { λ r. ⌜ (r ≤ a) × (r ≤ b) × (r ≡ min a b) ⌝ }
-{
-    if a < b { a } else { b }
-}
-
 // Writes a text at a position.
 fn put(out: &mut [u8], at: usize, text: &[u8])
     requires { ⌜ at + length (now text) ≤ length (now out) ⌝ }
@@ -131,9 +124,9 @@ pub fn take(state: State, input: &[u8; 1024], count: usize, out: &mut [u8; 24588
     ensures fits { λ r. ⌜ r .state .length ≤ 1025 ⌝ }
 {
     let mut line = state.line;
-    let n = least(count, 1024);
+    let n = buffers::smaller(count, 1024);
     let first = Place {
-        length: least(state.length, 1025),
+        length: buffers::smaller(state.length, 1025),
         used: 0,
         m: state.m,
         w: state.w,
@@ -158,7 +151,7 @@ pub fn finish(state: State, out: &mut [u8; 24588]) -> usize
     ensures size { λ r. ⌜ r ≡ length (closing (pointOf state)) ⌝ }
     ensures output { λ _. ⌜ now (out .exit) ≡ written (now (out .entry)) 0 (closing (pointOf state)) ⌝ }
 {
-    let length = least(state.length, 1025);
+    let length = buffers::smaller(state.length, 1025);
     if length == 0 {
         return 0;
     }

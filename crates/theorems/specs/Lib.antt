@@ -12,3 +12,5 @@ pub mod PaperSession
 pub mod PaperSessionLaws
 pub mod NineLines
 pub mod NineLinesLaws
+pub mod Subfield
+pub mod SubfieldLaws

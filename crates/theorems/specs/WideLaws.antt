@@ -70,6 +70,10 @@ check-as-recover m w c word good size small = check-as-recover-in wide-sound m w
 -- for marks that Judge accepts
 module _ (m w c : ℕ) (marks : List ℕ) (accepted : marksRefusalIn wideLimits m w c marks ≡ 0) where
   -- "0 if no two different codewords agree at all present places, else 8"
+  pub judge-determined : (judgedNumberIn wideLimits m w c marks ≡ 0) ↔ ¬ Undetermined wideEdition m w c marks
+  judge-determined = JudgeLaws.zero-determined wide-sound m w c marks accepted
+
+  -- and 8 otherwise
   pub judge-undetermined : (judgedNumberIn wideLimits m w c marks ≡ 8) ↔ Undetermined wideEdition m w c marks
   judge-undetermined = JudgeLaws.eight-undetermined wide-sound m w c marks accepted
 

@@ -22,13 +22,12 @@ use Rattle.shape.specs.Shapes.{byteLimits}
 use Rattle.code_services.specs.PlacesLaws.{extract-1-4-1, extract-2-3-1}
 use Rattle.byte_edition.specs.Edition.{byteEdition}
 use Rattle.byte_edition.specs.EditionLaws.{bytes-sound}
-use Rattle.code.specs.Word.{coefficient, secondCoefficient, groupSum, wordSum, isLocal, isCodeword, Symbols, Codeword}
+use Rattle.code.specs.Word.{coefficient, secondCoefficient, groupSum, wordSum, isLocal, isCodeword, Codeword}
 use Rattle.code.specs.Marks.{lost, lostIn, excess, Agree}
 use Rattle.code.specs.Outcome.{refused, contradictory, doneWith}
 use Rattle.code.specs.Contradiction.{isBroken, contradictingGroup}
 use Rattle.code.specs.Filling.{search}
 use Rattle.code.specs.Stretch.{stretch}
-use Rattle.code.specs.Recovery.{Agrees}
 use Rattle.code_services.specs.Marks.{marksRefusalIn, areMarks}
 use Rattle.code_services.specs.Recover.{recoverRefusalIn, recoverIn}
 use Rattle.code_services.specs.AttemptLaws.{accepted, service-eight, service-done}
@@ -88,170 +87,97 @@ encoded-second =
     sym (encoded bytes-sound (good-of-refusal 2 3 1 good-2-3-1) (1 ∷ 1 ∷ []) refl (small (1 ∷ 1 ∷ []) tt) .only secondWord second-codeword extract-2-3-1)
 
 -- ---- recoveries of that word; other bytes stand in the lost places
--- a call with six bytes and six marks, and the excess, by computing
-called : List ℕ → List ℕ → ℕ → Type 0
-called word marks x = (0 ≡ recoverRefusalIn byteLimits 2 3 1 word marks) × (excess 2 3 1 marks ≡ x)
+-- what computing shows of a call with six bytes and six marks: it is not refused, its excess is x, and its bytes are bytes
+record Called (word marks : List ℕ) (x : ℕ) : Type 0 where
+  refusal : 0 ≡ recoverRefusalIn byteLimits 2 3 1 word marks
+  excess-is : excess 2 3 1 marks ≡ x
+  bytes : T (allBelow (length word) (λ p. ltb (getD word p 0) 256))
+
+module _ (word marks : List ℕ) {x : ℕ} (C : Called word marks x) where
+  mended : x ≤ 2 → T (allBelow 6 (λ p. (lost marks p || eqb (getD secondWord p 0) (getD word p 0))))
+      → recoverIn byteEdition 2 3 1 word marks ≡ doneWith secondWord marks
+  mended low same =
+      let e = C .excess-is in
+      service-done bytes-sound 2 3 1 word marks (accepted 2 3 1 word marks 0 (C .refusal) refl) (small word (C .bytes)) secondWord (omega arith) record {
+        codeword = second-codeword;
+        agree = agree 6 marks secondWord word same;
+      }
+
+  undetermined : 2 < x → recoverIn byteEdition 2 3 1 word marks ≡ refused 8 word marks
+  undetermined high =
+      let e = C .excess-is in
+      service-eight bytes-sound 2 3 1 word marks (accepted 2 3 1 word marks 0 (C .refusal) refl) (small word (C .bytes)) (omega arith)
 
 -- "In that word the first three lost: recovered (excess 2)"
-threeLost : List ℕ
-threeLost = 255 ∷ 255 ∷ 255 ∷ 78 ∷ 206 ∷ 128 ∷ []
-
-firstThree : List ℕ
-firstThree = 1 ∷ 1 ∷ 1 ∷ 0 ∷ 0 ∷ 0 ∷ []
-
-three-called : called threeLost firstThree 2
-unfolding called threeLost firstThree recoverRefusalIn wordRefusalIn marksRefusalIn shapeRefusalIn areMarks excess lostIn totalBelow
-three-called = (refl, refl)
-
-three-agrees : Agrees byteEdition 2 3 1 firstThree threeLost secondWord
-unfolding threeLost firstThree secondWord
-three-agrees = record { codeword = second-codeword; agree = agree 6 firstThree secondWord threeLost tt }
+three-called : Called (255 ∷ 255 ∷ 255 ∷ 78 ∷ 206 ∷ 128 ∷ []) (1 ∷ 1 ∷ 1 ∷ 0 ∷ 0 ∷ 0 ∷ []) 2
+unfolding recoverRefusalIn wordRefusalIn marksRefusalIn shapeRefusalIn areMarks excess lostIn totalBelow
+three-called = record { refusal = refl; excess-is = refl; bytes = tt }
 
 pub three-lost : outcomeList (recoverIn byteEdition 2 3 1 (255 ∷ 255 ∷ 255 ∷ 78 ∷ 206 ∷ 128 ∷ []) (1 ∷ 1 ∷ 1 ∷ 0 ∷ 0 ∷ 0 ∷ []))
     ≡ 0 ∷ 0 ∷ 1 ∷ 1 ∷ 0 ∷ 78 ∷ 206 ∷ 128 ∷ 0 ∷ 0 ∷ 0 ∷ 0 ∷ 0 ∷ 0 ∷ []
-unfolding called threeLost firstThree secondWord
-three-lost =
-    let e = three-called .1 in
-    ap outcomeList
-    (service-done bytes-sound 2 3 1 threeLost firstThree (accepted 2 3 1 threeLost firstThree 0 (three-called .0) refl) (small threeLost tt) secondWord
-    (omega arith) three-agrees)
+unfolding secondWord
+three-lost = ap outcomeList (mended _ _ three-called (omega arith) tt)
 
 pub three-done : number ((recoverIn byteEdition 2 3 1 (255 ∷ 255 ∷ 255 ∷ 78 ∷ 206 ∷ 128 ∷ []) (1 ∷ 1 ∷ 1 ∷ 0 ∷ 0 ∷ 0 ∷ [])) .number) ≡ number 0
 three-done = ap (λ l. number (getD l 0 0)) three-lost
 
 pub three-excess : number (excess 2 3 1 (1 ∷ 1 ∷ 1 ∷ 0 ∷ 0 ∷ 0 ∷ [])) ≡ number 2
-unfolding called firstThree
-three-excess = ap number (three-called .1)
+three-excess = ap number (three-called .excess-is)
 
 -- "The first five lost: 8 (excess 3)"
-firstFive : List ℕ
-firstFive = 1 ∷ 1 ∷ 1 ∷ 1 ∷ 1 ∷ 0 ∷ []
-
-five-called : called secondWord firstFive 3
-unfolding called secondWord firstFive recoverRefusalIn wordRefusalIn marksRefusalIn shapeRefusalIn areMarks excess lostIn totalBelow
-five-called = (refl, refl)
+five-called : Called (1 ∷ 1 ∷ 0 ∷ 78 ∷ 206 ∷ 128 ∷ []) (1 ∷ 1 ∷ 1 ∷ 1 ∷ 1 ∷ 0 ∷ []) 3
+unfolding recoverRefusalIn wordRefusalIn marksRefusalIn shapeRefusalIn areMarks excess lostIn totalBelow
+five-called = record { refusal = refl; excess-is = refl; bytes = tt }
 
 pub five-lost : outcomeList (recoverIn byteEdition 2 3 1 (1 ∷ 1 ∷ 0 ∷ 78 ∷ 206 ∷ 128 ∷ []) (1 ∷ 1 ∷ 1 ∷ 1 ∷ 1 ∷ 0 ∷ []))
     ≡ 8 ∷ 0 ∷ 1 ∷ 1 ∷ 0 ∷ 78 ∷ 206 ∷ 128 ∷ 1 ∷ 1 ∷ 1 ∷ 1 ∷ 1 ∷ 0 ∷ []
-unfolding called firstFive secondWord
-five-lost =
-    let e = five-called .1 in
-    ap outcomeList (service-eight bytes-sound 2 3 1 secondWord firstFive (accepted 2 3 1 secondWord firstFive 0 (five-called .0) refl) (small secondWord tt)
-    (omega arith))
+five-lost = ap outcomeList (undetermined _ _ five-called (omega arith))
 
 pub five-excess : number (excess 2 3 1 (1 ∷ 1 ∷ 1 ∷ 1 ∷ 1 ∷ 0 ∷ [])) ≡ number 3
-unfolding called firstFive
-five-excess = ap number (five-called .1)
+five-excess = ap number (five-called .excess-is)
 
 -- ---- the two words of the paper's session, with 0 in the lost places
 -- the second and the fifth lost: recovered
-twoLost : List ℕ
-twoLost = 1 ∷ 0 ∷ 0 ∷ 78 ∷ 0 ∷ 128 ∷ []
-
-secondFifth : List ℕ
-secondFifth = 0 ∷ 1 ∷ 0 ∷ 0 ∷ 1 ∷ 0 ∷ []
-
-two-called : called twoLost secondFifth 0
-unfolding called twoLost secondFifth recoverRefusalIn wordRefusalIn marksRefusalIn shapeRefusalIn areMarks excess lostIn totalBelow
-two-called = (refl, refl)
-
-two-agrees : Agrees byteEdition 2 3 1 secondFifth twoLost secondWord
-unfolding twoLost secondFifth secondWord
-two-agrees = record { codeword = second-codeword; agree = agree 6 secondFifth secondWord twoLost tt }
-
 pub two-lost : recoverIn byteEdition 2 3 1 (1 ∷ 0 ∷ 0 ∷ 78 ∷ 0 ∷ 128 ∷ []) (0 ∷ 1 ∷ 0 ∷ 0 ∷ 1 ∷ 0 ∷ [])
     ≡ doneWith (1 ∷ 1 ∷ 0 ∷ 78 ∷ 206 ∷ 128 ∷ []) (0 ∷ 1 ∷ 0 ∷ 0 ∷ 1 ∷ 0 ∷ [])
-unfolding called twoLost secondFifth secondWord
-two-lost =
-    let e = two-called .1 in
-    service-done bytes-sound 2 3 1 twoLost secondFifth (accepted 2 3 1 twoLost secondFifth 0 (two-called .0) refl) (small twoLost tt) secondWord
-    (omega arith) two-agrees
+unfolding secondWord recoverRefusalIn wordRefusalIn marksRefusalIn shapeRefusalIn areMarks excess lostIn totalBelow
+two-lost = mended _ _ {x = 0} record { refusal = refl; excess-is = refl; bytes = tt } (omega arith) tt
 
 -- the first five lost
-fiveLost : List ℕ
-fiveLost = 0 ∷ 0 ∷ 0 ∷ 0 ∷ 0 ∷ 128 ∷ []
-
-five-again : called fiveLost firstFive 3
-unfolding called fiveLost firstFive recoverRefusalIn wordRefusalIn marksRefusalIn shapeRefusalIn areMarks excess lostIn totalBelow
-five-again = (refl, refl)
-
 pub five-lost-again : recoverIn byteEdition 2 3 1 (0 ∷ 0 ∷ 0 ∷ 0 ∷ 0 ∷ 128 ∷ []) (1 ∷ 1 ∷ 1 ∷ 1 ∷ 1 ∷ 0 ∷ [])
     ≡ refused 8 (0 ∷ 0 ∷ 0 ∷ 0 ∷ 0 ∷ 128 ∷ []) (1 ∷ 1 ∷ 1 ∷ 1 ∷ 1 ∷ 0 ∷ [])
-unfolding called firstFive fiveLost
-five-lost-again =
-    let e = five-again .1 in
-    service-eight bytes-sound 2 3 1 fiveLost firstFive (accepted 2 3 1 fiveLost firstFive 0 (five-again .0) refl) (small fiveLost tt) (omega arith)
+unfolding recoverRefusalIn wordRefusalIn marksRefusalIn shapeRefusalIn areMarks excess lostIn totalBelow
+five-lost-again = undetermined _ _ {x = 3} record { refusal = refl; excess-is = refl; bytes = tt } (omega arith)
 
--- "Nothing lost, last byte 129: 9"
-lastChanged : List ℕ
-lastChanged = 1 ∷ 1 ∷ 0 ∷ 78 ∷ 206 ∷ 129 ∷ []
+-- ---- nothing lost, and no codeword
+-- the answer, from the group that computing finds
+nothingLost : (word : List ℕ) (g : ℕ) → length word ≡ 6 → T (allBelow (length word) (λ p. ltb (getD word p 0) 256))
+    → isCodeword byteEdition 2 3 1 word ≡ false → contradictingGroup byteEdition 2 3 1 word (noneLost word) ≡ g
+    → recoverIn byteEdition 2 3 1 word (noneLost word) ≡ contradictory g word (noneLost word)
+nothingLost word g size bytes other group =
+    other-nine bytes-sound (good-of-refusal 2 3 1 good-2-3-1) word record { size = size; each = small word bytes } other
+    ∙ ap (λ g. contradictory g word (noneLost word)) group
 
-last-symbols : Symbols byteEdition 6 lastChanged
-unfolding lastChanged
-last-symbols = record { size = refl; each = small lastChanged tt }
-
-last-no-codeword : isCodeword byteEdition 2 3 1 lastChanged ≡ false
-unfolding lastChanged isCodeword isLocal wordSum groupSum sumBelow coefficient secondCoefficient power product bitSum double masked _⊕_ locators
-last-no-codeword = refl
-
--- the bytes of group 1 break its equation, those of group 0 do not
-last-group : contradictingGroup byteEdition 2 3 1 lastChanged (noneLost lastChanged) ≡ 1
-unfolding lastChanged contradictingGroup firstBelow isBroken search stretch isLocal groupSum sumBelow coefficient secondCoefficient power product bitSum double
-    masked _⊕_ locators
-last-group = refl
-
+-- "Nothing lost, last byte 129: 9"; the bytes of group 1 break its equation, those of group 0 do not
 pub last-outcome : recoverIn byteEdition 2 3 1 (1 ∷ 1 ∷ 0 ∷ 78 ∷ 206 ∷ 129 ∷ []) (0 ∷ 0 ∷ 0 ∷ 0 ∷ 0 ∷ 0 ∷ [])
     ≡ contradictory 1 (1 ∷ 1 ∷ 0 ∷ 78 ∷ 206 ∷ 129 ∷ []) (0 ∷ 0 ∷ 0 ∷ 0 ∷ 0 ∷ 0 ∷ [])
-unfolding lastChanged
-last-outcome =
-    other-nine bytes-sound (good-of-refusal 2 3 1 good-2-3-1) lastChanged last-symbols last-no-codeword
-    ∙ ap (λ g. contradictory g lastChanged (noneLost lastChanged)) last-group
+unfolding contradictingGroup firstBelow isBroken search stretch isCodeword isLocal wordSum groupSum sumBelow coefficient secondCoefficient power product bitSum
+    double masked _⊕_ locators
+last-outcome = nothingLost (1 ∷ 1 ∷ 0 ∷ 78 ∷ 206 ∷ 129 ∷ []) 1 refl tt refl refl
 
 pub last-byte : outcomeList (recoverIn byteEdition 2 3 1 (1 ∷ 1 ∷ 0 ∷ 78 ∷ 206 ∷ 129 ∷ []) (0 ∷ 0 ∷ 0 ∷ 0 ∷ 0 ∷ 0 ∷ []))
     ≡ 9 ∷ 1 ∷ 1 ∷ 1 ∷ 0 ∷ 78 ∷ 206 ∷ 129 ∷ 0 ∷ 0 ∷ 0 ∷ 0 ∷ 0 ∷ 0 ∷ []
 last-byte = ap outcomeList last-outcome
 
 -- the same word with its last place lost: recovered. So "two equal words may get different numbers" before and after a lose of that place
-lastLost : List ℕ
-lastLost = 0 ∷ 0 ∷ 0 ∷ 0 ∷ 0 ∷ 1 ∷ []
-
-lost-called : called lastChanged lastLost 0
-unfolding called lastChanged lastLost recoverRefusalIn wordRefusalIn marksRefusalIn shapeRefusalIn areMarks excess lostIn totalBelow
-lost-called = (refl, refl)
-
-lost-agrees : Agrees byteEdition 2 3 1 lastLost lastChanged secondWord
-unfolding lastChanged lastLost secondWord
-lost-agrees = record { codeword = second-codeword; agree = agree 6 lastLost secondWord lastChanged tt }
-
 pub last-lost : outcomeList (recoverIn byteEdition 2 3 1 (1 ∷ 1 ∷ 0 ∷ 78 ∷ 206 ∷ 129 ∷ []) (0 ∷ 0 ∷ 0 ∷ 0 ∷ 0 ∷ 1 ∷ []))
     ≡ 0 ∷ 0 ∷ 1 ∷ 1 ∷ 0 ∷ 78 ∷ 206 ∷ 128 ∷ 0 ∷ 0 ∷ 0 ∷ 0 ∷ 0 ∷ 0 ∷ []
-unfolding called lastChanged lastLost secondWord
-last-lost =
-    let e = lost-called .1 in
-    ap outcomeList
-    (service-done bytes-sound 2 3 1 lastChanged lastLost (accepted 2 3 1 lastChanged lastLost 0 (lost-called .0) refl) (small lastChanged tt) secondWord
-    (omega arith) lost-agrees)
+unfolding secondWord recoverRefusalIn wordRefusalIn marksRefusalIn shapeRefusalIn areMarks excess lostIn totalBelow
+last-lost = ap outcomeList (mended _ _ {x = 0} record { refusal = refl; excess-is = refl; bytes = tt } (omega arith) tt)
 
 -- nothing lost, the bytes of the second group 0: each group meets its own equation and the equations across fail
-secondZero : List ℕ
-secondZero = 1 ∷ 1 ∷ 0 ∷ 0 ∷ 0 ∷ 0 ∷ []
-
-zero-symbols : Symbols byteEdition 6 secondZero
-unfolding secondZero
-zero-symbols = record { size = refl; each = small secondZero tt }
-
-zero-no-codeword : isCodeword byteEdition 2 3 1 secondZero ≡ false
-unfolding secondZero isCodeword isLocal wordSum groupSum sumBelow coefficient secondCoefficient power product bitSum double masked _⊕_ locators
-zero-no-codeword = refl
-
-zero-group : contradictingGroup byteEdition 2 3 1 secondZero (noneLost secondZero) ≡ 2
-unfolding secondZero contradictingGroup firstBelow isBroken search stretch isLocal groupSum sumBelow coefficient secondCoefficient power product bitSum double
-    masked _⊕_ locators
-zero-group = refl
-
 pub across-outcome : recoverIn byteEdition 2 3 1 (1 ∷ 1 ∷ 0 ∷ 0 ∷ 0 ∷ 0 ∷ []) (0 ∷ 0 ∷ 0 ∷ 0 ∷ 0 ∷ 0 ∷ [])
     ≡ contradictory 2 (1 ∷ 1 ∷ 0 ∷ 0 ∷ 0 ∷ 0 ∷ []) (0 ∷ 0 ∷ 0 ∷ 0 ∷ 0 ∷ 0 ∷ [])
-unfolding secondZero
-across-outcome =
-    other-nine bytes-sound (good-of-refusal 2 3 1 good-2-3-1) secondZero zero-symbols zero-no-codeword
-    ∙ ap (λ g. contradictory g secondZero (noneLost secondZero)) zero-group
+unfolding contradictingGroup firstBelow isBroken search stretch isCodeword isLocal wordSum groupSum sumBelow coefficient secondCoefficient power product bitSum
+    double masked _⊕_ locators
+across-outcome = nothingLost (1 ∷ 1 ∷ 0 ∷ 0 ∷ 0 ∷ 0 ∷ []) 2 refl tt refl refl

@@ -1,5 +1,6 @@
 // The sums of the two equations across of a sixteen-bit word, and whether all its equations are met.
 use answers::Tested;
+use wide_shape::Shape;
 ghost use mathlib.Core.Path.{_≡_};
 ghost use mathlib.Core.Bool.{false};
 ghost use Prim.Native.Nat.{_*_, _+_, _≤_, _<_};
@@ -9,12 +10,13 @@ ghost use Rattle.binary_field.specs.Product.{product};
 ghost use Rattle.code.specs.Edition.{raised};
 ghost use Rattle.code.specs.Word.{groupSum, coefficient, secondCoefficient};
 ghost use Rattle.code.specs.Limits.{GoodIn};
+ghost use Rattle.code.specs.Lent.{LentIn};
 ghost use Rattle.code_engine.specs.Horner.{HornerRows};
 ghost use Rattle.code_engine.specs.Tests.{brokenGroupIn, testedIn, notTested};
 ghost use Rattle.wide_shape.specs.Edition.{wideLimits, wideEdition};
 ghost use Rattle.wide_across.specs.Fold.{Plus, TwicePlus};
 ghost use Rattle.wide_across.specs.Pairs.{AllCoefficients, Paired, pairedSums, sumsOfPairs};
-ghost use Rattle.wide_across.specs.Across.{wideAcross, noWideSums};
+ghost use Rattle.wide_across.specs.Across.{wideAcross};
 
 // What the two equations across sum up to.
 pub struct Sums {
@@ -233,13 +235,13 @@ pub fn group_sums(part: &[u16], c: usize, g: usize) -> Sums
     ensures { λ r. ⌜ (length (now (part .entry)) ≤ 256 → c ≤ 4 → r .second ≡ groupSum wideEdition (length (now (part .entry))) (now (part .entry)) 0 (secondCoefficient wideEdition c g)) ⌝ }
     ensures { λ r. ⌜ ((length (now (part .entry)) ≤ 256 → c ≤ 4 → ⊥) → (r .first ≡ 0) × (r .second ≡ 0)) ⌝ }
 {
-    if 4 < c {
+    if Shape::MAX_CHECKS < c {
         return Sums {
             first: 0,
             second: 0,
         };
     }
-    if 256 < part.len() {
+    if Shape::MAX_WIDTH < part.len() {
         return Sums {
             first: 0,
             second: 0,
@@ -370,24 +372,18 @@ fn short_across(m: usize, w: usize, c: usize, word: &[u16], x: &mut [u16], y: &m
     paired_sums(c, x, y)
 }
 
-// The two sums across of a word of a good shape's length; 0 for others.
+// The two sums across of a word of a good shape's length.
 pub fn across(m: usize, w: usize, c: usize, word: &[u16]) -> Sums
-    ensures { λ r. ⌜ (GoodIn wideLimits m w c → length (now (word .entry)) ≡ m * w → r ≡ wideAcross m w c (now (word .entry))) ⌝ }
-    ensures { λ r. ⌜ ((GoodIn wideLimits m w c → length (now (word .entry)) ≡ m * w → ⊥) → r ≡ noWideSums) ⌝ }
+    requires { ⌜ LentIn wideLimits m w c (now word) ⌝ }
+    ensures { λ r. ⌜ r ≡ wideAcross m w c (now (word .entry)) ⌝ }
 {
-    if wide_shape::word_refusal(m, w, c, word.len()) != 0 {
-        return Sums {
-            first: 0,
-            second: 0,
-        };
-    }
     if w <= 16 {
         let mut u = [0u16; 16];
         let mut v = [0u16; 16];
         return short_across(m, w, c, word, &mut u[..w], &mut v[..w]);
     }
-    let mut x = [0u16; 256];
-    let mut y = [0u16; 256];
+    let mut x = [0u16; Shape::MAX_WIDTH];
+    let mut y = [0u16; Shape::MAX_WIDTH];
     folded_sums(m, w, c, word, &mut x[..w], &mut y[..w])
 }
 

@@ -1,6 +1,7 @@
 // The candidate for a word of the sixteen-bit edition with lost places: where the excess is at most two, what any codeword that agrees with the present symbols must be.
 use erasures::Free;
 use wide_across::Sums;
+use wide_shape::Shape;
 ghost use mathlib.Core.Path.{_≡_};
 ghost use mathlib.Core.Bool.{false};
 ghost use Prim.Native.Nat.{ℕ, _*_, _/_, _%_, _≤_, _<_};
@@ -14,10 +15,11 @@ ghost use Rattle.code.specs.Combined.{combined};
 ghost use Rattle.code.specs.Lone.{lone};
 ghost use Rattle.code.specs.Stretch.{stretch};
 ghost use Rattle.wide_across.specs.Across.{wideAcross, noWideSums};
-ghost use Rattle.code_engine.specs.BoundGroups.{BoundAll};
 ghost use Rattle.code_engine.specs.CandidateSteps.{Blanked, GroupsFilledIn, DirectionIn, AddedIn};
 ghost use Rattle.code.specs.Pair.{MetIn};
+ghost use Rattle.code_loops.specs.Rebuild.{RebuildLent};
 ghost use Rattle.wide_candidate.specs.Free.{OneOrTwo};
+ghost use Rattle.wide_candidate.specs.Asked.{FillAsked, OneAsked, TwoAsked, MendAsked};
 ghost use Rattle.code_engine.specs.Mended.{BoundFew, MendedOneIn, MendedTwoIn, MendedIn, IsCandidateIn};
 
 // Writes word into base, with 0 in the lost places.
@@ -39,10 +41,7 @@ fn blank_lost(word: &[u16], marks: &[u8], base: &mut [u16])
 
 // Fills the bound places of every group by its own equations.
 fn fill_groups(m: usize, w: usize, c: usize, bound: &[u8], base: &mut [u16])
-    requires { ⌜ GoodIn wideLimits m w c ⌝ }
-    requires { ⌜ length (now base) ≡ m * w ⌝ }
-    requires { ⌜ length (now bound) ≡ m * w ⌝ }
-    requires { ⌜ ((g : ℕ) → g < m → lostIn w (now bound) g ≤ c) ⌝ }
+    requires { ⌜ FillAsked m w c (now bound) (now base) ⌝ }
     ensures { λ _. ⌜ GroupsFilledIn wideEdition m w (now (bound .entry)) (now (base .entry)) (now (base .exit)) ⌝ }
 {
     let mut g: usize = 0;
@@ -152,12 +151,7 @@ fn mend_one(
     s: Sums,
     h: &mut [u16],
 ) -> Sums
-    requires { ⌜ GoodIn wideLimits m w c ⌝ }
-    requires { ⌜ length (now word) ≡ m * w ⌝ }
-    requires { ⌜ p < m * w ⌝ }
-    requires { ⌜ BoundFew m w c p (now bound) ⌝ }
-    requires { ⌜ s ≡ wideAcross m w c (now word) ⌝ }
-    requires { ⌜ now h ≡ replicate w 0 ⌝ }
+    requires { ⌜ OneAsked m w c p (now bound) (now word) s (now h) ⌝ }
     ensures { λ _. ⌜ MendedOneIn wideEdition m w c p (now (bound .entry)) (now (word .entry)) (now (word .exit)) ⌝ }
     ensures { λ r. ⌜ r ≡ wideAcross m w c (now (word .exit)) ⌝ }
 {
@@ -182,13 +176,7 @@ fn mend_two(
     h: &mut [u16],
     k: &mut [u16],
 ) -> Sums
-    requires { ⌜ GoodIn wideLimits m w c ⌝ }
-    requires { ⌜ length (now word) ≡ m * w ⌝ }
-    requires { ⌜ (p < m * w) × (q < m * w) × (p ≡ q → ⊥) ⌝ }
-    requires { ⌜ BoundFew m w c p (now bound) ⌝ }
-    requires { ⌜ BoundFew m w c q (now bound) ⌝ }
-    requires { ⌜ s ≡ wideAcross m w c (now word) ⌝ }
-    requires { ⌜ (now h ≡ replicate w 0) × (now k ≡ replicate w 0) ⌝ }
+    requires { ⌜ TwoAsked m w c p q (now bound) (now word) s (now h) (now k) ⌝ }
     ensures { λ _. ⌜ MendedTwoIn wideEdition m w c p q (now (bound .entry)) (now (word .entry)) (now (word .exit)) ⌝ }
     ensures { λ r. ⌜ r ≡ wideAcross m w c (now (word .exit)) ⌝ }
 {
@@ -234,10 +222,7 @@ fn mend_free(
 
 // Sets the first two free places, or as many as there are, so that the sums across are zero if they can be, and gives these sums back.
 fn mend(m: usize, w: usize, c: usize, marks: &[u8], bound: &[u8], word: &mut [u16]) -> Sums
-    requires { ⌜ GoodIn wideLimits m w c ⌝ }
-    requires { ⌜ length (now word) ≡ m * w ⌝ }
-    requires { ⌜ length (now marks) ≡ m * w ⌝ }
-    requires { ⌜ BoundAll m w c (now marks) (now bound) ⌝ }
+    requires { ⌜ MendAsked m w c (now marks) (now bound) (now word) ⌝ }
     ensures { λ _. ⌜ MendedIn wideEdition m w c (now (marks .entry)) (now (bound .entry)) (now (word .entry)) (now (word .exit)) ⌝ }
     ensures { λ r. ⌜ r ≡ wideAcross m w c (now (word .exit)) ⌝ }
 {
@@ -251,8 +236,8 @@ fn mend(m: usize, w: usize, c: usize, marks: &[u8], bound: &[u8], word: &mut [u1
         let mut far = [0u16; 16];
         return mend_free(m, w, c, f, bound, word, s, &mut near[..w], &mut far[..w]);
     }
-    let mut h = [0u16; 256];
-    let mut k = [0u16; 256];
+    let mut h = [0u16; Shape::MAX_WIDTH];
+    let mut k = [0u16; Shape::MAX_WIDTH];
     mend_free(m, w, c, f, bound, word, s, &mut h[..w], &mut k[..w])
 }
 
@@ -266,11 +251,7 @@ fn rebuild(
     bound: &mut [u8],
     out: &mut [u16],
 ) -> Sums
-    requires { ⌜ GoodIn wideLimits m w c ⌝ }
-    requires { ⌜ length (now word) ≡ m * w ⌝ }
-    requires { ⌜ length (now marks) ≡ m * w ⌝ }
-    requires { ⌜ length (now bound) ≡ m * w ⌝ }
-    requires { ⌜ length (now out) ≡ m * w ⌝ }
+    requires { ⌜ RebuildLent wideLimits m w c (length (now word)) (now marks) (length (now bound)) (length (now out)) ⌝ }
     ensures { λ _. ⌜ IsCandidateIn wideEdition m w c (now (marks .entry)) (now (word .entry)) (now (out .exit)) ⌝ }
     ensures { λ r. ⌜ r ≡ wideAcross m w c (now (out .exit)) ⌝ }
 {
@@ -308,6 +289,6 @@ pub fn candidate(m: usize, w: usize, c: usize, word: &[u16], marks: &[u8], out: 
         let mut near = [0u8; 64];
         return rebuild(m, w, c, word, marks, &mut near[..n], out);
     }
-    let mut bound = [0u8; 4096];
+    let mut bound = [0u8; Shape::MAX_PLACES];
     rebuild(m, w, c, word, marks, &mut bound[..n], out)
 }

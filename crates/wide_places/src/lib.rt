@@ -7,7 +7,7 @@ ghost use lib.ListN.{length, replicate};
 ghost use Rattle.code.specs.Limits.{placeCount, dataCount, GoodIn, bufferRefusalIn};
 ghost use Rattle.wide_shape.specs.Edition.{wideLimits};
 ghost use Rattle.answers.specs.Answers.{answerNumber};
-ghost use Rattle.code_services.specs.Places.{extractOf, placedOf, extractedIn, extractedDataIn, placedWordIn, markedChecksIn};
+ghost use Rattle.code_services.specs.Places.{extractOf, placedOf, extractedIn, extractedDataIn};
 ghost use Rattle.code_services.specs.Places.{checkMarksRefusalIn, checkMarksAnswerIn, checkMarksBufferIn};
 
 // Copies the data symbols of word, in word order, group by group.
@@ -55,7 +55,7 @@ fn spread_part(symbols: &[u16], part: &mut [u16])
 }
 
 // Writes data into the data places, in word order, and 0 into the check places, group by group.
-fn spread_data(m: usize, w: usize, c: usize, symbols: &[u16], word: &mut [u16])
+pub fn spread_data(m: usize, w: usize, c: usize, symbols: &[u16], word: &mut [u16])
     requires { ⌜ GoodIn wideLimits m w c ⌝ }
     requires { ⌜ length (now word) ≡ placeCount m w ⌝ }
     requires { ⌜ length (now symbols) ≡ dataCount m w c ⌝ }
@@ -71,26 +71,6 @@ fn spread_data(m: usize, w: usize, c: usize, symbols: &[u16], word: &mut [u16])
         i = n;
         g += 1;
     }
-}
-
-// The word with data in its data places and 0 in its check places; nothing is written where the shape or a length is wrong.
-pub fn place(m: usize, w: usize, c: usize, symbols: &[u16], word: &mut [u16])
-    ensures { λ _. ⌜ now (word .exit) ≡ placedWordIn wideLimits m w c (now (symbols .entry)) (now (word .entry)) ⌝ }
-{
-    if wide_shape::buffer_refusal(m, w, c, word.len(), symbols.len()) != 0 {
-        return;
-    }
-    spread_data(m, w, c, symbols, word);
-}
-
-// Marks with the check places lost; nothing is written where the shape or the length is wrong.
-pub fn mark_checks(m: usize, w: usize, c: usize, marks: &mut [u8])
-    ensures { λ _. ⌜ now (marks .exit) ≡ markedChecksIn wideLimits m w c (now (marks .entry)) ⌝ }
-{
-    if wide_shape::word_refusal(m, w, c, marks.len()) != 0 {
-        return;
-    }
-    places::mark_groups(w, c, marks);
 }
 
 // The refusal of Check marks by the shape and the length of the marks: 1 to 4, 26, 29, then 5; 0 if there is none.

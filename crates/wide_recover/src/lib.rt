@@ -8,11 +8,12 @@ ghost use Prim.Native.Nat.{_*_, _≤_, _<_};
 ghost use lib.ListN.{length};
 ghost use Rattle.code.specs.Limits.{GoodIn};
 ghost use Rattle.wide_shape.specs.Edition.{wideLimits, wideEdition};
-ghost use Rattle.answers.specs.Answers.{mendingAt, mendingNumber};
+ghost use Rattle.answers.specs.Answers.{mendingNumber};
 ghost use Rattle.code.specs.Word.{isLocal};
 ghost use Rattle.code.specs.Marks.{lostIn, excess};
 ghost use Rattle.code_engine.specs.Tests.{brokenGroupIn, testedIn};
 ghost use Rattle.wide_across.specs.Across.{wideAcross};
+ghost use Rattle.code_services.specs.Answered.{AnswersBy};
 ghost use Rattle.code_services.specs.Recover.{recoverRefusalIn, recoverIn};
 ghost use Rattle.code_services.specs.Attempt.{FullSatisfiedIn, AttemptIn};
 
@@ -24,7 +25,7 @@ pub fn refusal(m: usize, w: usize, c: usize, word: &[u16], marks: &[u8]) -> u8
     if r != 0 {
         return r;
     }
-    wide_shape::marks_refusal(m, w, c, marks)
+    marks::beside_refusal(marks, word.len())
 }
 
 // Whether the first c local sums of one group's stretch are zero, given that filling it with these marks has already made as many of them zero as
@@ -130,10 +131,16 @@ fn attempt_apart(m: usize, w: usize, c: usize, word: &mut [u16], marks: &[u8]) -
 }
 
 // What comes after the test of the excess: the codeword that agrees is written and all marks are cleared, or it answers 9 with the group that contradicts and changes nothing.
-fn recover_determined(m: usize, w: usize, c: usize, word: &mut [u16], marks: &mut [u8]) -> Mending
+pub fn recover_determined(
+    m: usize,
+    w: usize,
+    c: usize,
+    word: &mut [u16],
+    marks: &mut [u8],
+) -> Mending
     requires { ⌜ recoverRefusalIn wideLimits m w c (now word) (now marks) ≡ 0 ⌝ }
     requires { ⌜ excess m w c (now marks) ≤ 2 ⌝ }
-    ensures answer { λ r. ⌜ r ≡ mendingAt ((recoverIn wideEdition m w c (now (word .entry)) (now (marks .entry))) .number) ((recoverIn wideEdition m w c (now (word .entry)) (now (marks .entry))) .group) ⌝ }
+    ensures answer { λ r. ⌜ AnswersBy r (recoverIn wideEdition m w c (now (word .entry)) (now (marks .entry))) ⌝ }
     ensures word { λ _. ⌜ now (word .exit) ≡ (recoverIn wideEdition m w c (now (word .entry)) (now (marks .entry))) .word ⌝ }
     ensures marks { λ _. ⌜ now (marks .exit) ≡ (recoverIn wideEdition m w c (now (word .entry)) (now (marks .entry))) .marks ⌝ }
     ensures never_eight { λ r. ⌜ (mendingNumber r ≡ 8 → ⊥) ⌝ }
@@ -149,7 +156,7 @@ fn recover_determined(m: usize, w: usize, c: usize, word: &mut [u16], marks: &mu
 
 // Recovers the whole word from its present symbols, or refuses and changes nothing.
 pub fn recover(m: usize, w: usize, c: usize, word: &mut [u16], marks: &mut [u8]) -> Mending
-    ensures answer { λ r. ⌜ r ≡ mendingAt ((recoverIn wideEdition m w c (now (word .entry)) (now (marks .entry))) .number) ((recoverIn wideEdition m w c (now (word .entry)) (now (marks .entry))) .group) ⌝ }
+    ensures answer { λ r. ⌜ AnswersBy r (recoverIn wideEdition m w c (now (word .entry)) (now (marks .entry))) ⌝ }
     ensures word { λ _. ⌜ now (word .exit) ≡ (recoverIn wideEdition m w c (now (word .entry)) (now (marks .entry))) .word ⌝ }
     ensures marks { λ _. ⌜ now (marks .exit) ≡ (recoverIn wideEdition m w c (now (word .entry)) (now (marks .entry))) .marks ⌝ }
 {

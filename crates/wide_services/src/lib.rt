@@ -6,9 +6,10 @@ ghost use mathlib.Core.Path.{_≡_};
 ghost use Prim.Native.Nat.{_≤_, _<_};
 ghost use lib.ListN.{length};
 ghost use Rattle.wide_shape.specs.Edition.{wideEdition, wideLimits};
-ghost use Rattle.answers.specs.Answers.{mendingAt, answerNumber};
+ghost use Rattle.answers.specs.Answers.{answerNumber};
 ghost use Rattle.code.specs.Marks.{lostIn};
 ghost use Rattle.code.specs.Repair.{repaired};
+ghost use Rattle.code_services.specs.Answered.{AnswersBy};
 ghost use Rattle.code_services.specs.Repair.{PartAttemptIn, repairIn};
 ghost use Rattle.code.specs.Limits.{wordRefusalIn, placeCount, GoodIn};
 ghost use Rattle.code_services.specs.Check.{checkedIn, checkFiguresIn};
@@ -44,7 +45,7 @@ fn repair_part(c: usize, g: usize, part: &mut [u16], marks: &mut [u8]) -> Mendin
     requires { ⌜ c ≤ 4 ⌝ }
     requires { ⌜ length (now marks) ≡ length (now part) ⌝ }
     requires { ⌜ g < 256 ⌝ }
-    ensures { λ r. ⌜ r ≡ mendingAt ((repaired wideEdition (length (now (part .entry))) c g (now (part .entry)) (now (marks .entry))) .number) ((repaired wideEdition (length (now (part .entry))) c g (now (part .entry)) (now (marks .entry))) .group) ⌝ }
+    ensures { λ r. ⌜ AnswersBy r (repaired wideEdition (length (now (part .entry))) c g (now (part .entry)) (now (marks .entry))) ⌝ }
     ensures { λ _. ⌜ now (part .exit) ≡ (repaired wideEdition (length (now (part .entry))) c g (now (part .entry)) (now (marks .entry))) .word ⌝ }
     ensures { λ _. ⌜ now (marks .exit) ≡ (repaired wideEdition (length (now (part .entry))) c g (now (part .entry)) (now (marks .entry))) .marks ⌝ }
 {
@@ -63,7 +64,7 @@ fn repair_part(c: usize, g: usize, part: &mut [u16], marks: &mut [u8]) -> Mendin
 
 // Repairs group g of the word, or refuses and changes nothing.
 pub fn repair(m: usize, w: usize, c: usize, g: usize, word: &mut [u16], marks: &mut [u8]) -> Mending
-    ensures answer { λ r. ⌜ r ≡ mendingAt ((repairIn wideEdition m w c g (now (word .entry)) (now (marks .entry))) .number) ((repairIn wideEdition m w c g (now (word .entry)) (now (marks .entry))) .group) ⌝ }
+    ensures answer { λ r. ⌜ AnswersBy r (repairIn wideEdition m w c g (now (word .entry)) (now (marks .entry))) ⌝ }
     ensures word { λ _. ⌜ now (word .exit) ≡ (repairIn wideEdition m w c g (now (word .entry)) (now (marks .entry))) .word ⌝ }
     ensures marks { λ _. ⌜ now (marks .exit) ≡ (repairIn wideEdition m w c g (now (word .entry)) (now (marks .entry))) .marks ⌝ }
 {
@@ -109,11 +110,12 @@ fn refusal(m: usize, w: usize, c: usize, word: usize, symbols: usize) -> u8
 // Recovers the check places of a word that holds its data; marks is room for the marks.
 fn fill_checks(m: usize, w: usize, c: usize, word: &mut [u16], marks: &mut [u8])
     requires { ⌜ GoodIn wideLimits m w c ⌝ }
+    requires { ⌜ length (now word) ≡ placeCount m w ⌝ }
     requires { ⌜ length (now marks) ≡ placeCount m w ⌝ }
     ensures { λ _. ⌜ now (word .exit) ≡ (recoverIn wideEdition m w c (now (word .entry)) (checkMarks m w c)) .word ⌝ }
 {
-    wide_places::mark_checks(m, w, c, marks);
-    wide_recover::recover(m, w, c, word, marks);
+    places::mark_groups(w, c, marks);
+    wide_recover::recover_determined(m, w, c, word, marks);
 }
 
 // The same, with room of its own for the marks: less of it for a word of at most 64 places, since it takes time to clear.
@@ -142,7 +144,7 @@ pub fn encode(m: usize, w: usize, c: usize, symbols: &[u16], word: &mut [u16]) -
     if r != 0 {
         return Answer::Refused(r);
     }
-    wide_places::place(m, w, c, symbols, word);
+    wide_places::spread_data(m, w, c, symbols, word);
     complete(m, w, c, word);
     Answer::Done
 }
@@ -168,10 +170,10 @@ pub fn repair_then_recover(
     marks: &mut [u8],
     list: &[usize],
 ) -> Mending
-    ensures answer { λ r. ⌜ r ≡ mendingAt ((recoverAfter wideEdition m w c (now (list .entry)) (now (word .entry)) (now (marks .entry))) .number) ((recoverAfter wideEdition m w c (now (list .entry)) (now (word .entry)) (now (marks .entry))) .group) ⌝ }
+    ensures answer { λ r. ⌜ AnswersBy r (recoverAfter wideEdition m w c (now (list .entry)) (now (word .entry)) (now (marks .entry))) ⌝ }
     ensures word { λ _. ⌜ now (word .exit) ≡ (recoverAfter wideEdition m w c (now (list .entry)) (now (word .entry)) (now (marks .entry))) .word ⌝ }
     ensures marks { λ _. ⌜ now (marks .exit) ≡ (recoverAfter wideEdition m w c (now (list .entry)) (now (word .entry)) (now (marks .entry))) .marks ⌝ }
-    ensures as_at_once { λ r. ⌜ r ≡ mendingAt ((recoverIn wideEdition m w c (now (word .entry)) (now (marks .entry))) .number) ((recoverIn wideEdition m w c (now (word .entry)) (now (marks .entry))) .group) ⌝ }
+    ensures as_at_once { λ r. ⌜ AnswersBy r (recoverIn wideEdition m w c (now (word .entry)) (now (marks .entry))) ⌝ }
     ensures same_word { λ _. ⌜ ((recoverIn wideEdition m w c (now (word .entry)) (now (marks .entry))) .number ≡ 0 → now (word .exit) ≡ (recoverIn wideEdition m w c (now (word .entry)) (now (marks .entry))) .word) ⌝ }
     ensures same_marks { λ _. ⌜ ((recoverIn wideEdition m w c (now (word .entry)) (now (marks .entry))) .number ≡ 0 → now (marks .exit) ≡ (recoverIn wideEdition m w c (now (word .entry)) (now (marks .entry))) .marks) ⌝ }
 {

@@ -161,11 +161,11 @@ pub fn buffer_refusal(m: usize, w: usize, c: usize, word: usize, symbols: usize)
 pub fn marks_refusal(m: usize, w: usize, c: usize, marks: &[u8]) -> u8
     ensures { λ r. ⌜ r ≡ marksRefusalIn wideLimits m w c (now (marks .entry)) ⌝ }
 {
-    let r = word_refusal(m, w, c, marks.len());
+    let r = Shape::refusal(m, w, c);
     if r != 0 {
         return r;
     }
-    if marks::are_marks(marks) { 0 } else { 6 }
+    marks::beside_refusal(marks, m * w)
 }
 
 // The service Judge: whether a pattern of losses leaves a codeword determined.

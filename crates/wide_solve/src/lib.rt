@@ -1,4 +1,5 @@
 // The lost symbols of a group from its power sums, and one group filled.
+use wide_shape::Shape;
 ghost use mathlib.Core.Path.{_≡_};
 ghost use Prim.Native.Nat.{_≤_, _<_, ℕ};
 ghost use lib.ListN.{getD, replicate, length};
@@ -338,6 +339,8 @@ fn four(x: [u16; 4], s: [u16; 6], row: &[u16]) -> [u16; 4]
 }
 
 // The symbols of t places with the locators x that have the power sums s; zeros for t above 4.
+// Free: the entries from t on, and all four where two of the first t locators are the same or differ by what is not in the small field; of these
+// holds that they are symbols.
 pub fn symbols(x: [u16; 4], s: [u16; 6], t: usize) -> [u16; 4]
     ensures { λ r. ⌜ (t ≤ 4 → Apart t (λ i. getD x i 0) → HasSums 16 69643 t (λ i. getD x i 0) (λ i. getD r i 0) (λ e. getD s e 0)) ⌝ }
     ensures { λ r. ⌜ (4 < t → r ≡ replicate 4 0) ⌝ }
@@ -434,7 +437,7 @@ fn locator(row: &[u16], j: usize) -> u16
     requires { ⌜ now row ≡ locatorRow ⌝ }
     ensures { λ r. ⌜ r ≡ getD locatorRow j 0 ⌝ }
 {
-    if j < 256 { row[j] } else { 0 }
+    if j < Shape::MAX_WIDTH { row[j] } else { 0 }
 }
 
 // The locators of four places.
@@ -463,7 +466,7 @@ fn fill_one(part: &mut [u16], p: usize)
 pub fn fill(part: &mut [u16], marks: &[u8])
     ensures { λ _. ⌜ FilledIn wideEdition (now (marks .entry)) (now (part .entry)) (now (part .exit)) ⌝ }
 {
-    if 256 < part.len() {
+    if Shape::MAX_WIDTH < part.len() {
         return;
     }
     if marks.len() != part.len() {
@@ -471,7 +474,7 @@ pub fn fill(part: &mut [u16], marks: &[u8])
     }
     let erasures = erasures::find(marks);
     let t = erasures.count;
-    if 4 < t {
+    if Shape::MAX_CHECKS < t {
         return;
     }
     if t == 0 {

@@ -1,7 +1,7 @@
 -- Laws: The power sums of a group's stretch.
 use mathlib.Core.Path.{_≡_, refl, sym, ap, ap₂, _∙_, subst}
-use mathlib.Core.Bool.{Bool, _&&_}
-use mathlib.Core.List.{List}
+use mathlib.Core.Bool.{Bool, true, false, _&&_}
+use mathlib.Core.List.{List, [], _∷_}
 use Prim.Native.Nat.{ℕ, zero, suc, _+_, _*_, _^_, _<_, _≤_}
 use native.Mathlib.Numerals.{add-one}
 use native.Mathlib.Omega.{arith}
@@ -123,3 +123,20 @@ module _ (part sums : List ℕ) (c n : ℕ) (P : PowerSums part n sums) where
         → product 16 69643 weight s ≡ groupSum wideEdition (length part) part 0 (secondCoefficient wideEdition c g)
     sums-weighted g weight s e f =
         ap₂ (product 16 69643) e (f ∙ sums-second) ∙ second-coefficient-group wideEdition (length part) c g part
+
+-- the first power sum is the plain sum
+pub first-alone : (part : List ℕ) (s n : ℕ) → ((j : ℕ) → getD part j 0 < 65536) → s ≡ sumBelow (length part) (λ i. getD part i 0) → n ≡ 1
+    → PowerSums part n (s ∷ 0 ∷ 0 ∷ 0 ∷ 0 ∷ 0 ∷ [])
+first-alone part s n small e h zero l = e ∙ raised-sum (raised-none part small)
+first-alone part s n small e h (suc k) l = absurd (omega arith)
+
+-- with one local equation the plain sum decides
+pub sum-local : (part : List ℕ) (s c : ℕ) → ((j : ℕ) → getD part j 0 < 65536) → s ≡ sumBelow (length part) (λ i. getD part i 0) → c ≡ 1
+    → eqb s 0 ≡ isLocal wideEdition (length part) c part 0
+sum-local part s c small e h =
+    sym (ap (λ n. allBelow n (λ i. eqb (getD (s ∷ 0 ∷ 0 ∷ 0 ∷ 0 ∷ 0 ∷ []) i 0) 0)) h ∙ and-true (eqb s 0))
+    ∙ sums-local part (s ∷ 0 ∷ 0 ∷ 0 ∷ 0 ∷ 0 ∷ []) c c (first-alone part s c small e h) (omega arith)
+  where
+    and-true : (b : Bool) → (b && true) ≡ b
+    and-true true = refl
+    and-true false = refl

@@ -1,4 +1,5 @@
 // The power sums of a group's stretch, and whether its local equations are met.
+use wide_shape::Shape;
 ghost use mathlib.Core.Path.{_≡_};
 ghost use mathlib.Core.Bool.{false};
 ghost use Prim.Native.Nat.{_≤_, _<_};
@@ -108,7 +109,8 @@ fn short_sums(part: &[u16], n: usize) -> [u16; 6]
     gather(&mut x, &row, n)
 }
 
-// The first n power sums of a group's stretch; zeros for more than 256 places or n above 6. The entries from n on are free: no caller reads them.
+// The first n power sums of a group's stretch; zeros for more than 256 places or n above 6.
+// Free: the entries from n on, of which holds that they are symbols; no caller reads them.
 pub fn power_sums(part: &[u16], n: usize) -> [u16; 6]
     ensures { λ r. ⌜ (length (now (part .entry)) ≤ 256 → n ≤ 6 → PowerSums (now (part .entry)) n r) ⌝ }
     ensures { λ r. ⌜ ((length (now (part .entry)) ≤ 256 → n ≤ 6 → ⊥) → r ≡ replicate 6 0) ⌝ }
@@ -117,7 +119,7 @@ pub fn power_sums(part: &[u16], n: usize) -> [u16; 6]
     if 6 < n {
         return none;
     }
-    if 256 < part.len() {
+    if Shape::MAX_WIDTH < part.len() {
         return none;
     }
     if n == 1 {
@@ -128,7 +130,7 @@ pub fn power_sums(part: &[u16], n: usize) -> [u16; 6]
     if w <= 16 {
         return short_sums(part, n);
     }
-    let mut x = [0u16; 256];
+    let mut x = [0u16; Shape::MAX_WIDTH];
     gather_in(part, &mut x[..w], n)
 }
 
@@ -152,11 +154,14 @@ pub fn local_zero(part: &[u16], c: usize) -> bool
     ensures { λ r. ⌜ (length (now (part .entry)) ≤ 256 → c ≤ 4 → r ≡ isLocal wideEdition (length (now (part .entry))) c (now (part .entry)) 0) ⌝ }
     ensures { λ r. ⌜ ((length (now (part .entry)) ≤ 256 → c ≤ 4 → ⊥) → r ≡ false) ⌝ }
 {
-    if 4 < c {
+    if Shape::MAX_CHECKS < c {
         return false;
     }
-    if 256 < part.len() {
+    if Shape::MAX_WIDTH < part.len() {
         return false;
+    }
+    if c == 1 {
+        return wide_field::sum(part) == 0;
     }
     let sums = power_sums(part, c);
     all_zero(sums, c)

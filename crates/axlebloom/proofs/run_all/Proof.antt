@@ -8,41 +8,17 @@ Inv-loop run₀ turns₀ run turns = Unit {0}
 abbrev μ-loop : tie.MeasureT-loop
 μ-loop run₀ turns₀ run turns = turns
 
-start-requires : tie.Need-start-requires Inv-loop μ-loop
-start-requires c κs = tt
-
-loop-holds : tie.Need-loop-holds Inv-loop μ-loop
-loop-holds c = tt
-
-turn-requires : tie.Need-turn-requires Inv-loop μ-loop
-turn-requires c κs = tt
-
-sub-turns : tie.Need-sub-turns Inv-loop μ-loop
-sub-turns c = omega arith
-
-loop-less : tie.Need-loop-less Inv-loop μ-loop
-loop-less c = omega arith
-
-loop-again : tie.Need-loop-again Inv-loop μ-loop
-loop-again c = tt
-
-returns : tie.Need-returns Inv-loop μ-loop
-returns c = tt
-
-returns-2 : tie.Need-returns-2 Inv-loop μ-loop
-returns-2 c = tt
-
 pub run-all-spec : {M : Type 1} → statement M
 run-all-spec =
     tie.close
     (tie.spec
     Inv-loop
     μ-loop
-    start-requires
-    loop-holds
-    turn-requires
-    sub-turns
-    loop-less
-    loop-again
-    returns
-    returns-2)
+    (let a : tie.Need-start-requires Inv-loop μ-loop = λ c κs. tt in a)
+    (let a : tie.Need-loop-holds Inv-loop μ-loop = λ c. tt in a)
+    (let a : tie.Need-turn-requires Inv-loop μ-loop = λ c κs. tt in a)
+    (let a : tie.Need-sub-turns Inv-loop μ-loop = λ c. omega arith in a)
+    (let a : tie.Need-loop-less Inv-loop μ-loop = λ c. omega arith in a)
+    (let a : tie.Need-loop-again Inv-loop μ-loop = λ c. tt in a)
+    (let a : tie.Need-returns Inv-loop μ-loop = λ c. tt in a)
+    (let a : tie.Need-returns-2 Inv-loop μ-loop = λ c. tt in a))

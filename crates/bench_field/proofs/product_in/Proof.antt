@@ -17,33 +17,6 @@ returns-2 : tie.Need-returns-2
 unfolding throughTables
 returns-2 c = simp (ne-eqb _ _ (c .before .if1 .left), eq-eqb _ _ (c .if2 .taken))
 
-wide-requires : tie.Need-wide-requires
-wide-requires c κs = search needs
-
-wide-requires-2 : tie.Need-wide-requires-2
-wide-requires-2 c κs = search needs
-
-element-copy-out-wide : tie.Need-element-copy-out-wide
-element-copy-out-wide c = search needs
-
-wide-requires-3 : tie.Need-wide-requires-3
-wide-requires-3 c κs = search needs
-
-element-copy-out-wide-2 : tie.Need-element-copy-out-wide-2
-element-copy-out-wide-2 c = search needs
-
-wide-requires-4 : tie.Need-wide-requires-4
-wide-requires-4 c κs = search needs
-
-add-s : tie.Need-add-s
-add-s c = search needs
-
-element-copy-out-result : tie.Need-element-copy-out-result
-element-copy-out-result c = search needs
-
-element-copy-out-result-2 : tie.Need-element-copy-out-result-2
-element-copy-out-result-2 c = search needs
-
 returns-3 : tie.Need-returns-3
 returns-3 c =
     let w4 = c .before .before in
@@ -72,14 +45,14 @@ product-in-spec =
     (tie.spec
     returns
     returns-2
-    wide-requires
-    wide-requires-2
-    element-copy-out-wide
-    wide-requires-3
-    element-copy-out-wide-2
-    wide-requires-4
-    add-s
-    element-copy-out-result
-    element-copy-out-result-2
+    (let a : tie.Need-wide-requires = λ c κs. search needs in a)
+    (let a : tie.Need-wide-requires-2 = λ c κs. search needs in a)
+    (let a : tie.Need-element-copy-out-wide = λ c. search needs in a)
+    (let a : tie.Need-wide-requires-3 = λ c κs. search needs in a)
+    (let a : tie.Need-element-copy-out-wide-2 = λ c. search needs in a)
+    (let a : tie.Need-wide-requires-4 = λ c κs. search needs in a)
+    (let a : tie.Need-add-s = λ c. search needs in a)
+    (let a : tie.Need-element-copy-out-result = λ c. search needs in a)
+    (let a : tie.Need-element-copy-out-result-2 = λ c. search needs in a)
     returns-3
     returns-4)

@@ -25,30 +25,6 @@ abbrev μ-loop : tie.MeasureT-loop
 loop-holds : tie.Need-loop-holds Inv-loop μ-loop
 loop-holds c = (omega arith, search needs, λ k l. absurd (omega arith))
 
--- src/lib.rt:33:16
-array-read-r : tie.Need-array-read-r Inv-loop μ-loop
-array-read-r c = omega arith
-
--- src/lib.rt:33:48
-array-read-shifted-product : tie.Need-array-read-shifted-product Inv-loop μ-loop
-array-read-shifted-product c = omega arith
-
--- src/lib.rt:33:25
-shifted-product-requires : tie.Need-shifted-product-requires Inv-loop μ-loop
-shifted-product-requires c κs = search needs
-
--- src/lib.rt:33:9
-array-write-r : tie.Need-array-write-r Inv-loop μ-loop
-array-write-r c = omega arith
-
--- src/lib.rt:34:9
-add-j : tie.Need-add-j Inv-loop μ-loop
-add-j c = omega arith
-
--- src/lib.rt:32:5
-loop-less : tie.Need-loop-less Inv-loop μ-loop
-loop-less c = omega arith
-
 -- src/lib.rt:32:5
 loop-again : tie.Need-loop-again Inv-loop μ-loop
 loop-again c =
@@ -72,11 +48,11 @@ add-spec =
     Inv-loop
     μ-loop
     loop-holds
-    array-read-r
-    array-read-shifted-product
-    shifted-product-requires
-    array-write-r
-    add-j
-    loop-less
+    (let a : tie.Need-array-read-r Inv-loop μ-loop = λ c. omega arith in a)
+    (let a : tie.Need-array-read-shifted-product Inv-loop μ-loop = λ c. omega arith in a)
+    (let a : tie.Need-shifted-product-requires Inv-loop μ-loop = λ c κs. search needs in a)
+    (let a : tie.Need-array-write-r Inv-loop μ-loop = λ c. omega arith in a)
+    (let a : tie.Need-add-j Inv-loop μ-loop = λ c. omega arith in a)
+    (let a : tie.Need-loop-less Inv-loop μ-loop = λ c. omega arith in a)
     loop-again
     returns)

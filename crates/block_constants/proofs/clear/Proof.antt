@@ -32,46 +32,6 @@ abbrev μ-loop : tie.MeasureT-loop
 loop-holds : tie.Need-loop-holds Inv-loop μ-loop
 loop-holds c = (omega arith, search needs, λ k l. absurd (omega arith))
 
--- src/lib.rt:49:13
-mul-r : tie.Need-mul-r Inv-loop μ-loop
-mul-r c = omega arith
-
--- src/lib.rt:49:13
-array-set-from-r : tie.Need-array-set-from-r Inv-loop μ-loop
-array-set-from-r c = omega arith
-
--- src/lib.rt:51:23
-mul-row : tie.Need-mul-row Inv-loop μ-loop
-mul-row c = omega arith
-
--- src/lib.rt:51:23
-array-copy-out-row : tie.Need-array-copy-out-row Inv-loop μ-loop
-array-copy-out-row c = omega arith
-
--- src/lib.rt:52:35
-array-read-add : tie.Need-array-read-add Inv-loop μ-loop
-array-read-add c = omega arith
-
--- src/lib.rt:52:17
-add-requires : tie.Need-add-requires Inv-loop μ-loop
-add-requires c κs = search needs
-
--- src/lib.rt:53:13
-mul-r-2 : tie.Need-mul-r-2 Inv-loop μ-loop
-mul-r-2 c = omega arith
-
--- src/lib.rt:53:13
-array-set-from-r-2 : tie.Need-array-set-from-r-2 Inv-loop μ-loop
-array-set-from-r-2 c = omega arith
-
--- src/lib.rt:55:9
-add-i : tie.Need-add-i Inv-loop μ-loop
-add-i c = omega arith
-
--- src/lib.rt:47:5
-loop-less : tie.Need-loop-less Inv-loop μ-loop
-loop-less c = omega arith
-
 -- src/lib.rt:47:5
 loop-again : tie.Need-loop-again Inv-loop μ-loop
 loop-again c =
@@ -112,15 +72,15 @@ clear-spec =
     Inv-loop
     μ-loop
     loop-holds
-    mul-r
-    array-set-from-r
-    mul-row
-    array-copy-out-row
-    array-read-add
-    add-requires
-    mul-r-2
-    array-set-from-r-2
-    add-i
-    loop-less
+    (let a : tie.Need-mul-r Inv-loop μ-loop = λ c. omega arith in a)
+    (let a : tie.Need-array-set-from-r Inv-loop μ-loop = λ c. omega arith in a)
+    (let a : tie.Need-mul-row Inv-loop μ-loop = λ c. omega arith in a)
+    (let a : tie.Need-array-copy-out-row Inv-loop μ-loop = λ c. omega arith in a)
+    (let a : tie.Need-array-read-add Inv-loop μ-loop = λ c. omega arith in a)
+    (let a : tie.Need-add-requires Inv-loop μ-loop = λ c κs. search needs in a)
+    (let a : tie.Need-mul-r-2 Inv-loop μ-loop = λ c. omega arith in a)
+    (let a : tie.Need-array-set-from-r-2 Inv-loop μ-loop = λ c. omega arith in a)
+    (let a : tie.Need-add-i Inv-loop μ-loop = λ c. omega arith in a)
+    (let a : tie.Need-loop-less Inv-loop μ-loop = λ c. omega arith in a)
     loop-again
     returns)

@@ -6,22 +6,6 @@ use Rattle.block_constants.proofs.equations.Reads as reads
 use Rattle.block_constants.proofs.equations.Lts as lts
 use Rattle.byte_edition.proofs.power_row.Reads as power-row-reads
 
--- src/lib.rt:75:9
-power-row-requires : tie.Need-power-row-requires
-power-row-requires c κs = search needs
-
--- src/lib.rt:76:9
-power-row-requires-2 : tie.Need-power-row-requires-2
-power-row-requires-2 c κs = search needs
-
--- src/lib.rt:77:9
-power-row-requires-3 : tie.Need-power-row-requires-3
-power-row-requires-3 c κs = search needs
-
--- src/lib.rt:78:9
-power-row-requires-4 : tie.Need-power-row-requires-4
-power-row-requires-4 c κs = search needs
-
 -- src/lib.rt:72:1
 returns : tie.Need-returns
 returns c =
@@ -36,8 +20,8 @@ pub equations-spec : {M : Type 1} → statement M
 equations-spec =
     tie.close
     (tie.spec
-    power-row-requires
-    power-row-requires-2
-    power-row-requires-3
-    power-row-requires-4
+    (let a : tie.Need-power-row-requires = λ c κs. search needs in a)
+    (let a : tie.Need-power-row-requires-2 = λ c κs. search needs in a)
+    (let a : tie.Need-power-row-requires-3 = λ c κs. search needs in a)
+    (let a : tie.Need-power-row-requires-4 = λ c κs. search needs in a)
     returns)

@@ -34,10 +34,6 @@ Inv-loop bound rows₀ t₀ p₀ rows t p =
 abbrev μ-loop : tie.MeasureT-loop
 μ-loop bound rows₀ t₀ p₀ rows t p = length bound - p
 
--- src/lib.rt:86:9
-equations-requires : tie.Need-equations-requires Inv-loop μ-loop
-equations-requires c κs = search needs
-
 -- src/lib.rt:88:9
 returns : tie.Need-returns Inv-loop μ-loop
 returns c = λ l. absurd (omega arith)
@@ -52,25 +48,9 @@ loop-holds c =
       λ _. reduced-none byteEdition _ 6 _ _ _ (λ i l j h. refl),
     )
 
--- src/lib.rt:93:12
-shared-slice-read-if2 : tie.Need-shared-slice-read-if2 Inv-loop μ-loop
-shared-slice-read-if2 c = omega arith
-
 -- src/lib.rt:95:21
 pivot-requires : tie.Need-pivot-requires Inv-loop μ-loop
 pivot-requires c κs = (omega arith, omega arith)
-
--- src/lib.rt:97:17
-add-t : tie.Need-add-t Inv-loop μ-loop
-add-t c = omega arith
-
--- src/lib.rt:100:9
-add-p : tie.Need-add-p Inv-loop μ-loop
-add-p c = omega arith
-
--- src/lib.rt:92:5
-loop-less : tie.Need-loop-less Inv-loop μ-loop
-loop-less c = omega arith
 
 -- src/lib.rt:92:5
 loop-again : tie.Need-loop-again Inv-loop μ-loop
@@ -143,13 +123,13 @@ group-rows-spec =
     (tie.spec
     Inv-loop
     μ-loop
-    equations-requires
+    (let a : tie.Need-equations-requires Inv-loop μ-loop = λ c κs. search needs in a)
     returns
     loop-holds
-    shared-slice-read-if2
+    (let a : tie.Need-shared-slice-read-if2 Inv-loop μ-loop = λ c. omega arith in a)
     pivot-requires
-    add-t
-    add-p
-    loop-less
+    (let a : tie.Need-add-t Inv-loop μ-loop = λ c. omega arith in a)
+    (let a : tie.Need-add-p Inv-loop μ-loop = λ c. omega arith in a)
+    (let a : tie.Need-loop-less Inv-loop μ-loop = λ c. omega arith in a)
     loop-again
     returns-2)

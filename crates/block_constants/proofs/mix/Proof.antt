@@ -22,33 +22,6 @@ abbrev μ-loop : tie.MeasureT-loop
 loop-holds : tie.Need-loop-holds Inv-loop μ-loop
 loop-holds c = (omega arith, search needs, record { long = refl; here = λ q l. absurd (omega arith); other = λ k l. refl })
 
-array-read-shifted-product : tie.Need-array-read-shifted-product Inv-loop μ-loop
-array-read-shifted-product c = omega arith
-
-shifted-product-requires : tie.Need-shifted-product-requires Inv-loop μ-loop
-shifted-product-requires c κs = tt
-
-add-shifted-product : tie.Need-add-shifted-product Inv-loop μ-loop
-add-shifted-product c = omega arith
-
-array-read-shifted-product-2 : tie.Need-array-read-shifted-product-2 Inv-loop μ-loop
-array-read-shifted-product-2 c = omega arith
-
-shifted-product-requires-2 : tie.Need-shifted-product-requires-2 Inv-loop μ-loop
-shifted-product-requires-2 c κs = tt
-
-add-r : tie.Need-add-r Inv-loop μ-loop
-add-r c = omega arith
-
-array-write-r : tie.Need-array-write-r Inv-loop μ-loop
-array-write-r c = omega arith
-
-add-i : tie.Need-add-i Inv-loop μ-loop
-add-i c = omega arith
-
-loop-less : tie.Need-loop-less Inv-loop μ-loop
-loop-less c = omega arith
-
 loop-again : tie.Need-loop-again Inv-loop μ-loop
 loop-again c =
     let p = c .before in
@@ -72,14 +45,14 @@ mix-spec =
     Inv-loop
     μ-loop
     loop-holds
-    array-read-shifted-product
-    shifted-product-requires
-    add-shifted-product
-    array-read-shifted-product-2
-    shifted-product-requires-2
-    add-r
-    array-write-r
-    add-i
-    loop-less
+    (let a : tie.Need-array-read-shifted-product Inv-loop μ-loop = λ c. omega arith in a)
+    (let a : tie.Need-shifted-product-requires Inv-loop μ-loop = λ c κs. tt in a)
+    (let a : tie.Need-add-shifted-product Inv-loop μ-loop = λ c. omega arith in a)
+    (let a : tie.Need-array-read-shifted-product-2 Inv-loop μ-loop = λ c. omega arith in a)
+    (let a : tie.Need-shifted-product-requires-2 Inv-loop μ-loop = λ c κs. tt in a)
+    (let a : tie.Need-add-r Inv-loop μ-loop = λ c. omega arith in a)
+    (let a : tie.Need-array-write-r Inv-loop μ-loop = λ c. omega arith in a)
+    (let a : tie.Need-add-i Inv-loop μ-loop = λ c. omega arith in a)
+    (let a : tie.Need-loop-less Inv-loop μ-loop = λ c. omega arith in a)
     loop-again
     returns)

@@ -18,57 +18,6 @@ use Rattle.block_constants.proofs.mix.Reads as mix-reads
 use Rattle.gf256.proofs.inverse.Reads as inverse-reads
 use Rattle.gf256.proofs.shifted_product.Reads as shifted-product-reads
 
-array-read-a : tie.Need-array-read-a
-array-read-a c = omega arith
-
-add-b : tie.Need-add-b
-add-b c = omega arith
-
-array-read-b : tie.Need-array-read-b
-array-read-b c = omega arith
-
-array-read-c : tie.Need-array-read-c
-array-read-c c = omega arith
-
-add-d : tie.Need-add-d
-add-d c = omega arith
-
-array-read-d : tie.Need-array-read-d
-array-read-d c = omega arith
-
-shifted-product-requires : tie.Need-shifted-product-requires
-shifted-product-requires c κs = tt
-
-shifted-product-requires-2 : tie.Need-shifted-product-requires-2
-shifted-product-requires-2 c κs = tt
-
-inverse-requires : tie.Need-inverse-requires
-inverse-requires c κs = tt
-
-clear-place-requires : tie.Need-clear-place-requires
-clear-place-requires c κs = search needs
-
-clear-place-requires-2 : tie.Need-clear-place-requires-2
-clear-place-requires-2 c κs = search needs
-
-shifted-product-requires-3 : tie.Need-shifted-product-requires-3
-shifted-product-requires-3 c κs = tt
-
-shifted-product-requires-4 : tie.Need-shifted-product-requires-4
-shifted-product-requires-4 c κs = tt
-
-mix-requires : tie.Need-mix-requires
-mix-requires c κs = search needs
-
-shifted-product-requires-5 : tie.Need-shifted-product-requires-5
-shifted-product-requires-5 c κs = tt
-
-shifted-product-requires-6 : tie.Need-shifted-product-requires-6
-shifted-product-requires-6 c κs = tt
-
-mix-requires-2 : tie.Need-mix-requires-2
-mix-requires-2 c κs = search needs
-
 returns : tie.Need-returns
 returns c =
     let o = c .before in
@@ -95,21 +44,21 @@ pub mix-two-spec : {M : Type 1} → statement M
 mix-two-spec =
     tie.close
     (tie.spec
-    array-read-a
-    add-b
-    array-read-b
-    array-read-c
-    add-d
-    array-read-d
-    shifted-product-requires
-    shifted-product-requires-2
-    inverse-requires
-    clear-place-requires
-    clear-place-requires-2
-    shifted-product-requires-3
-    shifted-product-requires-4
-    mix-requires
-    shifted-product-requires-5
-    shifted-product-requires-6
-    mix-requires-2
+    (let a : tie.Need-array-read-a = λ c. omega arith in a)
+    (let a : tie.Need-add-b = λ c. omega arith in a)
+    (let a : tie.Need-array-read-b = λ c. omega arith in a)
+    (let a : tie.Need-array-read-c = λ c. omega arith in a)
+    (let a : tie.Need-add-d = λ c. omega arith in a)
+    (let a : tie.Need-array-read-d = λ c. omega arith in a)
+    (let a : tie.Need-shifted-product-requires = λ c κs. tt in a)
+    (let a : tie.Need-shifted-product-requires-2 = λ c κs. tt in a)
+    (let a : tie.Need-inverse-requires = λ c κs. tt in a)
+    (let a : tie.Need-clear-place-requires = λ c κs. search needs in a)
+    (let a : tie.Need-clear-place-requires-2 = λ c κs. search needs in a)
+    (let a : tie.Need-shifted-product-requires-3 = λ c κs. tt in a)
+    (let a : tie.Need-shifted-product-requires-4 = λ c κs. tt in a)
+    (let a : tie.Need-mix-requires = λ c κs. search needs in a)
+    (let a : tie.Need-shifted-product-requires-5 = λ c κs. tt in a)
+    (let a : tie.Need-shifted-product-requires-6 = λ c κs. tt in a)
+    (let a : tie.Need-mix-requires-2 = λ c κs. search needs in a)
     returns)

@@ -14,30 +14,6 @@ use Rattle.block_constants.proofs.clear.Reads as clear-reads
 use Rattle.block_constants.proofs.scale.Reads as scale-reads
 use Rattle.gf256.proofs.inverse.Reads as inverse-reads
 
--- src/lib.rt:65:15
-mul-row : tie.Need-mul-row
-mul-row c = search needs
-
--- src/lib.rt:65:15
-array-copy-out-row : tie.Need-array-copy-out-row
-array-copy-out-row c = search needs
-
--- src/lib.rt:66:28
-array-read-inverse : tie.Need-array-read-inverse
-array-read-inverse c = search needs
-
--- src/lib.rt:66:9
-inverse-requires : tie.Need-inverse-requires
-inverse-requires c κs = search needs
-
--- src/lib.rt:67:9
-scale-requires : tie.Need-scale-requires
-scale-requires c κs = search needs
-
--- src/lib.rt:68:5
-clear-requires : tie.Need-clear-requires
-clear-requires c κs = search needs
-
 -- src/lib.rt:61:1
 returns : tie.Need-returns
 returns c =
@@ -55,10 +31,10 @@ pub pivot-spec : {M : Type 1} → statement M
 pivot-spec =
     tie.close
     (tie.spec
-    mul-row
-    array-copy-out-row
-    array-read-inverse
-    inverse-requires
-    scale-requires
-    clear-requires
+    (let a : tie.Need-mul-row = λ c. search needs in a)
+    (let a : tie.Need-array-copy-out-row = λ c. search needs in a)
+    (let a : tie.Need-array-read-inverse = λ c. search needs in a)
+    (let a : tie.Need-inverse-requires = λ c κs. search needs in a)
+    (let a : tie.Need-scale-requires = λ c κs. search needs in a)
+    (let a : tie.Need-clear-requires = λ c κs. search needs in a)
     returns)

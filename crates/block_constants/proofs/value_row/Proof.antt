@@ -5,24 +5,6 @@ use borrow.Author.Needs.{needs}
 use Rattle.block_constants.proofs.value_row.Statement.{statement}
 use Rattle.block_constants.proofs.value_row.Tie as tie
 
-returns : tie.Need-returns
-returns c = search needs
-
-returns-2 : tie.Need-returns-2
-returns-2 c = search needs
-
-array-read-inverse : tie.Need-array-read-inverse
-array-read-inverse c = search needs
-
-inverse-requires : tie.Need-inverse-requires
-inverse-requires c κs = tt
-
-clear-place-requires : tie.Need-clear-place-requires
-clear-place-requires c κs = search needs
-
-mix-requires : tie.Need-mix-requires
-mix-requires c κs = search needs
-
 returns-3 : tie.Need-returns-3
 returns-3 c =
     let k = c .before in
@@ -35,10 +17,10 @@ pub value-row-spec : {M : Type 1} → statement M
 value-row-spec =
     tie.close
     (tie.spec
-    returns
-    returns-2
-    array-read-inverse
-    inverse-requires
-    clear-place-requires
-    mix-requires
+    (let a : tie.Need-returns = λ c. search needs in a)
+    (let a : tie.Need-returns-2 = λ c. search needs in a)
+    (let a : tie.Need-array-read-inverse = λ c. search needs in a)
+    (let a : tie.Need-inverse-requires = λ c κs. tt in a)
+    (let a : tie.Need-clear-place-requires = λ c κs. search needs in a)
+    (let a : tie.Need-mix-requires = λ c κs. search needs in a)
     returns-3)

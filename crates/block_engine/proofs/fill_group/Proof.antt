@@ -4,8 +4,8 @@ use Prim.Native.Nat.{ℕ, _+_, _*_, _-_, _<_}
 use native.Mathlib.Omega.{arith}
 use lib.ListN.{length, getD}
 use Rattle.code.specs.Marks.{lostIn}
-use Rattle.block_laws.specs.PassLaws.{group-filled-at, aimed-at, group-whole, none-lost}
-use Rattle.block_laws.specs.StepsLaws.{mul-within, size-small}
+use Rattle.block_laws.specs.PassLaws.{group-filled-at, group-named, aimed-at, group-whole, none-lost}
+use Rattle.block_laws.specs.StepsLaws.{mul-within}
 use borrow.Author.Needs.{needs}
 use Rattle.block_engine.proofs.fill_group.Statement.{statement}
 use Rattle.block_engine.proofs.fill_group.Tie as tie
@@ -14,9 +14,6 @@ use Rattle.block_engine.proofs.fill_group.Lts as lts
 use Rattle.block_engine.proofs.targets.Reads as targets-reads
 use Rattle.block_sums.proofs.write_sums.Reads as write-sums-reads
 use Rattle.marks.proofs.lost_in.Reads as lost-in-reads
-
-lost-in-requires : tie.Need-lost-in-requires
-lost-in-requires c κs = search needs
 
 returns : tie.Need-returns
 returns c =
@@ -41,12 +38,6 @@ targets-requires c κs =
     let i = mul-within (a .g) (length (a .bound .now)) 15 16 (omega arith) (omega arith) in
     (omega arith, omega arith)
 
-write-sums-requires : tie.Need-write-sums-requires
-write-sums-requires c κs = search needs
-
-same-length : tie.Need-same-length
-same-length c = search needs
-
 returns-2 : tie.Need-returns-2
 returns-2 c =
     let r = c .before .before in
@@ -66,26 +57,18 @@ returns-2 c =
     let small : (i : ℕ) → getD (a .blocks .now) i 0 < 256 = λ i. l .before .before .before .slice-known .given i .fits in
     group-filled-at w (a .c) (a .g) (p .0) (p .1) k (p .2) (p .3) (a .size) (a .blocks .now) small
     (P .rows) (P .reduced) _ (o .targets .result) _ t e (λ i d. P .here i (omega arith)) T
-    (r .write-sums .ensures .0 (record {
-      inside = b .pre .1 .0 .1;
-      most = b .pre .1 .0 .2;
-      small =
-          size-small (a .g * w + w) (a .size) _ (omega arith) (b .pre .1 .0 .1) (b .pre .1 .0 .2);
-      few = omega arith;
-      rows-few = omega arith;
-      laid =
-          omega arith;
-    })
+    (r .write-sums .ensures .0
+    (group-named w (a .g) (a .size) t (a .blocks .now) _ (p .0) (p .1) (b .pre .1 .0 .1) (b .pre .1 .0 .2) (omega arith) (omega arith))
     (aimed-at w (a .g) k (a .size) (a .blocks .now) (o .targets .result) t e T (b .pre .1 .0 .1)))
 
 pub fill-group-spec : {M : Type 1} → statement M
 fill-group-spec =
     tie.close
     (tie.spec
-    lost-in-requires
+    (let a : tie.Need-lost-in-requires = λ c κs. search needs in a)
     returns
     mul-from
     targets-requires
-    write-sums-requires
-    same-length
+    (let a : tie.Need-write-sums-requires = λ c κs. search needs in a)
+    (let a : tie.Need-same-length = λ c. search needs in a)
     returns-2)

@@ -4,10 +4,8 @@ use Prim.Native.Nat.{ℕ, _≤_, _*_, _-_}
 use native.Mathlib.Omega.{arith}
 use Rattle.code.specs.StretchLaws.{stretch-length}
 use Rattle.code.specs.LentLaws.{stretch-lent}
-use Rattle.code.specs.LimitsLaws.{places-most}
 use Rattle.block_laws.specs.Steps.{GroupsFilled}
-use Rattle.block_laws.specs.StepsLaws.{row-inside}
-use Rattle.block_laws.specs.PassLaws.{given-end, given-few, groups-more, kept-inside}
+use Rattle.block_laws.specs.PassLaws.{given-end, given-few, groups-more, PartsFit, parts-fit}
 use Rattle.block_engine.proofs.fill_groups.Statement.{statement}
 use Rattle.block_engine.proofs.fill_groups.Tie as tie
 use Rattle.block_engine.proofs.fill_groups.Reads as reads
@@ -27,66 +25,27 @@ loop-holds : tie.Need-loop-holds Inv-loop μ-loop
 loop-holds c =
     (omega arith, record { long = refl; here = λ g l. absurd (omega arith); other = λ p x l b. refl })
 
+-- what the parts of a group take
+fits : (t : tie.In-loop Inv-loop μ-loop) → let s = t .before in let a = s .before .before .before .before .args in PartsFit (a .m) (a .w) (s .loop .g)
+fits t = let s = t .before in parts-fit _ _ _ _ (s .before .before .before .before .pre .0 .good) (omega arith)
+
 mul-a : tie.Need-mul-a Inv-loop μ-loop
-mul-a c =
-    let s = c .before in
-    let b = s .before .before .before .before in
-    let h = row-inside (s .loop .g) (b .args .m) (b .args .w) (omega arith) in
-    let p = places-most (b .pre .0 .good) in
-    let k = b .pre .0 .bound-size in
-    omega arith
+mul-a c = let p = fits c in omega arith
 
 add-e : tie.Need-add-e Inv-loop μ-loop
-add-e c =
-    let s = c .before in
-    let b = s .before .before .before .before in
-    let h = row-inside (s .loop .g) (b .args .m) (b .args .w) (omega arith) in
-    let p = places-most (b .pre .0 .good) in
-    let k = b .pre .0 .bound-size in
-    omega arith
+add-e c = let p = fits c in omega arith
 
 mul-b : tie.Need-mul-b Inv-loop μ-loop
-mul-b c =
-    let s = c .before in
-    let b = s .before .before .before .before in
-    let h = kept-inside (b .args .m) (b .args .w) (b .args .c) (s .loop .g) (b .pre .0 .good) (omega arith) in
-    omega arith
+mul-b c = let p = fits c in omega arith
 
 add-f : tie.Need-add-f Inv-loop μ-loop
-add-f c =
-    let s = c .before in
-    let b = s .before .before .before .before in
-    let h = kept-inside (b .args .m) (b .args .w) (b .args .c) (s .loop .g) (b .pre .0 .good) (omega arith) in
-    omega arith
-
-sub-fill-group : tie.Need-sub-fill-group Inv-loop μ-loop
-sub-fill-group c = omega arith
-
-part-fill-group-start : tie.Need-part-fill-group-start Inv-loop μ-loop
-part-fill-group-start c = omega arith
+add-f c = let p = fits c in omega arith
 
 part-fill-group-end : tie.Need-part-fill-group-end Inv-loop μ-loop
-part-fill-group-end c =
-    let s = c .before .before in
-    let b = s .before .before .before .before in
-    let h = row-inside (s .loop .g) (b .args .m) (b .args .w) (omega arith) in
-    let p = places-most (b .pre .0 .good) in
-    let k = b .pre .0 .bound-size in
-    omega arith
-
-sub-fill-group-2 : tie.Need-sub-fill-group-2 Inv-loop μ-loop
-sub-fill-group-2 c = omega arith
-
-part-fill-group-start-2 : tie.Need-part-fill-group-start-2 Inv-loop μ-loop
-part-fill-group-start-2 c = omega arith
+part-fill-group-end c = let p = fits (c .before) in let k = c .before .before .before .before .before .before .pre .0 .bound-size in omega arith
 
 part-fill-group-end-2 : tie.Need-part-fill-group-end-2 Inv-loop μ-loop
-part-fill-group-end-2 c =
-    let s = c .before .before .before in
-    let b = s .before .before .before .before in
-    let h = kept-inside (b .args .m) (b .args .w) (b .args .c) (s .loop .g) (b .pre .0 .good) (omega arith) in
-    let k = b .pre .1 .long in
-    omega arith
+part-fill-group-end-2 c = let p = fits (c .before .before) in let k = c .before .before .before .before .before .before .before .pre .1 .long in omega arith
 
 fill-group-requires : tie.Need-fill-group-requires Inv-loop μ-loop
 fill-group-requires c κs =
@@ -104,12 +63,6 @@ fill-group-requires c κs =
     let n = G .most in
     rw (stretch-lent (a .w) g k, stretch-lent (4 * a .w) g (a .kept .now), stretch-length (a .w) g k (E .0))
     ((omega arith, omega arith, omega arith, f), ((omega arith, omega arith, omega arith), b .pre .1 .here g (omega arith)))
-
-add-g : tie.Need-add-g Inv-loop μ-loop
-add-g c = omega arith
-
-loop-less : tie.Need-loop-less Inv-loop μ-loop
-loop-less c = omega arith
 
 loop-again : tie.Need-loop-again Inv-loop μ-loop
 loop-again c =
@@ -146,15 +99,15 @@ fill-groups-spec =
     add-e
     mul-b
     add-f
-    sub-fill-group
-    part-fill-group-start
+    (let a : tie.Need-sub-fill-group Inv-loop μ-loop = λ c. omega arith in a)
+    (let a : tie.Need-part-fill-group-start Inv-loop μ-loop = λ c. omega arith in a)
     part-fill-group-end
-    sub-fill-group-2
-    part-fill-group-start-2
+    (let a : tie.Need-sub-fill-group-2 Inv-loop μ-loop = λ c. omega arith in a)
+    (let a : tie.Need-part-fill-group-start-2 Inv-loop μ-loop = λ c. omega arith in a)
     part-fill-group-end-2
     fill-group-requires
-    add-g
-    loop-less
+    (let a : tie.Need-add-g Inv-loop μ-loop = λ c. omega arith in a)
+    (let a : tie.Need-loop-less Inv-loop μ-loop = λ c. omega arith in a)
     loop-again
     same-length
     returns)

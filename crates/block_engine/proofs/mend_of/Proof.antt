@@ -8,9 +8,6 @@ use Rattle.block_engine.proofs.mend_of.Lts as lts
 use Rattle.block_engine.proofs.mend_by.Reads as mend-by-reads
 use Rattle.code.specs.LimitsLaws.{places-most}
 
-array-borrow-prefix-bound : tie.Need-array-borrow-prefix-bound
-array-borrow-prefix-bound c = search needs
-
 slice-aggregate-mend-by : tie.Need-slice-aggregate-mend-by
 slice-aggregate-mend-by c =
     let s = c .before .before .before .before in
@@ -27,18 +24,12 @@ mend-by-requires c κs =
     let e = R .marks-size in
     (R, simp length-take (omega arith))
 
-same-length : tie.Need-same-length
-same-length c = search needs
-
-returns : tie.Need-returns
-returns c = search needs
-
 pub mend-of-spec : {M : Type 1} → statement M
 mend-of-spec =
     tie.close
     (tie.spec
-    array-borrow-prefix-bound
+    (let a : tie.Need-array-borrow-prefix-bound = λ c. search needs in a)
     slice-aggregate-mend-by
     mend-by-requires
-    same-length
-    returns)
+    (let a : tie.Need-same-length = λ c. search needs in a)
+    (let a : tie.Need-returns = λ c. search needs in a))

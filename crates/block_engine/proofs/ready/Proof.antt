@@ -13,9 +13,6 @@ use Rattle.code.specs.LentLaws.{lent}
 use Rattle.block_engine.proofs.ready.Statement.{statement}
 use Rattle.block_engine.proofs.ready.Tie as tie
 
-word-refusal-requires : tie.Need-word-refusal-requires
-word-refusal-requires c κs = search needs
-
 returns : tie.Need-returns
 returns c =
     let a = c .before .before .before .args in (
@@ -67,9 +64,6 @@ returns-5 c =
           c .if5 .taken (ready-all (a .m) (a .w) (a .c) (a .size) (a .lent) (a .marks .now) R),
     )
 
-excess-of-requires : tie.Need-excess-of-requires
-excess-of-requires c κs = search needs
-
 returns-6 : tie.Need-returns-6
 returns-6 c =
     let a = c .before .before .before .before .before .before .before .before .before .args in (
@@ -99,13 +93,13 @@ pub ready-spec : {M : Type 1} → statement M
 ready-spec =
     tie.close
     (tie.spec
-    word-refusal-requires
+    (let a : tie.Need-word-refusal-requires = λ c κs. search needs in a)
     returns
     returns-2
     returns-3
     mul-all
     returns-4
     returns-5
-    excess-of-requires
+    (let a : tie.Need-excess-of-requires = λ c κs. search needs in a)
     returns-6
     returns-7)

@@ -29,35 +29,11 @@ abbrev μ-loop : tie.MeasureT-loop
 loop-holds : tie.Need-loop-holds Inv-loop μ-loop
 loop-holds c = (omega arith, refl, sym (total-none _), λ _. targets-none _ _ _ 0)
 
--- src/lib.rt:230:12
-shared-slice-read-if1 : tie.Need-shared-slice-read-if1 Inv-loop μ-loop
-shared-slice-read-if1 c = omega arith
-
--- src/lib.rt:232:25
-add-to : tie.Need-add-to Inv-loop μ-loop
-add-to c = omega arith
-
--- src/lib.rt:232:17
-mul-to : tie.Need-mul-to Inv-loop μ-loop
-mul-to c = omega arith
-
--- src/lib.rt:232:17
-array-write-to : tie.Need-array-write-to Inv-loop μ-loop
-array-write-to c = omega arith
-
 -- src/lib.rt:234:13
 add-n : tie.Need-add-n Inv-loop μ-loop
 add-n c =
     let s = c .before .before .before .before in
     omega (arith, count-le (s .loop .j) (lost (s .before .args .bound .now)))
-
--- src/lib.rt:236:9
-add-j : tie.Need-add-j Inv-loop μ-loop
-add-j c = omega arith
-
--- src/lib.rt:229:5
-loop-less : tie.Need-loop-less Inv-loop μ-loop
-loop-less c = omega arith
 
 -- src/lib.rt:229:5
 loop-again : tie.Need-loop-again Inv-loop μ-loop
@@ -116,12 +92,12 @@ targets-spec =
     Inv-loop
     μ-loop
     loop-holds
-    shared-slice-read-if1
-    add-to
-    mul-to
-    array-write-to
+    (let a : tie.Need-shared-slice-read-if1 Inv-loop μ-loop = λ c. omega arith in a)
+    (let a : tie.Need-add-to Inv-loop μ-loop = λ c. omega arith in a)
+    (let a : tie.Need-mul-to Inv-loop μ-loop = λ c. omega arith in a)
+    (let a : tie.Need-array-write-to Inv-loop μ-loop = λ c. omega arith in a)
     add-n
-    add-j
-    loop-less
+    (let a : tie.Need-add-j Inv-loop μ-loop = λ c. omega arith in a)
+    (let a : tie.Need-loop-less Inv-loop μ-loop = λ c. omega arith in a)
     loop-again
     returns)

@@ -4,9 +4,8 @@ use mathlib.Core.List.{List}
 use Prim.Native.Nat.{ℕ, _+_, _*_, _<_, _≤_}
 use lib.ListN.{length, getD, set, length-set}
 use Rattle.code.specs.LimitsLaws.{places-most}
-use Rattle.code_engine.specs.FreePlaces.{FreePlaces}
 use Rattle.block_laws.specs.RestLaws.{rows-limit, row-limit}
-use Rattle.block_laws.specs.AcrossLaws.{none-limit, one-limit, two-limit}
+use Rattle.block_laws.specs.AcrossLaws.{none-limit, one-limit, two-limit, free-as}
 use Rattle.block_laws.specs.ReadyLaws.{ready-named}
 use borrow.Author.Needs.{needs}
 use Rattle.block_engine.proofs.test_across.Statement.{statement}
@@ -17,14 +16,9 @@ use Rattle.block_constants.proofs.test_row.Reads as test-row-reads
 use Rattle.block_sums.proofs.zero_until.Reads as zero-until-reads
 use Rattle.erasures.proofs.free_places.Reads as free-places-reads
 
-free-places-requires : tie.Need-free-places-requires
-free-places-requires c κs = tt
-
-slice-aggregate-zero-until : tie.Need-slice-aggregate-zero-until
-slice-aggregate-zero-until c = search needs
-
-zero-until-requires : tie.Need-zero-until-requires
-zero-until-requires c κs = tt
+-- the blocks hold bytes
+small : (t : tie.After-free-places) (i : ℕ) → getD (t .before .before .before .before .args .blocks .now) i 0 < 256
+small t i = t .before .before .before .shared-slice-known .given i .fits
 
 returns : tie.Need-returns
 returns c =
@@ -32,25 +26,16 @@ returns c =
     let s = f .before .before .before .before in
     let a = s .args in
     let R = s .pre .0 in
-    let K = s .pre .1 .0 in
     let A = s .pre .1 .1 .0 in
-    let small : (i : ℕ) → getD (a .blocks .now) i 0 < 256 = λ i. f .before .before .before .shared-slice-known .given i .fits in
-    let F = subst (λ k. FreePlaces (a .marks .now) (a .bound .now) k (f .free-places .result .first) (f .free-places .result .second))
-    (c .before .before .if1 .taken) (f .free-places .ensures .0) in
-    none-limit (a .m) (a .w) (a .c) (R .good) (a .marks .now) (a .bound .now) K (R .marks-size) (R .low) (a .t8) A (a .size)
-    (a .blocks .now) small _ _ (a .limit) _ F
+    let F = free-as (c .before .before .if1 .taken) (f .free-places .ensures .0) in
+    none-limit (a .m) (a .w) (a .c) (R .good) (a .marks .now) (a .bound .now) (s .pre .1 .0) (R .marks-size) (R .low) (a .t8) A (a .size)
+    (a .blocks .now) (small f) _ _ (a .limit) _ F
     (rows-limit (a .size) (a .blocks .now) (length (a .marks .now)) (a .t8) (a .limit) _
     (c .zero-until .ensures .0 (ready-named (a .m) (a .w) (a .c) (a .size) (a .blocks .now) (a .marks .now) 2 (a .t8) R (A .long) (omega arith))
     (s .pre .1 .1 .1)))
 
-test-row-requires : tie.Need-test-row-requires
-test-row-requires c κs = tt
-
 slice-aggregate-zero-until-2 : tie.Need-slice-aggregate-zero-until-2
 slice-aggregate-zero-until-2 c = search needs
-
-zero-until-requires-2 : tie.Need-zero-until-requires-2
-zero-until-requires-2 c κs = tt
 
 returns-2 : tie.Need-returns-2
 returns-2 c =
@@ -58,15 +43,13 @@ returns-2 c =
     let s = f .before .before .before .before in
     let a = s .args in
     let R = s .pre .0 in
-    let K = s .pre .1 .0 in
     let A = s .pre .1 .1 .0 in
-    let small : (i : ℕ) → getD (a .blocks .now) i 0 < 256 = λ i. f .before .before .before .shared-slice-known .given i .fits in
-    let F = subst (λ k. FreePlaces (a .marks .now) (a .bound .now) k (f .free-places .result .first) (f .free-places .result .second))
-    (c .before .before .before .if2 .taken) (f .free-places .ensures .0) in
+    let F = free-as (c .before .before .before .if2 .taken) (f .free-places .ensures .0) in
     let x = c .before .before in
     let n = places-most (R .good) in
     let e = R .marks-size in
-    one-limit (a .m) (a .w) (a .c) (R .good) (a .marks .now) (a .bound .now) K (R .marks-size) (R .low) (a .t8) A (a .size) (a .blocks .now) small _ _
+    one-limit (a .m) (a .w) (a .c) (R .good) (a .marks .now) (a .bound .now) (s .pre .1 .0) (R .marks-size) (R .low) (a .t8) A (a .size)
+    (a .blocks .now) (small f) _ _
     (a .limit) _ F
     (row-limit (a .size) (a .blocks .now) (length (a .marks .now)) _ _ (x .test-row .ensures .0 (omega arith) (F .less 0 (omega arith)) .here) (a .limit) _
     (c .zero-until2 .ensures .0 (ready-named (a .m) (a .w) (a .c) (a .size) (a .blocks .now) (a .marks .now) 1 _ R (sym (slice-aggregate-zero-until-2
@@ -78,26 +61,24 @@ returns-3 c =
     let s = f .before .before .before .before in
     let a = s .args in
     let R = s .pre .0 in
-    let K = s .pre .1 .0 in
     let A = s .pre .1 .1 .0 in
-    let small : (i : ℕ) → getD (a .blocks .now) i 0 < 256 = λ i. f .before .before .before .shared-slice-known .given i .fits in
     let o = f .free-places .ensures .0 in
     let t : f .free-places .result .count ≡ 2 = (let l = o .most in let x = c .if2 .left in let y = c .before .before .if1 .left in omega arith) in
-    let F = subst (λ k. FreePlaces (a .marks .now) (a .bound .now) k (f .free-places .result .first) (f .free-places .result .second)) t
-    (f .free-places .ensures .0) in
-    two-limit (a .m) (a .w) (a .c) (R .good) (a .marks .now) (a .bound .now) K (R .marks-size) (R .low) (a .t8) A (a .size) (a .blocks .now) small _ _
+    let F = free-as t (f .free-places .ensures .0) in
+    two-limit (a .m) (a .w) (a .c) (R .good) (a .marks .now) (a .bound .now) (s .pre .1 .0) (R .marks-size) (R .low) (a .t8) A (a .size)
+    (a .blocks .now) (small f) _ _
     (a .limit) F
 
 pub test-across-spec : {M : Type 1} → statement M
 test-across-spec =
     tie.close
     (tie.spec
-    free-places-requires
-    slice-aggregate-zero-until
-    zero-until-requires
+    (let a : tie.Need-free-places-requires = λ c κs. tt in a)
+    (let a : tie.Need-slice-aggregate-zero-until = λ c. search needs in a)
+    (let a : tie.Need-zero-until-requires = λ c κs. tt in a)
     returns
-    test-row-requires
+    (let a : tie.Need-test-row-requires = λ c κs. tt in a)
     slice-aggregate-zero-until-2
-    zero-until-requires-2
+    (let a : tie.Need-zero-until-requires-2 = λ c κs. tt in a)
     returns-2
     returns-3)

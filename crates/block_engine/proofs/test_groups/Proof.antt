@@ -5,11 +5,10 @@ use native.Mathlib.Omega.{arith}
 use Rattle.code.specs.Stretch.{stretch}
 use Rattle.code.specs.StretchLaws.{stretch-length}
 use Rattle.code.specs.LentLaws.{stretch-lent}
-use Rattle.code.specs.LimitsLaws.{places-most}
 use Rattle.block_laws.specs.Group.{Mendable}
 use Rattle.block_laws.specs.Steps.{Limit, placeSymbol}
-use Rattle.block_laws.specs.StepsLaws.{row-inside, limit-none, limit-next}
-use Rattle.block_laws.specs.PassLaws.{given-end, given-few, kept-inside}
+use Rattle.block_laws.specs.StepsLaws.{limit-none, limit-next}
+use Rattle.block_laws.specs.PassLaws.{given-end, given-few, PartsFit, parts-fit}
 use Rattle.block_engine.proofs.test_groups.Statement.{statement}
 use Rattle.block_engine.proofs.test_groups.Tie as tie
 use Rattle.block_engine.proofs.test_groups.Reads as reads
@@ -29,66 +28,27 @@ mul-v c = let q = c .before .before .before .pre .0 .good in omega arith
 loop-holds : tie.Need-loop-holds Inv-loop μ-loop
 loop-holds c = (omega arith, limit-none _ _ (λ x l h b. absurd (omega arith)))
 
+-- what the parts of a group take
+fits : (t : tie.In-loop Inv-loop μ-loop) → let s = t .before in let a = s .before .before .before .before .args in PartsFit (a .m) (a .w) (s .loop .g)
+fits t = let s = t .before in parts-fit _ _ _ _ (s .before .before .before .before .pre .0 .good) (omega arith)
+
 mul-a : tie.Need-mul-a Inv-loop μ-loop
-mul-a c =
-    let s = c .before in
-    let b = s .before .before .before .before in
-    let h = row-inside (s .loop .g) (b .args .m) (b .args .w) (omega arith) in
-    let p = places-most (b .pre .0 .good) in
-    let k = b .pre .0 .bound-size in
-    omega arith
+mul-a c = let p = fits c in omega arith
 
 add-e : tie.Need-add-e Inv-loop μ-loop
-add-e c =
-    let s = c .before in
-    let b = s .before .before .before .before in
-    let h = row-inside (s .loop .g) (b .args .m) (b .args .w) (omega arith) in
-    let p = places-most (b .pre .0 .good) in
-    let k = b .pre .0 .bound-size in
-    omega arith
+add-e c = let p = fits c in omega arith
 
 mul-b : tie.Need-mul-b Inv-loop μ-loop
-mul-b c =
-    let s = c .before in
-    let b = s .before .before .before .before in
-    let h = kept-inside (b .args .m) (b .args .w) (b .args .c) (s .loop .g) (b .pre .0 .good) (omega arith) in
-    omega arith
+mul-b c = let p = fits c in omega arith
 
 add-f : tie.Need-add-f Inv-loop μ-loop
-add-f c =
-    let s = c .before in
-    let b = s .before .before .before .before in
-    let h = kept-inside (b .args .m) (b .args .w) (b .args .c) (s .loop .g) (b .pre .0 .good) (omega arith) in
-    omega arith
-
-sub-test-group : tie.Need-sub-test-group Inv-loop μ-loop
-sub-test-group c = omega arith
-
-part-test-group-start : tie.Need-part-test-group-start Inv-loop μ-loop
-part-test-group-start c = omega arith
+add-f c = let p = fits c in omega arith
 
 part-test-group-end : tie.Need-part-test-group-end Inv-loop μ-loop
-part-test-group-end c =
-    let s = c .before in
-    let b = s .before .before .before .before in
-    let h = row-inside (s .loop .g) (b .args .m) (b .args .w) (omega arith) in
-    let p = places-most (b .pre .0 .good) in
-    let k = b .pre .0 .bound-size in
-    omega arith
-
-sub-test-group-2 : tie.Need-sub-test-group-2 Inv-loop μ-loop
-sub-test-group-2 c = omega arith
-
-part-test-group-start-2 : tie.Need-part-test-group-start-2 Inv-loop μ-loop
-part-test-group-start-2 c = omega arith
+part-test-group-end c = let p = fits c in let k = c .before .before .before .before .before .pre .0 .bound-size in omega arith
 
 part-test-group-end-2 : tie.Need-part-test-group-end-2 Inv-loop μ-loop
-part-test-group-end-2 c =
-    let s = c .before .before in
-    let b = s .before .before .before .before in
-    let h = kept-inside (b .args .m) (b .args .w) (b .args .c) (s .loop .g) (b .pre .0 .good) (omega arith) in
-    let k = b .pre .1 .long in
-    omega arith
+part-test-group-end-2 c = let p = fits (c .before) in let k = c .before .before .before .before .before .before .pre .1 .long in omega arith
 
 test-group-requires : tie.Need-test-group-requires Inv-loop μ-loop
 test-group-requires c κs =
@@ -103,12 +63,6 @@ test-group-requires c κs =
     let f = given-few (a .m) (a .w) (a .c) (a .size) g (a .blocks .now) k G (omega arith) in
     rw (stretch-lent (a .w) g k, stretch-lent (4 * a .w) g (a .kept .now), stretch-length (a .w) g k (E .0))
     ((omega arith, omega arith, omega arith, f), ((omega arith, E .1, G .most, s .loop .inv .1 .most), b .pre .1 .here g (omega arith)))
-
-add-g : tie.Need-add-g Inv-loop μ-loop
-add-g c = omega arith
-
-loop-less : tie.Need-loop-less Inv-loop μ-loop
-loop-less c = omega arith
 
 loop-again : tie.Need-loop-again Inv-loop μ-loop
 loop-again c =
@@ -139,14 +93,14 @@ test-groups-spec =
     add-e
     mul-b
     add-f
-    sub-test-group
-    part-test-group-start
+    (let a : tie.Need-sub-test-group Inv-loop μ-loop = λ c. omega arith in a)
+    (let a : tie.Need-part-test-group-start Inv-loop μ-loop = λ c. omega arith in a)
     part-test-group-end
-    sub-test-group-2
-    part-test-group-start-2
+    (let a : tie.Need-sub-test-group-2 Inv-loop μ-loop = λ c. omega arith in a)
+    (let a : tie.Need-part-test-group-start-2 Inv-loop μ-loop = λ c. omega arith in a)
     part-test-group-end-2
     test-group-requires
-    add-g
-    loop-less
+    (let a : tie.Need-add-g Inv-loop μ-loop = λ c. omega arith in a)
+    (let a : tie.Need-loop-less Inv-loop μ-loop = λ c. omega arith in a)
     loop-again
     returns)

@@ -7,12 +7,6 @@ use borrow.Author.Needs.{needs}
 use Rattle.block_input.proofs.answer.Statement.{statement}
 use Rattle.block_input.proofs.answer.Tie as tie
 
-read-head-requires : tie.Need-read-head-requires
-read-head-requires c κs = search needs
-
-same-length : tie.Need-same-length
-same-length c = search needs
-
 returns : tie.Need-returns
 returns c =
     let r = c .before in
@@ -22,15 +16,6 @@ returns c =
           (r .read-head .ensures .refusal) (c .if1 .taken),
     )
 
-sub-rebuild : tie.Need-sub-rebuild
-sub-rebuild c = search needs
-
-part-rebuild-start : tie.Need-part-rebuild-start
-part-rebuild-start c = search needs
-
-part-rebuild-end : tie.Need-part-rebuild-end
-part-rebuild-end c = search needs
-
 array-borrow-prefix-marks : tie.Need-array-borrow-prefix-marks
 array-borrow-prefix-marks c =
     let t = c .before .before in
@@ -39,21 +24,6 @@ array-borrow-prefix-marks c =
 
 slice-aggregate-rebuild : tie.Need-slice-aggregate-rebuild
 slice-aggregate-rebuild c = sym (length-take-le _ _ (array-borrow-prefix-marks (c .before)))
-
-rebuild-requires : tie.Need-rebuild-requires
-rebuild-requires c κs = search needs
-
-enum-told : tie.Need-enum-told
-enum-told c = search needs
-
-enum-known-word : tie.Need-enum-known-word
-enum-known-word c = search needs
-
-enum-known-r : tie.Need-enum-known-r
-enum-known-r c = search needs
-
-same-length-2 : tie.Need-same-length-2
-same-length-2 c = search needs
 
 returns-2 : tie.Need-returns-2
 returns-2 c =
@@ -68,9 +38,6 @@ returns-2 c =
       held-is i (r .read-head .result) (r .read-head .ensures) z _ (b .rebuild .ensures .1 .0),
     )
 
-same-length-3 : tie.Need-same-length-3
-same-length-3 c = search needs
-
 returns-3 : tie.Need-returns-3
 returns-3 c =
     let m = c .before .before .before in
@@ -83,9 +50,6 @@ returns-3 c =
           ∙ verdict-is i (r .read-head .result) (r .read-head .ensures) z (b .rebuild .result) (b .rebuild .ensures .0),
       held-is i (r .read-head .result) (r .read-head .ensures) z _ (b .rebuild .ensures .1 .0),
     )
-
-same-length-4 : tie.Need-same-length-4
-same-length-4 c = search needs
 
 returns-4 : tie.Need-returns-4
 returns-4 c =
@@ -104,21 +68,21 @@ pub answer-spec : {M : Type 1} → statement M
 answer-spec =
     tie.close
     (tie.spec
-    read-head-requires
-    same-length
+    (let a : tie.Need-read-head-requires = λ c κs. search needs in a)
+    (let a : tie.Need-same-length = λ c. search needs in a)
     returns
-    sub-rebuild
-    part-rebuild-start
-    part-rebuild-end
+    (let a : tie.Need-sub-rebuild = λ c. search needs in a)
+    (let a : tie.Need-part-rebuild-start = λ c. search needs in a)
+    (let a : tie.Need-part-rebuild-end = λ c. search needs in a)
     array-borrow-prefix-marks
     slice-aggregate-rebuild
-    rebuild-requires
-    enum-told
-    enum-known-word
-    enum-known-r
-    same-length-2
+    (let a : tie.Need-rebuild-requires = λ c κs. search needs in a)
+    (let a : tie.Need-enum-told = λ c. search needs in a)
+    (let a : tie.Need-enum-known-word = λ c. search needs in a)
+    (let a : tie.Need-enum-known-r = λ c. search needs in a)
+    (let a : tie.Need-same-length-2 = λ c. search needs in a)
     returns-2
-    same-length-3
+    (let a : tie.Need-same-length-3 = λ c. search needs in a)
     returns-3
-    same-length-4
+    (let a : tie.Need-same-length-4 = λ c. search needs in a)
     returns-4)

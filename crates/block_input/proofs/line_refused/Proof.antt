@@ -1,13 +1,11 @@
 use mathlib.Core.Path.{_≡_, sym, ap, _∙_}
 use mathlib.Core.Bool.{cond}
 use Prim.Native.Nat.{_≤_}
-use native.Mathlib.Omega.{arith}
 use lib.ListN.{length}
-use lib.Seq.{length-take-le}
 use borrow.Author.Needs.{needs}
 use borrow.Author.Tests.{eq-eqb, ne-eqb}
 use Rattle.block_input.specs.Lines.{afterLine}
-use Rattle.block_input.specs.LinesLaws.{line-most}
+use Rattle.block_input.specs.LinesLaws.{line-lent}
 use Rattle.block_input.specs.Head.{laterLine}
 use Rattle.block_input.specs.HeadLaws.{start-fits, part-is, first-read}
 use Rattle.block_input.proofs.line_refused.Statement.{statement}
@@ -19,19 +17,9 @@ use Rattle.block_input.proofs.line_end.Reads as line-end-reads
 use Rattle.block_input.proofs.next_start.Reads as next-start-reads
 use Rattle.block_input.proofs.read_shape.Reads as read-shape-reads
 
-line-end-requires : tie.Need-line-end-requires
-line-end-requires c κs = search needs
-
 slice-aggregate-read-shape : tie.Need-slice-aggregate-read-shape
 slice-aggregate-read-shape c =
-    let f = c .before in
-    let r = f .before .before .args .input .now in
-    let k = line-most r in
-    let e = f .line-end .ensures in
-    sym (length-take-le (f .line-end .result) r (omega arith))
-
-read-shape-requires : tie.Need-read-shape-requires
-read-shape-requires c κs = search needs
+    let f = c .before in line-lent (f .before .before .args .input .now) (f .line-end .result) (f .line-end .ensures)
 
 returns : tie.Need-returns
 returns c =
@@ -41,9 +29,6 @@ returns c =
     let s = m .read-shape .result in
     ap (λ b. cond b (laterLine (s .m) (s .w) (s .c) (afterLine (a .input .now))) 1) (sym (ne-eqb (s .refusal) 0 (c .if1 .taken)))
     ∙ first-read (a .input .now) (e .line-end .result) (e .line-end .ensures) s (m .read-shape .ensures)
-
-next-start-requires : tie.Need-next-start-requires
-next-start-requires c κs = search needs
 
 -- the next line starts inside the input
 fits : (t : tie.After-next-start) → let f = t .before .before .before .before .before in t .next-start .result ≤ length (f .before .before .args .input .now)
@@ -56,12 +41,6 @@ sub-later-line c = fits c
 
 part-later-line-start : tie.Need-part-later-line-start
 part-later-line-start c = fits c
-
-part-later-line-end : tie.Need-part-later-line-end
-part-later-line-end c = search needs
-
-later-line-requires : tie.Need-later-line-requires
-later-line-requires c κs = search needs
 
 returns-2 : tie.Need-returns-2
 returns-2 c =
@@ -80,13 +59,13 @@ pub line-refused-spec : {M : Type 1} → statement M
 line-refused-spec =
     tie.close
     (tie.spec
-    line-end-requires
+    (let a : tie.Need-line-end-requires = λ c κs. search needs in a)
     slice-aggregate-read-shape
-    read-shape-requires
+    (let a : tie.Need-read-shape-requires = λ c κs. search needs in a)
     returns
-    next-start-requires
+    (let a : tie.Need-next-start-requires = λ c κs. search needs in a)
     sub-later-line
     part-later-line-start
-    part-later-line-end
-    later-line-requires
+    (let a : tie.Need-part-later-line-end = λ c. search needs in a)
+    (let a : tie.Need-later-line-requires = λ c κs. search needs in a)
     returns-2)

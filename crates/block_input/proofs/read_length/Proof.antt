@@ -19,29 +19,11 @@ returns-2 c = length-short (c .before .before .before .args .line .now) (omega a
 slice-aggregate-is-same : tie.Need-slice-aggregate-is-same
 slice-aggregate-is-same c = sym (length-take-le 7 (c .before .before .before .before .args .line .now) (omega arith))
 
-slice-aggregate-is-same-2 : tie.Need-slice-aggregate-is-same-2
-slice-aggregate-is-same-2 c = search needs
-
-is-same-requires : tie.Need-is-same-requires
-is-same-requires c κs = search needs
-
 returns-3 : tie.Need-returns-3
 returns-3 c =
     let n = c .before in
     let a = n .before .before .before .before .before .before .args in
     length-unnamed (a .line .now) (omega arith) (sym (n .is-same .ensures) ∙ not-true _ (c .if3 .taken))
-
-sub-number : tie.Need-sub-number
-sub-number c = search needs
-
-part-number-start : tie.Need-part-number-start
-part-number-start c = search needs
-
-part-number-end : tie.Need-part-number-end
-part-number-end c = search needs
-
-number-requires : tie.Need-number-requires
-number-requires c κs = search needs
 
 returns-4 : tie.Need-returns-4
 returns-4 c =
@@ -59,11 +41,11 @@ read-length-spec =
     returns
     returns-2
     slice-aggregate-is-same
-    slice-aggregate-is-same-2
-    is-same-requires
+    (let a : tie.Need-slice-aggregate-is-same-2 = λ c. search needs in a)
+    (let a : tie.Need-is-same-requires = λ c κs. search needs in a)
     returns-3
-    sub-number
-    part-number-start
-    part-number-end
-    number-requires
+    (let a : tie.Need-sub-number = λ c. search needs in a)
+    (let a : tie.Need-part-number-start = λ c. search needs in a)
+    (let a : tie.Need-part-number-end = λ c. search needs in a)
+    (let a : tie.Need-number-requires = λ c κs. search needs in a)
     returns-4)

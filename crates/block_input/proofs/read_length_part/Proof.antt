@@ -1,37 +1,13 @@
 use mathlib.Core.Path.{sym}
-use native.Mathlib.Omega.{arith}
-use lib.Seq.{length-take-le}
-use Rattle.block_input.specs.LinesLaws.{line-most}
+use Rattle.block_input.specs.LinesLaws.{line-lent}
 use Rattle.block_input.specs.HeadLaws.{length-read}
 use borrow.Author.Needs.{needs}
 use Rattle.block_input.proofs.read_length_part.Statement.{statement}
 use Rattle.block_input.proofs.read_length_part.Tie as tie
 
-line-end-requires : tie.Need-line-end-requires
-line-end-requires c κs = search needs
-
 slice-aggregate-read-length : tie.Need-slice-aggregate-read-length
 slice-aggregate-read-length c =
-    let f = c .before in
-    let r = f .before .before .args .rest .now in
-    let k = line-most r in
-    let e = f .line-end .ensures in
-    sym (length-take-le (f .line-end .result) r (omega arith))
-
-read-length-requires : tie.Need-read-length-requires
-read-length-requires c κs = search needs
-
-next-start-requires : tie.Need-next-start-requires
-next-start-requires c κs = search needs
-
-is-settled-requires : tie.Need-is-settled-requires
-is-settled-requires c κs = search needs
-
-refusal-if-requires : tie.Need-refusal-if-requires
-refusal-if-requires c κs = search needs
-
-refusal-if-requires-2 : tie.Need-refusal-if-requires-2
-refusal-if-requires-2 c κs = search needs
+    let f = c .before in line-lent (f .before .before .args .rest .now) (f .line-end .result) (f .line-end .ensures)
 
 returns : tie.Need-returns
 returns c =
@@ -49,11 +25,11 @@ pub read-length-part-spec : {M : Type 1} → statement M
 read-length-part-spec =
     tie.close
     (tie.spec
-    line-end-requires
+    (let a : tie.Need-line-end-requires = λ c κs. search needs in a)
     slice-aggregate-read-length
-    read-length-requires
-    next-start-requires
-    is-settled-requires
-    refusal-if-requires
-    refusal-if-requires-2
+    (let a : tie.Need-read-length-requires = λ c κs. search needs in a)
+    (let a : tie.Need-next-start-requires = λ c κs. search needs in a)
+    (let a : tie.Need-is-settled-requires = λ c κs. search needs in a)
+    (let a : tie.Need-refusal-if-requires = λ c κs. search needs in a)
+    (let a : tie.Need-refusal-if-requires-2 = λ c κs. search needs in a)
     returns)

@@ -6,12 +6,6 @@ use borrow.Author.Needs.{needs}
 use Rattle.block_input.proofs.read_marks.Statement.{statement}
 use Rattle.block_input.proofs.read_marks.Tie as tie
 
-slice-aggregate-read-numbers : tie.Need-slice-aggregate-read-numbers
-slice-aggregate-read-numbers c = search needs
-
-read-numbers-requires : tie.Need-read-numbers-requires
-read-numbers-requires c κs = search needs
-
 returns : tie.Need-returns
 returns c =
     let n = c .before .before .before in
@@ -28,9 +22,6 @@ array-share-prefix-marks c =
 slice-aggregate-marks-refusal : tie.Need-slice-aggregate-marks-refusal
 slice-aggregate-marks-refusal c = sym (length-take-le _ _ (array-share-prefix-marks (c .before)))
 
-marks-refusal-requires : tie.Need-marks-refusal-requires
-marks-refusal-requires c κs = search needs
-
 returns-2 : tie.Need-returns-2
 returns-2 c =
     let t = c .before .before in
@@ -44,10 +35,10 @@ pub read-marks-spec : {M : Type 1} → statement M
 read-marks-spec =
     tie.close
     (tie.spec
-    slice-aggregate-read-numbers
-    read-numbers-requires
+    (let a : tie.Need-slice-aggregate-read-numbers = λ c. search needs in a)
+    (let a : tie.Need-read-numbers-requires = λ c κs. search needs in a)
     returns
     array-share-prefix-marks
     slice-aggregate-marks-refusal
-    marks-refusal-requires
+    (let a : tie.Need-marks-refusal-requires = λ c κs. search needs in a)
     returns-2)

@@ -4,34 +4,10 @@ use borrow.Author.Needs.{needs}
 use Rattle.block_input.proofs.read_shape.Statement.{statement}
 use Rattle.block_input.proofs.read_shape.Tie as tie
 
-parse-requires : tie.Need-parse-requires
-parse-requires c κs = search needs
-
 returns : tie.Need-returns
 returns c =
     let p = c .before .before in
     shape-unread (p .before .before .args .line .now) (p .parse .result) (p .parse .ensures .0) (c .if1 .taken)
-
-array-read-m : tie.Need-array-read-m
-array-read-m c = search needs
-
-cast-m : tie.Need-cast-m
-cast-m c = search needs
-
-array-read-w : tie.Need-array-read-w
-array-read-w c = search needs
-
-cast-w : tie.Need-cast-w
-cast-w c = search needs
-
-array-read-c : tie.Need-array-read-c
-array-read-c c = search needs
-
-cast-c : tie.Need-cast-c
-cast-c c = search needs
-
-shape-refusal-requires : tie.Need-shape-refusal-requires
-shape-refusal-requires c κs = search needs
 
 returns-2 : tie.Need-returns-2
 returns-2 c =
@@ -43,13 +19,13 @@ pub read-shape-spec : {M : Type 1} → statement M
 read-shape-spec =
     tie.close
     (tie.spec
-    parse-requires
+    (let a : tie.Need-parse-requires = λ c κs. search needs in a)
     returns
-    array-read-m
-    cast-m
-    array-read-w
-    cast-w
-    array-read-c
-    cast-c
-    shape-refusal-requires
+    (let a : tie.Need-array-read-m = λ c. search needs in a)
+    (let a : tie.Need-cast-m = λ c. search needs in a)
+    (let a : tie.Need-array-read-w = λ c. search needs in a)
+    (let a : tie.Need-cast-w = λ c. search needs in a)
+    (let a : tie.Need-array-read-c = λ c. search needs in a)
+    (let a : tie.Need-cast-c = λ c. search needs in a)
+    (let a : tie.Need-shape-refusal-requires = λ c κs. search needs in a)
     returns-2)

@@ -35,15 +35,6 @@ add-from c = let k = inside c in let m = c .before .before .pre .2 in omega arit
 shared-slice-read-word : tie.Need-shared-slice-read-word Inv-loop μ-loop
 shared-slice-read-word c = inside (c .before)
 
-slice-write-word : tie.Need-slice-write-word Inv-loop μ-loop
-slice-write-word c = omega arith
-
-add-p : tie.Need-add-p Inv-loop μ-loop
-add-p c = omega arith
-
-loop-less : tie.Need-loop-less Inv-loop μ-loop
-loop-less c = omega arith
-
 loop-again : tie.Need-loop-again Inv-loop μ-loop
 loop-again c =
     let l = c .before .before .loop in
@@ -73,9 +64,9 @@ gather-spec =
     mul-from
     add-from
     shared-slice-read-word
-    slice-write-word
-    add-p
-    loop-less
+    (let a : tie.Need-slice-write-word Inv-loop μ-loop = λ c. omega arith in a)
+    (let a : tie.Need-add-p Inv-loop μ-loop = λ c. omega arith in a)
+    (let a : tie.Need-loop-less Inv-loop μ-loop = λ c. omega arith in a)
     loop-again
     same-length
     returns)

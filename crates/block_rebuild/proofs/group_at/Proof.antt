@@ -37,9 +37,6 @@ recover-word-requires c κs =
     let p = c .before .before .before .pre in
     (p .0, sym (slice-aggregate-recover-word c) ∙ p .0 .lent .marks-size)
 
-enum-known-answer : tie.Need-enum-known-answer
-enum-known-answer c = search needs
-
 returns : tie.Need-returns
 returns c =
     let k = c .before in
@@ -65,6 +62,6 @@ group-at-spec =
     array-borrow-prefix-word
     slice-aggregate-recover-word
     recover-word-requires
-    enum-known-answer
+    (let a : tie.Need-enum-known-answer = λ c. search needs in a)
     returns
     returns-2)

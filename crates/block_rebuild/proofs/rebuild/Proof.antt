@@ -15,12 +15,6 @@ use Rattle.block_rebuild.proofs.rebuild.Tie as tie
 figures : {o p : RebuildOutcome} → o ≡ p → (p .number ≡ o .number) × ((p .word ≡ o .word) × (p .group ≡ o .group))
 figures e = (ap (λ o. o .number) (sym e), (ap (λ o. o .word) (sym e), ap (λ o. o .group) (sym e)))
 
-refusal-requires : tie.Need-refusal-requires
-refusal-requires c κs = search needs
-
-same-length : tie.Need-same-length
-same-length c = search needs
-
 returns : tie.Need-returns
 returns c =
     let r = c .before in
@@ -40,9 +34,6 @@ none t = sym (t .before .refusal .ensures) ∙ (omega arith)
 small : (t : tie.Else1) (i : ℕ) → getD (t .before .before .before .before .before .args .blocks .now) i 0 < 256
 small t i = t .before .before .before .before .slice-known .given i .fits
 
-mend-requires : tie.Need-mend-requires
-mend-requires c κs = search needs
-
 group-at-requires : tie.Need-group-at-requires
 group-at-requires c κs =
     let y = c .before .before in
@@ -56,12 +47,6 @@ group-at-requires c κs =
       engine-room (a .m) (a .w) (a .c) (a .size) (a .blocks .now) (a .marks .now) (none t) (small t) x (y .if2 .taken),
       nine-at (a .m) (a .w) (a .c) (a .size) (a .blocks .now) (a .marks .now) (none t) (small t) x (D .lowest .stops (y .if2 .taken)),
     )
-
-same-length-2 : tie.Need-same-length-2
-same-length-2 c = search needs
-
-same-length-3 : tie.Need-same-length-3
-same-length-3 c = search needs
 
 returns-2 : tie.Need-returns-2
 returns-2 c =
@@ -81,15 +66,6 @@ returns-2 c =
         (ap (λ o. o .marks) (sym e), (ap (λ o. o .number) (sym e), (ap (λ o. o .word) (sym e), g ∙ ap (λ o. o .group) (sym e)))),
       ),
     )
-
-clear-if-requires : tie.Need-clear-if-requires
-clear-if-requires c κs = search needs
-
-same-length-4 : tie.Need-same-length-4
-same-length-4 c = search needs
-
-same-length-5 : tie.Need-same-length-5
-same-length-5 c = search needs
 
 returns-3 : tie.Need-returns-3
 returns-3 c =
@@ -115,15 +91,15 @@ pub rebuild-spec : {M : Type 1} → statement M
 rebuild-spec =
     tie.close
     (tie.spec
-    refusal-requires
-    same-length
+    (let a : tie.Need-refusal-requires = λ c κs. search needs in a)
+    (let a : tie.Need-same-length = λ c. search needs in a)
     returns
-    mend-requires
+    (let a : tie.Need-mend-requires = λ c κs. search needs in a)
     group-at-requires
-    same-length-2
-    same-length-3
+    (let a : tie.Need-same-length-2 = λ c. search needs in a)
+    (let a : tie.Need-same-length-3 = λ c. search needs in a)
     returns-2
-    clear-if-requires
-    same-length-4
-    same-length-5
+    (let a : tie.Need-clear-if-requires = λ c κs. search needs in a)
+    (let a : tie.Need-same-length-4 = λ c. search needs in a)
+    (let a : tie.Need-same-length-5 = λ c. search needs in a)
     returns-3)

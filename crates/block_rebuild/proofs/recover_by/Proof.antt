@@ -1,6 +1,7 @@
 use mathlib.Core.Path.{sym, ap, _∙_}
 use Rattle.answers.specs.Answers.{mendingAt}
 use Rattle.byte_edition.specs.Edition.{byteEdition}
+use Rattle.code_services.specs.AnsweredLaws.{answers-at}
 use Rattle.code_services.specs.Recover.{recoverIn}
 use borrow.Author.Needs.{needs}
 use Rattle.block_rebuild.proofs.recover_by.Statement.{statement}
@@ -26,7 +27,7 @@ returns c =
     let a = s .args in
     let e = k .copy .ensures .0 (sym (s .pre)) in
     let E = r .recover .ensures in (
-      E .0 ∙ ap (λ x. mendingAt ((recoverIn byteEdition (a .m) (a .w) (a .c) (a .word .now) x) .number)
+      answers-at (E .0) ∙ ap (λ x. mendingAt ((recoverIn byteEdition (a .m) (a .w) (a .c) (a .word .now) x) .number)
           ((recoverIn byteEdition (a .m) (a .w) (a .c) (a .word .now) x) .group)) e,
       E .1 .0 ∙ ap (λ x. (recoverIn byteEdition (a .m) (a .w) (a .c) (a .word .now) x) .word) e,
     )

@@ -32,9 +32,6 @@ slice-aggregate-recover-by c = sym (length-take-le _ _ (array-borrow-prefix-lost
 recover-by-requires : tie.Need-recover-by-requires
 recover-by-requires c κs = sym (slice-aggregate-recover-by c)
 
-same-length : tie.Need-same-length
-same-length c = search needs
-
 returns : tie.Need-returns
 unfolding wordOutcome
 returns c =
@@ -57,5 +54,5 @@ recover-word-spec =
     array-borrow-prefix-lost
     slice-aggregate-recover-by
     recover-by-requires
-    same-length
+    (let a : tie.Need-same-length = λ c. search needs in a)
     returns)

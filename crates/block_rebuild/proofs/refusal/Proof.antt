@@ -9,9 +9,6 @@ use borrow.Author.Needs.{needs}
 use Rattle.block_rebuild.proofs.refusal.Statement.{statement}
 use Rattle.block_rebuild.proofs.refusal.Tie as tie
 
-marks-refusal-requires : tie.Need-marks-refusal-requires
-marks-refusal-requires c κs = search needs
-
 returns : tie.Need-returns
 returns c =
     let a = c .before .before .before .args in
@@ -29,15 +26,6 @@ returns-2 c =
     let s = c .before in
     let a = s .before .before .before .before .args in
     refused-blocks (a .m) (a .w) (a .c) (a .size) (a .lent) (a .marks .now) (none (s .before)) _ (s .blocks-refusal .ensures) (c .if2 .taken)
-
-judge-requires : tie.Need-judge-requires
-judge-requires c κs = search needs
-
-enum-told : tie.Need-enum-told
-enum-told c = search needs
-
-enum-known-r : tie.Need-enum-known-r
-enum-known-r c = search needs
 
 -- past the second, the number is that of Judge
 judged : (t : tie.After-judge) → let a = t .before .before .before .before .before .before .args in
@@ -58,12 +46,12 @@ pub refusal-spec : {M : Type 1} → statement M
 refusal-spec =
     tie.close
     (tie.spec
-    marks-refusal-requires
+    (let a : tie.Need-marks-refusal-requires = λ c κs. search needs in a)
     returns
     blocks-refusal-requires
     returns-2
-    judge-requires
-    enum-told
-    enum-known-r
+    (let a : tie.Need-judge-requires = λ c κs. search needs in a)
+    (let a : tie.Need-enum-told = λ c. search needs in a)
+    (let a : tie.Need-enum-known-r = λ c. search needs in a)
     returns-3
     returns-4)

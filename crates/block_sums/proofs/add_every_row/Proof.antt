@@ -28,70 +28,10 @@ abbrev μ-loop : tie.MeasureT-loop
 loop-holds : tie.Need-loop-holds Inv-loop μ-loop
 loop-holds c = (omega arith, refl, (λ k i l. absurd (omega arith)), λ k l. refl)
 
-mul-s : tie.Need-mul-s Inv-loop μ-loop
-mul-s c = omega arith
-
-add-s : tie.Need-add-s Inv-loop μ-loop
-add-s c = omega arith
-
-mul-a : tie.Need-mul-a Inv-loop μ-loop
-mul-a c = omega arith
-
-add-e : tie.Need-add-e Inv-loop μ-loop
-add-e c = omega arith
-
-mul-add-row : tie.Need-mul-add-row Inv-loop μ-loop
-mul-add-row c = omega arith
-
-shared-slice-read-add-row : tie.Need-shared-slice-read-add-row Inv-loop μ-loop
-shared-slice-read-add-row c = omega arith
-
-add-add-row : tie.Need-add-add-row Inv-loop μ-loop
-add-add-row c = omega arith
-
-mul-add-row-2 : tie.Need-mul-add-row-2 Inv-loop μ-loop
-mul-add-row-2 c = omega arith
-
-shared-slice-read-add-row-2 : tie.Need-shared-slice-read-add-row-2 Inv-loop μ-loop
-shared-slice-read-add-row-2 c = omega arith
-
-add-add-row-2 : tie.Need-add-add-row-2 Inv-loop μ-loop
-add-add-row-2 c = omega arith
-
-mul-add-row-3 : tie.Need-mul-add-row-3 Inv-loop μ-loop
-mul-add-row-3 c = omega arith
-
-shared-slice-read-add-row-3 : tie.Need-shared-slice-read-add-row-3 Inv-loop μ-loop
-shared-slice-read-add-row-3 c = omega arith
-
-add-add-row-3 : tie.Need-add-add-row-3 Inv-loop μ-loop
-add-add-row-3 c = omega arith
-
-mul-add-row-4 : tie.Need-mul-add-row-4 Inv-loop μ-loop
-mul-add-row-4 c = omega arith
-
-shared-slice-read-add-row-4 : tie.Need-shared-slice-read-add-row-4 Inv-loop μ-loop
-shared-slice-read-add-row-4 c = omega arith
-
-sub-add-row : tie.Need-sub-add-row Inv-loop μ-loop
-sub-add-row c = omega arith
-
-part-add-row-start : tie.Need-part-add-row-start Inv-loop μ-loop
-part-add-row-start c = search needs
-
-part-add-row-end : tie.Need-part-add-row-end Inv-loop μ-loop
-part-add-row-end c = omega arith
-
 add-row-requires : tie.Need-add-row-requires Inv-loop μ-loop
 add-row-requires c κs =
     let l = c .before .before .before .before .before .before .loop in
     (c .before .before .before .before .before .before .before .before .before .before .pre .0 .0, lent-long 96 (l .r) (l .sums) (omega arith))
-
-add-r : tie.Need-add-r Inv-loop μ-loop
-add-r c = omega arith
-
-loop-less : tie.Need-loop-less Inv-loop μ-loop
-loop-less c = omega arith
 
 loop-again : tie.Need-loop-again Inv-loop μ-loop
 loop-again c =
@@ -120,9 +60,6 @@ loop-again c =
       λ k h. back-above 96 (l .r) x fit part size k (omega arith) ∙ l .inv .3 k (omega arith),
     )
 
-same-length : tie.Need-same-length Inv-loop μ-loop
-same-length c = omega arith
-
 returns : tie.Need-returns Inv-loop μ-loop
 returns c =
     let l = c .before .loop in record {
@@ -138,27 +75,27 @@ add-every-row-spec =
     Inv-loop
     μ-loop
     loop-holds
-    mul-s
-    add-s
-    mul-a
-    add-e
-    mul-add-row
-    shared-slice-read-add-row
-    add-add-row
-    mul-add-row-2
-    shared-slice-read-add-row-2
-    add-add-row-2
-    mul-add-row-3
-    shared-slice-read-add-row-3
-    add-add-row-3
-    mul-add-row-4
-    shared-slice-read-add-row-4
-    sub-add-row
-    part-add-row-start
-    part-add-row-end
+    (let a : tie.Need-mul-s Inv-loop μ-loop = λ c. omega arith in a)
+    (let a : tie.Need-add-s Inv-loop μ-loop = λ c. omega arith in a)
+    (let a : tie.Need-mul-a Inv-loop μ-loop = λ c. omega arith in a)
+    (let a : tie.Need-add-e Inv-loop μ-loop = λ c. omega arith in a)
+    (let a : tie.Need-mul-add-row Inv-loop μ-loop = λ c. omega arith in a)
+    (let a : tie.Need-shared-slice-read-add-row Inv-loop μ-loop = λ c. omega arith in a)
+    (let a : tie.Need-add-add-row Inv-loop μ-loop = λ c. omega arith in a)
+    (let a : tie.Need-mul-add-row-2 Inv-loop μ-loop = λ c. omega arith in a)
+    (let a : tie.Need-shared-slice-read-add-row-2 Inv-loop μ-loop = λ c. omega arith in a)
+    (let a : tie.Need-add-add-row-2 Inv-loop μ-loop = λ c. omega arith in a)
+    (let a : tie.Need-mul-add-row-3 Inv-loop μ-loop = λ c. omega arith in a)
+    (let a : tie.Need-shared-slice-read-add-row-3 Inv-loop μ-loop = λ c. omega arith in a)
+    (let a : tie.Need-add-add-row-3 Inv-loop μ-loop = λ c. omega arith in a)
+    (let a : tie.Need-mul-add-row-4 Inv-loop μ-loop = λ c. omega arith in a)
+    (let a : tie.Need-shared-slice-read-add-row-4 Inv-loop μ-loop = λ c. omega arith in a)
+    (let a : tie.Need-sub-add-row Inv-loop μ-loop = λ c. omega arith in a)
+    (let a : tie.Need-part-add-row-start Inv-loop μ-loop = λ c. search needs in a)
+    (let a : tie.Need-part-add-row-end Inv-loop μ-loop = λ c. omega arith in a)
     add-row-requires
-    add-r
-    loop-less
+    (let a : tie.Need-add-r Inv-loop μ-loop = λ c. omega arith in a)
+    (let a : tie.Need-loop-less Inv-loop μ-loop = λ c. omega arith in a)
     loop-again
-    same-length
+    (let a : tie.Need-same-length Inv-loop μ-loop = λ c. omega arith in a)
     returns)

@@ -23,26 +23,11 @@ Inv-loop t a b c d out₀ r i₀ out i =
 abbrev μ-loop : tie.MeasureT-loop
 μ-loop t a b c d out₀ r i₀ out i = 96 - i
 
-row-sums-requires : tie.Need-row-sums-requires Inv-loop μ-loop
-row-sums-requires c κs = search needs
-
 loop-holds : tie.Need-loop-holds Inv-loop μ-loop
 loop-holds c = (omega arith, refl, (λ j l. absurd (omega arith)), λ j l. refl)
 
-slice-read-out : tie.Need-slice-read-out Inv-loop μ-loop
-slice-read-out c = omega arith
-
-array-read-out : tie.Need-array-read-out Inv-loop μ-loop
-array-read-out c = omega arith
-
 slice-write-out : tie.Need-slice-write-out Inv-loop μ-loop
 slice-write-out c = omega arith
-
-add-i : tie.Need-add-i Inv-loop μ-loop
-add-i c = omega arith
-
-loop-less : tie.Need-loop-less Inv-loop μ-loop
-loop-less c = omega arith
 
 loop-again : tie.Need-loop-again Inv-loop μ-loop
 loop-again c =
@@ -62,9 +47,6 @@ loop-again c =
       λ j h. getD-set-other (l .out) i j _ 0 (λ e. omega arith) ∙ l .inv .3 j (omega arith),
     )
 
-same-length : tie.Need-same-length Inv-loop μ-loop
-same-length c = omega arith
-
 returns : tie.Need-returns Inv-loop μ-loop
 returns c =
     let l = c .before .loop in record {
@@ -78,13 +60,13 @@ add-row-spec =
     (tie.spec
     Inv-loop
     μ-loop
-    row-sums-requires
+    (let a : tie.Need-row-sums-requires Inv-loop μ-loop = λ c κs. search needs in a)
     loop-holds
-    slice-read-out
-    array-read-out
+    (let a : tie.Need-slice-read-out Inv-loop μ-loop = λ c. omega arith in a)
+    (let a : tie.Need-array-read-out Inv-loop μ-loop = λ c. omega arith in a)
     slice-write-out
-    add-i
-    loop-less
+    (let a : tie.Need-add-i Inv-loop μ-loop = λ c. omega arith in a)
+    (let a : tie.Need-loop-less Inv-loop μ-loop = λ c. omega arith in a)
     loop-again
-    same-length
+    (let a : tie.Need-same-length Inv-loop μ-loop = λ c. omega arith in a)
     returns)

@@ -23,29 +23,8 @@ abbrev μ-loop : tie.MeasureT-loop
 loop-holds : tie.Need-loop-holds Inv-loop μ-loop
 loop-holds c = (omega arith, refl, (λ j l. absurd (omega arith)), (λ k l. refl), λ k l. refl)
 
-add-t : tie.Need-add-t Inv-loop μ-loop
-add-t c = omega arith
-
-slice-read-t : tie.Need-slice-read-t Inv-loop μ-loop
-slice-read-t c = omega arith
-
-add-t-2 : tie.Need-add-t-2 Inv-loop μ-loop
-add-t-2 c = omega arith
-
-slice-read-t-2 : tie.Need-slice-read-t-2 Inv-loop μ-loop
-slice-read-t-2 c = omega arith
-
-add-t-3 : tie.Need-add-t-3 Inv-loop μ-loop
-add-t-3 c = omega arith
-
 slice-write-t : tie.Need-slice-write-t Inv-loop μ-loop
 slice-write-t c = omega arith
-
-add-i : tie.Need-add-i Inv-loop μ-loop
-add-i c = omega arith
-
-loop-less : tie.Need-loop-less Inv-loop μ-loop
-loop-less c = omega arith
 
 loop-again : tie.Need-loop-again Inv-loop μ-loop
 loop-again c =
@@ -64,9 +43,6 @@ loop-again c =
       λ k h. stored-above x (a .b) (l .i) _ k h ∙ l .inv .4 k (omega arith),
     )
 
-same-length : tie.Need-same-length Inv-loop μ-loop
-same-length c = omega arith
-
 returns : tie.Need-returns Inv-loop μ-loop
 returns c =
     let l = c .before .loop in record {
@@ -83,14 +59,14 @@ add-rows-spec =
     Inv-loop
     μ-loop
     loop-holds
-    add-t
-    slice-read-t
-    add-t-2
-    slice-read-t-2
-    add-t-3
+    (let a : tie.Need-add-t Inv-loop μ-loop = λ c. omega arith in a)
+    (let a : tie.Need-slice-read-t Inv-loop μ-loop = λ c. omega arith in a)
+    (let a : tie.Need-add-t-2 Inv-loop μ-loop = λ c. omega arith in a)
+    (let a : tie.Need-slice-read-t-2 Inv-loop μ-loop = λ c. omega arith in a)
+    (let a : tie.Need-add-t-3 Inv-loop μ-loop = λ c. omega arith in a)
     slice-write-t
-    add-i
-    loop-less
+    (let a : tie.Need-add-i Inv-loop μ-loop = λ c. omega arith in a)
+    (let a : tie.Need-loop-less Inv-loop μ-loop = λ c. omega arith in a)
     loop-again
-    same-length
+    (let a : tie.Need-same-length Inv-loop μ-loop = λ c. omega arith in a)
     returns)

@@ -21,12 +21,6 @@ abbrev μ-loop : tie.MeasureT-loop
 loop-holds : tie.Need-loop-holds Inv-loop μ-loop
 loop-holds c = (omega arith, λ k l. absurd (omega arith))
 
-mul-p : tie.Need-mul-p Inv-loop μ-loop
-mul-p c = omega arith
-
-array-read-p : tie.Need-array-read-p Inv-loop μ-loop
-array-read-p c = omega arith
-
 returns : tie.Need-returns Inv-loop μ-loop
 returns c =
     let a = c .before .before .before .args in
@@ -38,9 +32,6 @@ returns c =
           let k = le-mul-of-pos-right (getD (a .t4) i 0 + 1) p in
           omega arith),
     )
-
-add-if2 : tie.Need-add-if2 Inv-loop μ-loop
-add-if2 c = omega arith
 
 mul-if2 : tie.Need-mul-if2 Inv-loop μ-loop
 mul-if2 c =
@@ -56,12 +47,6 @@ returns-2 c =
       (λ e. let z : _≡_ {A = ℕ} 0 1 = cc in absurd (omega arith)),
       λ _ all. (let h = all i (omega arith) in omega arith),
     )
-
-add-i : tie.Need-add-i Inv-loop μ-loop
-add-i c = omega arith
-
-loop-less : tie.Need-loop-less Inv-loop μ-loop
-loop-less c = omega arith
 
 loop-again : tie.Need-loop-again Inv-loop μ-loop
 loop-again c =
@@ -83,13 +68,13 @@ aimed-spec =
     Inv-loop
     μ-loop
     loop-holds
-    mul-p
-    array-read-p
+    (let a : tie.Need-mul-p Inv-loop μ-loop = λ c. omega arith in a)
+    (let a : tie.Need-array-read-p Inv-loop μ-loop = λ c. omega arith in a)
     returns
-    add-if2
+    (let a : tie.Need-add-if2 Inv-loop μ-loop = λ c. omega arith in a)
     mul-if2
     returns-2
-    add-i
-    loop-less
+    (let a : tie.Need-add-i Inv-loop μ-loop = λ c. omega arith in a)
+    (let a : tie.Need-loop-less Inv-loop μ-loop = λ c. omega arith in a)
     loop-again
     returns-3)

@@ -21,23 +21,8 @@ abbrev μ-loop : tie.MeasureT-loop
 loop-holds : tie.Need-loop-holds Inv-loop μ-loop
 loop-holds c = (omega arith, refl, (λ j l. absurd (omega arith)), (λ k l. refl), λ k l. refl)
 
-add-t : tie.Need-add-t Inv-loop μ-loop
-add-t c = omega arith
-
-shared-slice-read-t : tie.Need-shared-slice-read-t Inv-loop μ-loop
-shared-slice-read-t c = omega arith
-
-add-t-2 : tie.Need-add-t-2 Inv-loop μ-loop
-add-t-2 c = omega arith
-
 slice-write-t : tie.Need-slice-write-t Inv-loop μ-loop
 slice-write-t c = omega arith
-
-add-i : tie.Need-add-i Inv-loop μ-loop
-add-i c = omega arith
-
-loop-less : tie.Need-loop-less Inv-loop μ-loop
-loop-less c = omega arith
 
 loop-again : tie.Need-loop-again Inv-loop μ-loop
 loop-again c =
@@ -51,9 +36,6 @@ loop-again c =
       (λ k b. stored-below (l .t) (a .h) (l .i) _ k b ∙ l .inv .3 k b),
       λ k b. stored-above (l .t) (a .h) (l .i) _ k b ∙ l .inv .4 k (omega arith),
     )
-
-same-length : tie.Need-same-length Inv-loop μ-loop
-same-length c = omega arith
 
 returns : tie.Need-returns Inv-loop μ-loop
 returns c =
@@ -71,12 +53,12 @@ copy-part-spec =
     Inv-loop
     μ-loop
     loop-holds
-    add-t
-    shared-slice-read-t
-    add-t-2
+    (let a : tie.Need-add-t Inv-loop μ-loop = λ c. omega arith in a)
+    (let a : tie.Need-shared-slice-read-t Inv-loop μ-loop = λ c. omega arith in a)
+    (let a : tie.Need-add-t-2 Inv-loop μ-loop = λ c. omega arith in a)
     slice-write-t
-    add-i
-    loop-less
+    (let a : tie.Need-add-i Inv-loop μ-loop = λ c. omega arith in a)
+    (let a : tie.Need-loop-less Inv-loop μ-loop = λ c. omega arith in a)
     loop-again
-    same-length
+    (let a : tie.Need-same-length Inv-loop μ-loop = λ c. omega arith in a)
     returns)

@@ -13,7 +13,7 @@ use Rattle.block_sums.proofs.load.Statement.{statement}
 use Rattle.block_sums.proofs.load.Tie as tie
 use Rattle.block_sums.proofs.load.Reads as reads
 use Rattle.block_sums.proofs.load.Lts as lts
-use Rattle.block_sums.proofs.at_most.Reads as at-most-reads
+use Rattle.buffers.proofs.smaller.Reads as smaller-reads
 use Rattle.block_sums.proofs.copy_part.Reads as copy-part-reads
 
 abbrev Inv-loop : tie.InvT-loop
@@ -23,9 +23,6 @@ Inv-loop blocks size at have n t₀ few e₀ h₀ t e h =
 
 abbrev μ-loop : tie.MeasureT-loop
 μ-loop blocks size at have n t₀ few e₀ h₀ t e h = few - e
-
-at-most-requires : tie.Need-at-most-requires Inv-loop μ-loop
-at-most-requires c κs = search needs
 
 loop-holds : tie.Need-loop-holds Inv-loop μ-loop
 loop-holds c = (omega arith, refl, refl, (λ f i l. absurd (omega arith)), λ i l. refl)
@@ -58,12 +55,6 @@ mul-h c =
     let m : 2 ^ l .e ≤ 2 ^ 3 = pow-mono q in
     omega arith
 
-add-e : tie.Need-add-e Inv-loop μ-loop
-add-e c = omega arith
-
-loop-less : tie.Need-loop-less Inv-loop μ-loop
-loop-less c = omega arith
-
 loop-again : tie.Need-loop-again Inv-loop μ-loop
 loop-again c =
     let b5 = c .before .before .before .before .before in
@@ -88,9 +79,6 @@ loop-again c =
       λ i h. m .below i (omega arith) ∙ l .inv .4 i h,
     )
 
-same-length : tie.Need-same-length Inv-loop μ-loop
-same-length c = omega arith
-
 returns : tie.Need-returns Inv-loop μ-loop
 returns c =
     let l = c .before .loop in record {
@@ -105,14 +93,14 @@ load-spec =
     (tie.spec
     Inv-loop
     μ-loop
-    at-most-requires
+    (let a : tie.Need-smaller-requires Inv-loop μ-loop = λ c κs. search needs in a)
     loop-holds
     mul-copy-part
     add-copy-part
     copy-part-requires
     mul-h
-    add-e
-    loop-less
+    (let a : tie.Need-add-e Inv-loop μ-loop = λ c. omega arith in a)
+    (let a : tie.Need-loop-less Inv-loop μ-loop = λ c. omega arith in a)
     loop-again
-    same-length
+    (let a : tie.Need-same-length Inv-loop μ-loop = λ c. omega arith in a)
     returns)

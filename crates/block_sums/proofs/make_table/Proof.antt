@@ -7,21 +7,6 @@ use Rattle.block_sums.proofs.make_table.Lts as lts
 use Rattle.block_sums.proofs.load.Reads as load-reads
 use Rattle.block_sums.proofs.more_rows.Reads as more-rows-reads
 
-load-requires : tie.Need-load-requires
-load-requires c κs = search needs
-
-more-rows-requires : tie.Need-more-rows-requires
-more-rows-requires c κs = search needs
-
-more-rows-requires-2 : tie.Need-more-rows-requires-2
-more-rows-requires-2 c κs = search needs
-
-more-rows-requires-3 : tie.Need-more-rows-requires-3
-more-rows-requires-3 c κs = search needs
-
-same-length : tie.Need-same-length
-same-length c = search needs
-
 returns : tie.Need-returns
 returns c =
     let b5 = c .before .before .before .before .before in
@@ -36,9 +21,9 @@ pub make-table-spec : {M : Type 1} → statement M
 make-table-spec =
     tie.close
     (tie.spec
-    load-requires
-    more-rows-requires
-    more-rows-requires-2
-    more-rows-requires-3
-    same-length
+    (let a : tie.Need-load-requires = λ c κs. search needs in a)
+    (let a : tie.Need-more-rows-requires = λ c κs. search needs in a)
+    (let a : tie.Need-more-rows-requires-2 = λ c κs. search needs in a)
+    (let a : tie.Need-more-rows-requires-3 = λ c κs. search needs in a)
+    (let a : tie.Need-same-length = λ c. search needs in a)
     returns)

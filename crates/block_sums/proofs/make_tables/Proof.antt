@@ -27,18 +27,6 @@ abbrev μ-loop : tie.MeasureT-loop
 loop-holds : tie.Need-loop-holds Inv-loop μ-loop
 loop-holds c = (omega arith, c .before .before .pre .0 .2, c .before .before .pre .1 .1, λ q e i l. absurd (omega arith))
 
-mul-loop : tie.Need-mul-loop Inv-loop μ-loop
-mul-loop c = omega arith
-
-mul-j : tie.Need-mul-j Inv-loop μ-loop
-mul-j c = omega arith
-
-mul-a : tie.Need-mul-a Inv-loop μ-loop
-mul-a c = omega arith
-
-add-e : tie.Need-add-e Inv-loop μ-loop
-add-e c = omega arith
-
 mul-make-table : tie.Need-mul-make-table Inv-loop μ-loop
 mul-make-table c =
     let l = c .before .loop in
@@ -52,18 +40,6 @@ add-make-table c =
     let a = c .before .before .before .before in
     let p = a .pre .1 .0 (l .s * 4) (omega arith) in
     omega arith
-
-sub-make-table : tie.Need-sub-make-table Inv-loop μ-loop
-sub-make-table c = omega arith
-
-sub-make-table-2 : tie.Need-sub-make-table-2 Inv-loop μ-loop
-sub-make-table-2 c = omega arith
-
-part-make-table-start : tie.Need-part-make-table-start Inv-loop μ-loop
-part-make-table-start c = search needs
-
-part-make-table-end : tie.Need-part-make-table-end Inv-loop μ-loop
-part-make-table-end c = omega arith
 
 make-table-requires : tie.Need-make-table-requires Inv-loop μ-loop
 make-table-requires c κs =
@@ -80,12 +56,6 @@ make-table-requires c κs =
         table-lent (l .t) (l .s) fit (omega arith) (l .inv .2),
       ),
     )
-
-add-s : tie.Need-add-s Inv-loop μ-loop
-add-s c = omega arith
-
-loop-less : tie.Need-loop-less Inv-loop μ-loop
-loop-less c = omega arith
 
 loop-again : tie.Need-loop-again Inv-loop μ-loop
 loop-again c =
@@ -123,9 +93,6 @@ loop-again c =
       ],
     )
 
-same-length : tie.Need-same-length Inv-loop μ-loop
-same-length c = omega arith
-
 returns : tie.Need-returns Inv-loop μ-loop
 returns c =
     let l = c .before .loop in record {
@@ -141,19 +108,19 @@ make-tables-spec =
     Inv-loop
     μ-loop
     loop-holds
-    mul-loop
-    mul-j
-    mul-a
-    add-e
+    (let a : tie.Need-mul-loop Inv-loop μ-loop = λ c. omega arith in a)
+    (let a : tie.Need-mul-j Inv-loop μ-loop = λ c. omega arith in a)
+    (let a : tie.Need-mul-a Inv-loop μ-loop = λ c. omega arith in a)
+    (let a : tie.Need-add-e Inv-loop μ-loop = λ c. omega arith in a)
     mul-make-table
     add-make-table
-    sub-make-table
-    sub-make-table-2
-    part-make-table-start
-    part-make-table-end
+    (let a : tie.Need-sub-make-table Inv-loop μ-loop = λ c. omega arith in a)
+    (let a : tie.Need-sub-make-table-2 Inv-loop μ-loop = λ c. omega arith in a)
+    (let a : tie.Need-part-make-table-start Inv-loop μ-loop = λ c. search needs in a)
+    (let a : tie.Need-part-make-table-end Inv-loop μ-loop = λ c. omega arith in a)
     make-table-requires
-    add-s
-    loop-less
+    (let a : tie.Need-add-s Inv-loop μ-loop = λ c. omega arith in a)
+    (let a : tie.Need-loop-less Inv-loop μ-loop = λ c. omega arith in a)
     loop-again
-    same-length
+    (let a : tie.Need-same-length Inv-loop μ-loop = λ c. omega arith in a)
     returns)

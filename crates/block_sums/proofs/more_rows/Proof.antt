@@ -24,27 +24,6 @@ abbrev μ-loop : tie.MeasureT-loop
 loop-holds : tie.Need-loop-holds Inv-loop μ-loop
 loop-holds c = (omega arith, refl, (λ v i a b d e. absurd (omega arith)), (λ k l. refl), λ k l. refl)
 
-mul-add-rows : tie.Need-mul-add-rows Inv-loop μ-loop
-mul-add-rows c = omega arith
-
-mul-add-rows-2 : tie.Need-mul-add-rows-2 Inv-loop μ-loop
-mul-add-rows-2 c = omega arith
-
-add-add-rows : tie.Need-add-add-rows Inv-loop μ-loop
-add-add-rows c = omega arith
-
-mul-add-rows-3 : tie.Need-mul-add-rows-3 Inv-loop μ-loop
-mul-add-rows-3 c = omega arith
-
-add-rows-requires : tie.Need-add-rows-requires Inv-loop μ-loop
-add-rows-requires c κs = search needs
-
-add-u : tie.Need-add-u Inv-loop μ-loop
-add-u c = omega arith
-
-loop-less : tie.Need-loop-less Inv-loop μ-loop
-loop-less c = omega arith
-
 loop-again : tie.Need-loop-again Inv-loop μ-loop
 loop-again c =
     let s = c .before .before .before .before .before in
@@ -63,9 +42,6 @@ loop-again c =
       λ k b. m .above k (omega arith) ∙ l .inv .4 k b,
     )
 
-same-length : tie.Need-same-length Inv-loop μ-loop
-same-length c = omega arith
-
 returns : tie.Need-returns Inv-loop μ-loop
 returns c =
     let l = c .before .loop in record {
@@ -82,13 +58,13 @@ more-rows-spec =
     Inv-loop
     μ-loop
     loop-holds
-    mul-add-rows
-    mul-add-rows-2
-    add-add-rows
-    mul-add-rows-3
-    add-rows-requires
-    add-u
-    loop-less
+    (let a : tie.Need-mul-add-rows Inv-loop μ-loop = λ c. omega arith in a)
+    (let a : tie.Need-mul-add-rows-2 Inv-loop μ-loop = λ c. omega arith in a)
+    (let a : tie.Need-add-add-rows Inv-loop μ-loop = λ c. omega arith in a)
+    (let a : tie.Need-mul-add-rows-3 Inv-loop μ-loop = λ c. omega arith in a)
+    (let a : tie.Need-add-rows-requires Inv-loop μ-loop = λ c κs. search needs in a)
+    (let a : tie.Need-add-u Inv-loop μ-loop = λ c. omega arith in a)
+    (let a : tie.Need-loop-less Inv-loop μ-loop = λ c. omega arith in a)
     loop-again
-    same-length
+    (let a : tie.Need-same-length Inv-loop μ-loop = λ c. omega arith in a)
     returns)

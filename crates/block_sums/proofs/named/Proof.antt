@@ -53,9 +53,6 @@ mul-if7 c =
 returns-7 : tie.Need-returns-7
 returns-7 c = ((λ e. never e), λ _ a b d e f g h. omega arith)
 
-add-result : tie.Need-add-result
-add-result c = search needs
-
 mul-result : tie.Need-mul-result
 mul-result c =
     let x = c .before .before .before .before .before .before .before .args in
@@ -86,6 +83,6 @@ named-spec =
     returns-6
     mul-if7
     returns-7
-    add-result
+    (let a : tie.Need-add-result = λ c. search needs in a)
     mul-result
     returns-8)

@@ -29,39 +29,6 @@ loop-holds c =
     let a = c .before .args in
     (omega arith, refl, λ i h. ap (turns (a .t .now) i 8 (a .a) (a .b) (a .c) (a .d)) (zeros-at 96 i))
 
-slice-aggregate-step : tie.Need-slice-aggregate-step Inv-loop μ-loop
-slice-aggregate-step c = omega arith
-
-row-start-requires : tie.Need-row-start-requires Inv-loop μ-loop
-row-start-requires c κs = search needs
-
-row-start-requires-2 : tie.Need-row-start-requires-2 Inv-loop μ-loop
-row-start-requires-2 c κs = omega arith
-
-add-step : tie.Need-add-step Inv-loop μ-loop
-add-step c = omega arith
-
-row-start-requires-3 : tie.Need-row-start-requires-3 Inv-loop μ-loop
-row-start-requires-3 c κs = omega arith
-
-add-step-2 : tie.Need-add-step-2 Inv-loop μ-loop
-add-step-2 c = omega arith
-
-row-start-requires-4 : tie.Need-row-start-requires-4 Inv-loop μ-loop
-row-start-requires-4 c κs = omega arith
-
-add-step-3 : tie.Need-add-step-3 Inv-loop μ-loop
-add-step-3 c = omega arith
-
-step-requires : tie.Need-step-requires Inv-loop μ-loop
-step-requires c κs = search needs
-
-add-n : tie.Need-add-n Inv-loop μ-loop
-add-n c = omega arith
-
-loop-less : tie.Need-loop-less Inv-loop μ-loop
-loop-less c = omega arith
-
 loop-again : tie.Need-loop-again Inv-loop μ-loop
 loop-again c =
     let b5 = c .before .before .before .before .before in
@@ -95,16 +62,16 @@ row-sums-spec =
     Inv-loop
     μ-loop
     loop-holds
-    slice-aggregate-step
-    row-start-requires
-    row-start-requires-2
-    add-step
-    row-start-requires-3
-    add-step-2
-    row-start-requires-4
-    add-step-3
-    step-requires
-    add-n
-    loop-less
+    (let a : tie.Need-slice-aggregate-step Inv-loop μ-loop = λ c. omega arith in a)
+    (let a : tie.Need-row-start-requires Inv-loop μ-loop = λ c κs. search needs in a)
+    (let a : tie.Need-row-start-requires-2 Inv-loop μ-loop = λ c κs. omega arith in a)
+    (let a : tie.Need-add-step Inv-loop μ-loop = λ c. omega arith in a)
+    (let a : tie.Need-row-start-requires-3 Inv-loop μ-loop = λ c κs. omega arith in a)
+    (let a : tie.Need-add-step-2 Inv-loop μ-loop = λ c. omega arith in a)
+    (let a : tie.Need-row-start-requires-4 Inv-loop μ-loop = λ c κs. omega arith in a)
+    (let a : tie.Need-add-step-3 Inv-loop μ-loop = λ c. omega arith in a)
+    (let a : tie.Need-step-requires Inv-loop μ-loop = λ c κs. search needs in a)
+    (let a : tie.Need-add-n Inv-loop μ-loop = λ c. omega arith in a)
+    (let a : tie.Need-loop-less Inv-loop μ-loop = λ c. omega arith in a)
     loop-again
     returns)

@@ -30,44 +30,8 @@ abbrev μ-loop : tie.MeasureT-loop
 loop-holds : tie.Need-loop-holds Inv-loop μ-loop
 loop-holds c = (omega arith, refl, (λ j l. absurd (omega arith)), λ k l. refl)
 
-slice-read-double : tie.Need-slice-read-double Inv-loop μ-loop
-slice-read-double c = omega arith
-
-double-requires : tie.Need-double-requires Inv-loop μ-loop
-double-requires c κs = search needs
-
-add-r : tie.Need-add-r Inv-loop μ-loop
-add-r c = omega arith
-
-shared-slice-read-r : tie.Need-shared-slice-read-r Inv-loop μ-loop
-shared-slice-read-r c = omega arith
-
-add-r-2 : tie.Need-add-r-2 Inv-loop μ-loop
-add-r-2 c = omega arith
-
-shared-slice-read-r-2 : tie.Need-shared-slice-read-r-2 Inv-loop μ-loop
-shared-slice-read-r-2 c = omega arith
-
-add-r-3 : tie.Need-add-r-3 Inv-loop μ-loop
-add-r-3 c = omega arith
-
-shared-slice-read-r-3 : tie.Need-shared-slice-read-r-3 Inv-loop μ-loop
-shared-slice-read-r-3 c = omega arith
-
-add-r-4 : tie.Need-add-r-4 Inv-loop μ-loop
-add-r-4 c = omega arith
-
-shared-slice-read-r-4 : tie.Need-shared-slice-read-r-4 Inv-loop μ-loop
-shared-slice-read-r-4 c = omega arith
-
 slice-write-r : tie.Need-slice-write-r Inv-loop μ-loop
 slice-write-r c = omega arith
-
-add-i : tie.Need-add-i Inv-loop μ-loop
-add-i c = omega arith
-
-loop-less : tie.Need-loop-less Inv-loop μ-loop
-loop-less c = omega arith
 
 loop-again : tie.Need-loop-again Inv-loop μ-loop
 loop-again c =
@@ -89,9 +53,6 @@ loop-again c =
       λ k h. getD-set-other (l .r) i k _ 0 (λ e. omega arith) ∙ l .inv .3 k (omega arith),
     )
 
-same-length : tie.Need-same-length Inv-loop μ-loop
-same-length c = omega arith
-
 returns : tie.Need-returns Inv-loop μ-loop
 returns c =
     let l = c .before .loop in record {
@@ -106,19 +67,19 @@ step-spec =
     Inv-loop
     μ-loop
     loop-holds
-    slice-read-double
-    double-requires
-    add-r
-    shared-slice-read-r
-    add-r-2
-    shared-slice-read-r-2
-    add-r-3
-    shared-slice-read-r-3
-    add-r-4
-    shared-slice-read-r-4
+    (let a : tie.Need-slice-read-double Inv-loop μ-loop = λ c. omega arith in a)
+    (let a : tie.Need-double-requires Inv-loop μ-loop = λ c κs. search needs in a)
+    (let a : tie.Need-add-r Inv-loop μ-loop = λ c. omega arith in a)
+    (let a : tie.Need-shared-slice-read-r Inv-loop μ-loop = λ c. omega arith in a)
+    (let a : tie.Need-add-r-2 Inv-loop μ-loop = λ c. omega arith in a)
+    (let a : tie.Need-shared-slice-read-r-2 Inv-loop μ-loop = λ c. omega arith in a)
+    (let a : tie.Need-add-r-3 Inv-loop μ-loop = λ c. omega arith in a)
+    (let a : tie.Need-shared-slice-read-r-3 Inv-loop μ-loop = λ c. omega arith in a)
+    (let a : tie.Need-add-r-4 Inv-loop μ-loop = λ c. omega arith in a)
+    (let a : tie.Need-shared-slice-read-r-4 Inv-loop μ-loop = λ c. omega arith in a)
     slice-write-r
-    add-i
-    loop-less
+    (let a : tie.Need-add-i Inv-loop μ-loop = λ c. omega arith in a)
+    (let a : tie.Need-loop-less Inv-loop μ-loop = λ c. omega arith in a)
     loop-again
-    same-length
+    (let a : tie.Need-same-length Inv-loop μ-loop = λ c. omega arith in a)
     returns)

@@ -20,7 +20,7 @@ use Rattle.block_sums.proofs.strip_sums.Tie as tie
 use Rattle.block_sums.proofs.strip_sums.Reads as reads
 use Rattle.block_sums.proofs.strip_sums.Lts as lts
 use Rattle.block_sums.proofs.add_every_row.Reads as add-every-row-reads
-use Rattle.block_sums.proofs.at_most.Reads as at-most-reads
+use Rattle.buffers.proofs.smaller.Reads as smaller-reads
 use Rattle.block_sums.proofs.make_tables.Reads as make-tables-reads
 use Rattle.buffers.proofs.set_all.Reads as set-all-reads
 
@@ -33,9 +33,6 @@ Inv-loop blocks size first count rows found x n t₀ sums₀ j₀ t sums j =
 abbrev μ-loop : tie.MeasureT-loop
 μ-loop blocks size first count rows found x n t₀ sums₀ j₀ t sums j = count + 15 - j
 
-set-all-requires : tie.Need-set-all-requires Inv-loop μ-loop
-set-all-requires c κs = search needs
-
 loop-holds : tie.Need-loop-holds Inv-loop μ-loop
 loop-holds c =
     let a = c .before .before .before .before .before .before .before .before in
@@ -47,12 +44,6 @@ loop-holds c =
       ap length e ∙ length-replicate (length (a .args .sums .now)) 0 ∙ a .pre .1 .1 .2,
       λ constants laid byte S r i h b. ap (λ s. getD s (r * 96 + i) 0) e ∙ zeros-at (length (a .args .sums .now)) (r * 96 + i) ∙ sym (sum-none _),
     )
-
-sub-at-most : tie.Need-sub-at-most Inv-loop μ-loop
-sub-at-most c = omega arith
-
-at-most-requires : tie.Need-at-most-requires Inv-loop μ-loop
-at-most-requires c κs = search needs
 
 add-make-tables : tie.Need-add-make-tables Inv-loop μ-loop
 add-make-tables c =
@@ -101,12 +92,6 @@ add-every-row-requires c κs =
     let m = c .before .before .before .before .make-tables .ensures in
     ((m .long, a .pre .1 .1 .0, l .inv .4), (omega arith, a .pre .0 .3))
 
-add-j : tie.Need-add-j Inv-loop μ-loop
-add-j c = omega arith
-
-loop-less : tie.Need-loop-less Inv-loop μ-loop
-loop-less c = omega arith
-
 loop-again : tie.Need-loop-again Inv-loop μ-loop
 loop-again c =
     let b5 = c .before .before .before .before .before in
@@ -115,7 +100,7 @@ loop-again c =
     let b20 = b15 .before .before .before .before .before in
     let a = b20 in
     let l = b10 .before .loop in
-    let e = b5 .before .before .before .before .at-most .ensures in
+    let e = b5 .before .before .before .before .smaller .ensures in
     let m = b5 .before .before .make-tables .ensures in
     let d = c .before .before .add-every-row .ensures in
     let z : List ℕ = a .args .blocks .now in
@@ -142,12 +127,6 @@ loop-again c =
           ∙ found-row f (stretch count r constants) r (j / 4) y i (getD (l .sums) (r * 96 + i) 0) (λ s q. S .each r (j / 4 + s) h (omega arith))),
     )
 
-same-length : tie.Need-same-length Inv-loop μ-loop
-same-length c = omega arith
-
-same-length-2 : tie.Need-same-length-2 Inv-loop μ-loop
-same-length-2 c = omega arith
-
 returns : tie.Need-returns Inv-loop μ-loop
 returns c =
     let l = c .before .loop in
@@ -167,18 +146,18 @@ strip-sums-spec =
     (tie.spec
     Inv-loop
     μ-loop
-    set-all-requires
+    (let a : tie.Need-set-all-requires Inv-loop μ-loop = λ c κs. search needs in a)
     loop-holds
-    sub-at-most
-    at-most-requires
+    (let a : tie.Need-sub-smaller Inv-loop μ-loop = λ c. omega arith in a)
+    (let a : tie.Need-smaller-requires Inv-loop μ-loop = λ c κs. search needs in a)
     add-make-tables
     mul-make-tables
     add-make-tables-2
     make-tables-requires
     add-every-row-requires
-    add-j
-    loop-less
+    (let a : tie.Need-add-j Inv-loop μ-loop = λ c. omega arith in a)
+    (let a : tie.Need-loop-less Inv-loop μ-loop = λ c. omega arith in a)
     loop-again
-    same-length
-    same-length-2
+    (let a : tie.Need-same-length Inv-loop μ-loop = λ c. omega arith in a)
+    (let a : tie.Need-same-length-2 Inv-loop μ-loop = λ c. omega arith in a)
     returns)

@@ -31,15 +31,6 @@ abbrev μ-loop : tie.MeasureT-loop
 loop-holds : tie.Need-loop-holds Inv-loop μ-loop
 loop-holds c = (omega arith, record { long = refl; here = λ i l. absurd (omega arith); other = λ k h. refl })
 
-mul-copy-part : tie.Need-mul-copy-part Inv-loop μ-loop
-mul-copy-part c = omega arith
-
-mul-copy-part-2 : tie.Need-mul-copy-part-2 Inv-loop μ-loop
-mul-copy-part-2 c = omega arith
-
-array-read-copy-part : tie.Need-array-read-copy-part Inv-loop μ-loop
-array-read-copy-part c = omega arith
-
 mul-copy-part-3 : tie.Need-mul-copy-part-3 Inv-loop μ-loop
 mul-copy-part-3 c =
     let b5 = c .before .before .before .before .before in
@@ -58,12 +49,6 @@ copy-part-requires c κs =
     let e = l .inv .1 .long in
     let f = a .pre .0 .4 in
     ((omega arith, omega arith), (omega arith, omega arith))
-
-add-i : tie.Need-add-i Inv-loop μ-loop
-add-i c = omega arith
-
-loop-less : tie.Need-loop-less Inv-loop μ-loop
-loop-less c = omega arith
 
 loop-again : tie.Need-loop-again Inv-loop μ-loop
 loop-again c =
@@ -92,14 +77,14 @@ write-strip-spec =
     Inv-loop
     μ-loop
     loop-holds
-    mul-copy-part
-    mul-copy-part-2
-    array-read-copy-part
+    (let a : tie.Need-mul-copy-part Inv-loop μ-loop = λ c. omega arith in a)
+    (let a : tie.Need-mul-copy-part-2 Inv-loop μ-loop = λ c. omega arith in a)
+    (let a : tie.Need-array-read-copy-part Inv-loop μ-loop = λ c. omega arith in a)
     mul-copy-part-3
     add-copy-part
     copy-part-requires
-    add-i
-    loop-less
+    (let a : tie.Need-add-i Inv-loop μ-loop = λ c. omega arith in a)
+    (let a : tie.Need-loop-less Inv-loop μ-loop = λ c. omega arith in a)
     loop-again
     same-length
     returns)

@@ -12,7 +12,7 @@ use Rattle.block_sums.proofs.write_strips.Statement.{statement}
 use Rattle.block_sums.proofs.write_strips.Tie as tie
 use Rattle.block_sums.proofs.write_strips.Reads as reads
 use Rattle.block_sums.proofs.write_strips.Lts as lts
-use Rattle.block_sums.proofs.at_most.Reads as at-most-reads
+use Rattle.buffers.proofs.smaller.Reads as smaller-reads
 use Rattle.block_tables.proofs.selectors.Reads as selectors-reads
 use Rattle.block_sums.proofs.strip_sums.Reads as strip-sums-reads
 use Rattle.block_sums.proofs.write_strip.Reads as write-strip-reads
@@ -24,28 +24,10 @@ Inv-loop blocks₀ size first count rows constants to found t₀ sums₀ x₀ bl
 abbrev μ-loop : tie.MeasureT-loop
 μ-loop blocks₀ size first count rows constants to found t₀ sums₀ x₀ blocks t sums x = size - x
 
-selectors-requires : tie.Need-selectors-requires Inv-loop μ-loop
-selectors-requires c κs = search needs
-
 loop-holds : tie.Need-loop-holds Inv-loop μ-loop
 loop-holds c =
     let a = c .before .before .before .args in
     (omega arith, refl, zero-tables 6144, refl, written-none (a .size) (a .first) (a .count) (a .rows) (a .blocks .now) (a .constants .now) (a .to))
-
-sub-at-most : tie.Need-sub-at-most Inv-loop μ-loop
-sub-at-most c = omega arith
-
-at-most-requires : tie.Need-at-most-requires Inv-loop μ-loop
-at-most-requires c κs = search needs
-
-slice-aggregate-strip-sums : tie.Need-slice-aggregate-strip-sums Inv-loop μ-loop
-slice-aggregate-strip-sums c = omega arith
-
-slice-aggregate-strip-sums-2 : tie.Need-slice-aggregate-strip-sums-2 Inv-loop μ-loop
-slice-aggregate-strip-sums-2 c = omega arith
-
-slice-aggregate-strip-sums-3 : tie.Need-slice-aggregate-strip-sums-3 Inv-loop μ-loop
-slice-aggregate-strip-sums-3 c = omega arith
 
 strip-sums-requires : tie.Need-strip-sums-requires Inv-loop μ-loop
 strip-sums-requires c κs =
@@ -59,9 +41,6 @@ strip-sums-requires c κs =
     let g = p .inside in
     ((omega arith, omega arith, p .few, p .rows-few), ((omega arith, omega arith, omega arith), (omega arith, l .inv .1, l .inv .3, l .inv .2)))
 
-slice-aggregate-write-strip : tie.Need-slice-aggregate-write-strip Inv-loop μ-loop
-slice-aggregate-write-strip c = omega arith
-
 write-strip-requires : tie.Need-write-strip-requires Inv-loop μ-loop
 write-strip-requires c κs =
     let a = c .before .before .before .before .before .before .before .before .before .before .before .before .before .before .before in
@@ -71,12 +50,6 @@ write-strip-requires c κs =
       (c .before .before .before .before .strip-sums .ensures .0 .2, a .pre .0 .rows-few, omega arith, omega arith, omega arith),
       record { inside = λ i h. let g = a .pre .1 .inside i h in omega arith },
     )
-
-add-x : tie.Need-add-x Inv-loop μ-loop
-add-x c = omega arith
-
-loop-less : tie.Need-loop-less Inv-loop μ-loop
-loop-less c = omega arith
 
 loop-again : tie.Need-loop-again Inv-loop μ-loop
 loop-again c =
@@ -91,7 +64,7 @@ loop-again c =
       s .0 .1,
       s .0 .2,
       written-more (a .args .size) (a .args .first) (a .args .count) (a .args .rows) (a .args .blocks .now) (a .args .constants .now) (a .args .to) (l .x)
-          (b10 .before .before .at-most .result) (l .blocks) _ _ (omega arith) (l .inv .4)
+          (b10 .before .before .smaller .result) (l .blocks) _ _ (omega arith) (l .inv .4)
           (s .1 (a .args .constants .now) (a .pre .0 .laid) (λ i. b15 .before .shared-slice-known .given i .fits)
           (b15 .selectors .ensures .0 (a .pre .0 .few) (a .pre .0 .rows-few) (a .pre .0 .laid)))
           (c .before .before .write-strip .ensures),
@@ -112,18 +85,18 @@ write-strips-spec =
     (tie.spec
     Inv-loop
     μ-loop
-    selectors-requires
+    (let a : tie.Need-selectors-requires Inv-loop μ-loop = λ c κs. search needs in a)
     loop-holds
-    sub-at-most
-    at-most-requires
-    slice-aggregate-strip-sums
-    slice-aggregate-strip-sums-2
-    slice-aggregate-strip-sums-3
+    (let a : tie.Need-sub-smaller Inv-loop μ-loop = λ c. omega arith in a)
+    (let a : tie.Need-smaller-requires Inv-loop μ-loop = λ c κs. search needs in a)
+    (let a : tie.Need-slice-aggregate-strip-sums Inv-loop μ-loop = λ c. omega arith in a)
+    (let a : tie.Need-slice-aggregate-strip-sums-2 Inv-loop μ-loop = λ c. omega arith in a)
+    (let a : tie.Need-slice-aggregate-strip-sums-3 Inv-loop μ-loop = λ c. omega arith in a)
     strip-sums-requires
-    slice-aggregate-write-strip
+    (let a : tie.Need-slice-aggregate-write-strip Inv-loop μ-loop = λ c. omega arith in a)
     write-strip-requires
-    add-x
-    loop-less
+    (let a : tie.Need-add-x Inv-loop μ-loop = λ c. omega arith in a)
+    (let a : tie.Need-loop-less Inv-loop μ-loop = λ c. omega arith in a)
     loop-again
     same-length
     returns)

@@ -13,9 +13,6 @@ use Rattle.block_sums.proofs.aimed.Reads as aimed-reads
 use Rattle.block_sums.proofs.named.Reads as named-reads
 use Rattle.block_sums.proofs.write_strips.Reads as write-strips-reads
 
-named-requires : tie.Need-named-requires
-named-requires c κs = search needs
-
 returns : tie.Need-returns
 returns c =
     let a = c .before .before .before .before .args in
@@ -41,9 +38,6 @@ write-strips-requires c κs =
     let f = c .before .before .aimed .ensures .0 (not-false _ (c .before .if2 .left)) in
     (record { inside = e .3; most = e .2; small = e .1; few = e .4; rows-few = e .5; laid = e .6 }, record { inside = f })
 
-same-length : tie.Need-same-length
-same-length c = search needs
-
 returns-3 : tie.Need-returns-3
 returns-3 c =
     let b5 = c .before .before .before .before .before in
@@ -57,10 +51,10 @@ pub write-sums-spec : {M : Type 1} → statement M
 write-sums-spec =
     tie.close
     (tie.spec
-    named-requires
+    (let a : tie.Need-named-requires = λ c κs. search needs in a)
     returns
     aimed-requires
     returns-2
     write-strips-requires
-    same-length
+    (let a : tie.Need-same-length = λ c. search needs in a)
     returns-3)

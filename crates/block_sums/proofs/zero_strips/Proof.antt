@@ -12,7 +12,7 @@ use Rattle.block_sums.proofs.zero_strips.Statement.{statement}
 use Rattle.block_sums.proofs.zero_strips.Tie as tie
 use Rattle.block_sums.proofs.zero_strips.Reads as reads
 use Rattle.block_sums.proofs.zero_strips.Lts as lts
-use Rattle.block_sums.proofs.at_most.Reads as at-most-reads
+use Rattle.buffers.proofs.smaller.Reads as smaller-reads
 use Rattle.block_tables.proofs.selectors.Reads as selectors-reads
 use Rattle.block_sums.proofs.strip_sums.Reads as strip-sums-reads
 use Rattle.block_sums.proofs.zero_strip.Reads as zero-strip-reads
@@ -24,26 +24,8 @@ Inv-loop blocks size first count rows constants limit found t₀ sums₀ x₀ t 
 abbrev μ-loop : tie.MeasureT-loop
 μ-loop blocks size first count rows constants limit found t₀ sums₀ x₀ t sums x = limit - x
 
-selectors-requires : tie.Need-selectors-requires Inv-loop μ-loop
-selectors-requires c κs = search needs
-
 loop-holds : tie.Need-loop-holds Inv-loop μ-loop
 loop-holds c = (omega arith, refl, zero-tables 6144, refl, λ y h. absurd (omega arith))
-
-sub-at-most : tie.Need-sub-at-most Inv-loop μ-loop
-sub-at-most c = omega arith
-
-at-most-requires : tie.Need-at-most-requires Inv-loop μ-loop
-at-most-requires c κs = search needs
-
-slice-aggregate-strip-sums : tie.Need-slice-aggregate-strip-sums Inv-loop μ-loop
-slice-aggregate-strip-sums c = omega arith
-
-slice-aggregate-strip-sums-2 : tie.Need-slice-aggregate-strip-sums-2 Inv-loop μ-loop
-slice-aggregate-strip-sums-2 c = omega arith
-
-slice-aggregate-strip-sums-3 : tie.Need-slice-aggregate-strip-sums-3 Inv-loop μ-loop
-slice-aggregate-strip-sums-3 c = omega arith
 
 strip-sums-requires : tie.Need-strip-sums-requires Inv-loop μ-loop
 strip-sums-requires c κs =
@@ -51,17 +33,11 @@ strip-sums-requires c κs =
     let l = c .before .before .before .before .before .loop in
     let p = a .pre .0 in ((p .most, p .inside, p .few, p .rows-few), ((omega arith, omega arith, omega arith), (omega arith, l .inv .1, l .inv .3, l .inv .2)))
 
-slice-aggregate-zero-strip : tie.Need-slice-aggregate-zero-strip Inv-loop μ-loop
-slice-aggregate-zero-strip c = omega arith
-
 zero-strip-requires : tie.Need-zero-strip-requires Inv-loop μ-loop
 zero-strip-requires c κs =
     let b5 = c .before .before .before .before .before in
     let b10 = b5 .before .before .before .before .before in
     (c .before .before .before .strip-sums .ensures .0 .2, b10 .before .before .before .pre .0 .rows-few, omega arith)
-
-add-result : tie.Need-add-result Inv-loop μ-loop
-add-result c = omega arith
 
 returns : tie.Need-returns Inv-loop μ-loop
 returns c =
@@ -72,16 +48,10 @@ returns c =
     let l = b10 .before .loop in
     let p = a .pre .0 in
     zero-found (a .args .size) (a .args .blocks .now) (a .args .first) (a .args .count) (a .args .rows) (a .args .constants .now) (a .args .limit) (l .x)
-    (b5 .before .before .before .before .at-most .result) _ (c .before .zero-strip .result) (omega arith) (l .inv .4)
+    (b5 .before .before .before .before .smaller .result) _ (c .before .zero-strip .result) (omega arith) (l .inv .4)
     (b5 .strip-sums .ensures .1 (a .args .constants .now) (p .laid)
     (λ i. b10 .before .before .before .shared-slice-known2 .given i .fits) (b10 .before .before .selectors .ensures .0 (p .few) (p .rows-few) (p .laid)))
     (c .before .zero-strip .ensures) (omega arith)
-
-add-x : tie.Need-add-x Inv-loop μ-loop
-add-x c = omega arith
-
-loop-less : tie.Need-loop-less Inv-loop μ-loop
-loop-less c = omega arith
 
 loop-again : tie.Need-loop-again Inv-loop μ-loop
 loop-again c =
@@ -94,14 +64,14 @@ loop-again c =
     let s = b5 .strip-sums .ensures in
     let z = c .before .zero-strip .ensures in
     let m = z .most in
-    let r : c .before .zero-strip .result ≡ b5 .before .before .before .before .at-most .result = omega arith in (
+    let r : c .before .zero-strip .result ≡ b5 .before .before .before .before .smaller .result = omega arith in (
       omega arith,
       s .0 .0,
       s .0 .1,
       s .0 .2,
       λ y h i b.
           zero-more (a .args .size) (a .args .blocks .now) (a .args .first) (a .args .count) (a .args .rows) (a .args .constants .now) (a .args .limit) (l .x)
-          (b5 .before .before .before .before .at-most .result) _ (c .before .zero-strip .result) (omega arith) (l .inv .4)
+          (b5 .before .before .before .before .smaller .result) _ (c .before .zero-strip .result) (omega arith) (l .inv .4)
           (s .1 (a .args .constants .now) (p .laid)
           (λ i. b10 .before .before .before .shared-slice-known2 .given i .fits) (b10 .before .before .selectors .ensures .0 (p .few) (p .rows-few) (p .laid)))
           z y (omega arith) i b,
@@ -119,19 +89,19 @@ zero-strips-spec =
     (tie.spec
     Inv-loop
     μ-loop
-    selectors-requires
+    (let a : tie.Need-selectors-requires Inv-loop μ-loop = λ c κs. search needs in a)
     loop-holds
-    sub-at-most
-    at-most-requires
-    slice-aggregate-strip-sums
-    slice-aggregate-strip-sums-2
-    slice-aggregate-strip-sums-3
+    (let a : tie.Need-sub-smaller Inv-loop μ-loop = λ c. omega arith in a)
+    (let a : tie.Need-smaller-requires Inv-loop μ-loop = λ c κs. search needs in a)
+    (let a : tie.Need-slice-aggregate-strip-sums Inv-loop μ-loop = λ c. omega arith in a)
+    (let a : tie.Need-slice-aggregate-strip-sums-2 Inv-loop μ-loop = λ c. omega arith in a)
+    (let a : tie.Need-slice-aggregate-strip-sums-3 Inv-loop μ-loop = λ c. omega arith in a)
     strip-sums-requires
-    slice-aggregate-zero-strip
+    (let a : tie.Need-slice-aggregate-zero-strip Inv-loop μ-loop = λ c. omega arith in a)
     zero-strip-requires
-    add-result
+    (let a : tie.Need-add-result Inv-loop μ-loop = λ c. omega arith in a)
     returns
-    add-x
-    loop-less
+    (let a : tie.Need-add-x Inv-loop μ-loop = λ c. omega arith in a)
+    (let a : tie.Need-loop-less Inv-loop μ-loop = λ c. omega arith in a)
     loop-again
     returns-2)

@@ -26,47 +26,8 @@ abbrev μ-loop : tie.MeasureT-loop
 loop-holds : tie.Need-loop-holds Inv-loop μ-loop
 loop-holds c = (omega arith, omega arith, (λ j l. absurd (omega arith)), λ j l b. c .before .before .pre .1 j b)
 
-mul-loop : tie.Need-mul-loop Inv-loop μ-loop
-mul-loop c = omega arith
-
-mul-j : tie.Need-mul-j Inv-loop μ-loop
-mul-j c = omega arith
-
-constant-requires : tie.Need-constant-requires Inv-loop μ-loop
-constant-requires c κs = search needs
-
-add-constant : tie.Need-add-constant Inv-loop μ-loop
-add-constant c = omega arith
-
-constant-requires-2 : tie.Need-constant-requires-2 Inv-loop μ-loop
-constant-requires-2 c κs = omega arith
-
-add-constant-2 : tie.Need-add-constant-2 Inv-loop μ-loop
-add-constant-2 c = omega arith
-
-constant-requires-3 : tie.Need-constant-requires-3 Inv-loop μ-loop
-constant-requires-3 c κs = omega arith
-
-add-constant-3 : tie.Need-add-constant-3 Inv-loop μ-loop
-add-constant-3 c = omega arith
-
-constant-requires-4 : tie.Need-constant-requires-4 Inv-loop μ-loop
-constant-requires-4 c κs = omega arith
-
-selector-requires : tie.Need-selector-requires Inv-loop μ-loop
-selector-requires c κs = search needs
-
-mul-found : tie.Need-mul-found Inv-loop μ-loop
-mul-found c = omega arith
-
 slice-write-found : tie.Need-slice-write-found Inv-loop μ-loop
 slice-write-found c = omega arith
-
-add-s : tie.Need-add-s Inv-loop μ-loop
-add-s c = omega arith
-
-loop-less : tie.Need-loop-less Inv-loop μ-loop
-loop-less c = omega arith
 
 -- the selector stored
 value : (c :
@@ -91,9 +52,6 @@ loop-again c =
       λ j h b. getD-set-other (l .found) i j _ 0 (λ e. omega arith) ∙ l .inv .3 j (omega arith) b,
     )
 
-same-length : tie.Need-same-length Inv-loop μ-loop
-same-length c = omega arith
-
 returns : tie.Need-returns Inv-loop μ-loop
 returns c =
     let l = c .before .loop in
@@ -110,20 +68,20 @@ row-selectors-spec =
     Inv-loop
     μ-loop
     loop-holds
-    mul-loop
-    mul-j
-    constant-requires
-    add-constant
-    constant-requires-2
-    add-constant-2
-    constant-requires-3
-    add-constant-3
-    constant-requires-4
-    selector-requires
-    mul-found
+    (let a : tie.Need-mul-loop Inv-loop μ-loop = λ c. omega arith in a)
+    (let a : tie.Need-mul-j Inv-loop μ-loop = λ c. omega arith in a)
+    (let a : tie.Need-constant-requires Inv-loop μ-loop = λ c κs. search needs in a)
+    (let a : tie.Need-add-constant Inv-loop μ-loop = λ c. omega arith in a)
+    (let a : tie.Need-constant-requires-2 Inv-loop μ-loop = λ c κs. omega arith in a)
+    (let a : tie.Need-add-constant-2 Inv-loop μ-loop = λ c. omega arith in a)
+    (let a : tie.Need-constant-requires-3 Inv-loop μ-loop = λ c κs. omega arith in a)
+    (let a : tie.Need-add-constant-3 Inv-loop μ-loop = λ c. omega arith in a)
+    (let a : tie.Need-constant-requires-4 Inv-loop μ-loop = λ c κs. omega arith in a)
+    (let a : tie.Need-selector-requires Inv-loop μ-loop = λ c κs. search needs in a)
+    (let a : tie.Need-mul-found Inv-loop μ-loop = λ c. omega arith in a)
     slice-write-found
-    add-s
-    loop-less
+    (let a : tie.Need-add-s Inv-loop μ-loop = λ c. omega arith in a)
+    (let a : tie.Need-loop-less Inv-loop μ-loop = λ c. omega arith in a)
     loop-again
-    same-length
+    (let a : tie.Need-same-length Inv-loop μ-loop = λ c. omega arith in a)
     returns)

@@ -8,12 +8,6 @@ use Rattle.block_tables.proofs.selector.Reads as reads
 use Rattle.block_tables.proofs.selector.Lts as lts
 use Rattle.block_tables.proofs.spaced.Reads as spaced-reads
 
-spaced-requires : tie.Need-spaced-requires
-spaced-requires c κs = search needs
-
-spaced-requires-2 : tie.Need-spaced-requires-2
-spaced-requires-2 c κs = search needs
-
 mul-result : tie.Need-mul-result
 mul-result c = let e = c .spaced2 .ensures in let m = spaced-8 (c .before .before .args .b) in omega arith
 
@@ -24,9 +18,6 @@ add-result c =
     let f = c .before .spaced .ensures in
     let o = spaced-8 (c .before .before .args .a) in
     omega arith
-
-spaced-requires-3 : tie.Need-spaced-requires-3
-spaced-requires-3 c κs = search needs
 
 mul-result-2 : tie.Need-mul-result-2
 mul-result-2 c = let e = c .spaced3 .ensures in let m = spaced-8 (c .before .before .before .args .c) in omega arith
@@ -40,9 +31,6 @@ add-result-2 c =
     let g = c .before .before .spaced .ensures in
     let u = spaced-8 (c .before .before .before .args .a) in
     omega arith
-
-spaced-requires-4 : tie.Need-spaced-requires-4
-spaced-requires-4 c κs = search needs
 
 mul-result-3 : tie.Need-mul-result-3
 mul-result-3 c = let e = c .spaced4 .ensures in let m = spaced-8 (c .before .before .before .before .args .d) in omega arith
@@ -67,14 +55,14 @@ pub selector-spec : {M : Type 1} → statement M
 selector-spec =
     tie.close
     (tie.spec
-    spaced-requires
-    spaced-requires-2
+    (let a : tie.Need-spaced-requires = λ c κs. search needs in a)
+    (let a : tie.Need-spaced-requires-2 = λ c κs. search needs in a)
     mul-result
     add-result
-    spaced-requires-3
+    (let a : tie.Need-spaced-requires-3 = λ c κs. search needs in a)
     mul-result-2
     add-result-2
-    spaced-requires-4
+    (let a : tie.Need-spaced-requires-4 = λ c κs. search needs in a)
     mul-result-3
     add-result-3
     returns)

@@ -43,36 +43,12 @@ add-e c =
     let f = row-end (s .loop .r) (a .args .rows) (a .args .count) _ (omega arith) (mul-le-mul (a .pre .1) (a .pre .0)) in
     omega arith
 
-mul-b : tie.Need-mul-b Inv-loop μ-loop
-mul-b c = omega arith
-
-add-f : tie.Need-add-f Inv-loop μ-loop
-add-f c = omega arith
-
-sub-row-selectors : tie.Need-sub-row-selectors Inv-loop μ-loop
-sub-row-selectors c = omega arith
-
-part-row-selectors-start : tie.Need-part-row-selectors-start Inv-loop μ-loop
-part-row-selectors-start c = search needs
-
 part-row-selectors-end : tie.Need-part-row-selectors-end Inv-loop μ-loop
 part-row-selectors-end c =
     let s = c .before in
     let a = s .before .before in
     let e = row-end (s .loop .r) (a .args .rows) (a .args .count) _ (omega arith) (a .pre .2) in
     omega arith
-
-mul-found : tie.Need-mul-found Inv-loop μ-loop
-mul-found c = omega arith
-
-sub-row-selectors-2 : tie.Need-sub-row-selectors-2 Inv-loop μ-loop
-sub-row-selectors-2 c = omega arith
-
-part-found-start : tie.Need-part-found-start Inv-loop μ-loop
-part-found-start c = search needs
-
-part-found-end : tie.Need-part-found-end Inv-loop μ-loop
-part-found-end c = omega arith
 
 row-selectors-requires : tie.Need-row-selectors-requires Inv-loop μ-loop
 row-selectors-requires c κs =
@@ -85,12 +61,6 @@ row-selectors-requires c κs =
       (omega arith, k),
       λ j h. lent-at 60 (s .loop .r) x (omega arith) j h ∙ s .loop .inv .3 (s .loop .r * 60 + j) (omega arith),
     )
-
-add-r : tie.Need-add-r Inv-loop μ-loop
-add-r c = omega arith
-
-loop-less : tie.Need-loop-less Inv-loop μ-loop
-loop-less c = omega arith
 
 loop-again : tie.Need-loop-again Inv-loop μ-loop
 loop-again c =
@@ -125,17 +95,17 @@ selectors-of-spec =
     loop-holds
     mul-a
     add-e
-    mul-b
-    add-f
-    sub-row-selectors
-    part-row-selectors-start
+    (let a : tie.Need-mul-b Inv-loop μ-loop = λ c. omega arith in a)
+    (let a : tie.Need-add-f Inv-loop μ-loop = λ c. omega arith in a)
+    (let a : tie.Need-sub-row-selectors Inv-loop μ-loop = λ c. omega arith in a)
+    (let a : tie.Need-part-row-selectors-start Inv-loop μ-loop = λ c. search needs in a)
     part-row-selectors-end
-    mul-found
-    sub-row-selectors-2
-    part-found-start
-    part-found-end
+    (let a : tie.Need-mul-found Inv-loop μ-loop = λ c. omega arith in a)
+    (let a : tie.Need-sub-row-selectors-2 Inv-loop μ-loop = λ c. omega arith in a)
+    (let a : tie.Need-part-found-start Inv-loop μ-loop = λ c. search needs in a)
+    (let a : tie.Need-part-found-end Inv-loop μ-loop = λ c. omega arith in a)
     row-selectors-requires
-    add-r
-    loop-less
+    (let a : tie.Need-add-r Inv-loop μ-loop = λ c. omega arith in a)
+    (let a : tie.Need-loop-less Inv-loop μ-loop = λ c. omega arith in a)
     loop-again
     returns)

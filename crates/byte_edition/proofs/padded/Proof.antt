@@ -10,7 +10,7 @@ use Rattle.byte_edition.proofs.padded.Statement.{statement}
 use Rattle.byte_edition.proofs.padded.Tie as tie
 use Rattle.byte_edition.proofs.padded.Reads as reads
 use Rattle.byte_edition.proofs.padded.Lts as lts
-use Rattle.byte_edition.proofs.at_most_16.Reads as at-most-16-reads
+use Rattle.buffers.proofs.smaller.Reads as smaller-reads
 use Rattle.code_engine.specs.ListsLaws.{zeros-row}
 
 -- the bytes below i are copied, and those from i on are 0
@@ -33,23 +33,8 @@ Inv-loop part n x₀ i₀ x i = (i ≤ n) × (n ≡ min (length part) 16) × Fro
 abbrev μ-loop : tie.MeasureT-loop
 μ-loop part n x₀ i₀ x i = n - i
 
-at-most-16-requires : tie.Need-at-most-16-requires Inv-loop μ-loop
-at-most-16-requires c κs = search needs
-
 loop-holds : tie.Need-loop-holds Inv-loop μ-loop
-loop-holds c = (omega arith, c .at-most-16 .ensures, (search needs, (λ j h. absurd (omega arith)), (λ j h. zeros-row 16 j)))
-
-shared-slice-read-x : tie.Need-shared-slice-read-x Inv-loop μ-loop
-shared-slice-read-x c = omega arith
-
-array-write-x : tie.Need-array-write-x Inv-loop μ-loop
-array-write-x c = omega arith
-
-add-i : tie.Need-add-i Inv-loop μ-loop
-add-i c = omega arith
-
-loop-less : tie.Need-loop-less Inv-loop μ-loop
-loop-less c = omega arith
+loop-holds c = (omega arith, c .smaller .ensures, (search needs, (λ j h. absurd (omega arith)), (λ j h. zeros-row 16 j)))
 
 loop-again : tie.Need-loop-again Inv-loop μ-loop
 loop-again c =
@@ -75,11 +60,11 @@ padded-spec =
     (tie.spec
     Inv-loop
     μ-loop
-    at-most-16-requires
+    (let a : tie.Need-smaller-requires Inv-loop μ-loop = λ c κs. search needs in a)
     loop-holds
-    shared-slice-read-x
-    array-write-x
-    add-i
-    loop-less
+    (let a : tie.Need-shared-slice-read-x Inv-loop μ-loop = λ c. omega arith in a)
+    (let a : tie.Need-array-write-x Inv-loop μ-loop = λ c. omega arith in a)
+    (let a : tie.Need-add-i Inv-loop μ-loop = λ c. omega arith in a)
+    (let a : tie.Need-loop-less Inv-loop μ-loop = λ c. omega arith in a)
     loop-again
     returns)

@@ -5,33 +5,6 @@ use Rattle.byte_edition.proofs.Laws.{sum-chosen, sum-none}
 use Rattle.byte_edition.proofs.power_sum.Statement.{statement}
 use Rattle.byte_edition.proofs.power_sum.Tie as tie
 
-plain-sum-requires : tie.Need-plain-sum-requires
-plain-sum-requires c κs = search needs
-
-slice-aggregate-dot : tie.Need-slice-aggregate-dot
-slice-aggregate-dot c = search needs
-
-dot-requires : tie.Need-dot-requires
-dot-requires c κs = search needs
-
-slice-aggregate-dot-2 : tie.Need-slice-aggregate-dot-2
-slice-aggregate-dot-2 c = search needs
-
-dot-requires-2 : tie.Need-dot-requires-2
-dot-requires-2 c κs = search needs
-
-slice-aggregate-dot-3 : tie.Need-slice-aggregate-dot-3
-slice-aggregate-dot-3 c = search needs
-
-dot-requires-3 : tie.Need-dot-requires-3
-dot-requires-3 c κs = search needs
-
-slice-aggregate-dot-4 : tie.Need-slice-aggregate-dot-4
-slice-aggregate-dot-4 c = search needs
-
-dot-requires-4 : tie.Need-dot-requires-4
-dot-requires-4 c κs = search needs
-
 returns : tie.Need-returns
 unfolding powerRows
 returns c = let a = c .before .before .before .args in sum-chosen powerRows (a .e) (a .part .now) 0 (c .plain-sum .ensures) (c .before .match .keys1)
@@ -60,15 +33,15 @@ pub power-sum-spec : {M : Type 1} → statement M
 power-sum-spec =
     tie.close
     (tie.spec
-    plain-sum-requires
-    slice-aggregate-dot
-    dot-requires
-    slice-aggregate-dot-2
-    dot-requires-2
-    slice-aggregate-dot-3
-    dot-requires-3
-    slice-aggregate-dot-4
-    dot-requires-4
+    (let a : tie.Need-plain-sum-requires = λ c κs. search needs in a)
+    (let a : tie.Need-slice-aggregate-dot = λ c. search needs in a)
+    (let a : tie.Need-dot-requires = λ c κs. search needs in a)
+    (let a : tie.Need-slice-aggregate-dot-2 = λ c. search needs in a)
+    (let a : tie.Need-dot-requires-2 = λ c κs. search needs in a)
+    (let a : tie.Need-slice-aggregate-dot-3 = λ c. search needs in a)
+    (let a : tie.Need-dot-requires-3 = λ c κs. search needs in a)
+    (let a : tie.Need-slice-aggregate-dot-4 = λ c. search needs in a)
+    (let a : tie.Need-dot-requires-4 = λ c κs. search needs in a)
     returns
     returns-2
     returns-3

@@ -47,12 +47,13 @@ use Rattle.c_desk.specs.DeskCalls.{handleOr}
 use Rattle.c_desk.specs.DeskCallsLaws.{opens-number}
 use Rattle.hand_walks.proofs.Walks.{by-walk}
 use Rattle.hand_walks.proofs.Locals.{rooms, cells, emptied, left, right}
-use Rattle.hand_walks.proofs.Lent.{val, walk as lent-walk}
+use Rattle.hand_walks.proofs.Lent.{Shape, val, walk as lent-walk}
 use Rattle.desk_record.proofs.Desk as T
 use Rattle.desk_open.proofs.open as open-f
 use Rattle.desk_open.proofs.open.Symbol as open-def
 use Rattle.desk_open.proofs.open.Met as open-thm
-use Rattle.c_desk.proofs.Shapes.{opening, opening-known}
+use Rattle.hand_walks.proofs.ByTypes.{shape-of, known-of}
+use Rattle.c_desk.proofs.Shapes.{opening as open-kinds}
 use Rattle.c_desk.proofs.opened_number as number
 use Rattle.c_desk.proofs.opened_number.Symbol as number-def
 use Rattle.c_desk.proofs.opened_number.Met as number-thm
@@ -60,6 +61,9 @@ use Rattle.c_desk.proofs.axlebloom_open.Key.{name}
 use Rattle.c_desk.proofs.axlebloom_open as axlebloom-open
 use Rattle.c_desk.proofs.axlebloom_open.Statement as stated
 use Rattle.c_desk.proofs.axlebloom_open.Code as code
+
+abbrev opening : Shape
+opening = shape-of open-kinds
 
 abbrev stayed : Stays (axlebloom-open.ended .signature .params) (axlebloom-open.ended .kept)
 stayed = (
@@ -214,7 +218,7 @@ module _ {M : Type 1} (𝓤 : URA M) (H : Heap 𝓤) (A : Atoms 𝓤) (W : Given
       use1 W (‵ Own′ ⊛ ‵ Own′) (shr-slice-copy 𝓤 H A W (named 1) κ′ u8 .twice x (s ∷ [])) $ split ! $ move ! (2 ∷ []) $ fsplit ! $ move ! (7 ∷ []) $ split ! $
       -- [the token of marks; of handle; what handle owns; …; what marks owns, twice; obs; the borrow; the token]
       move ! (0 ∷ 3 ∷ []) $ join ! $ move ! (0 ∷ 3 ∷ []) $ join ! $ move ! (1 ∷ 2 ∷ []) $ join ! $ move ! (3 ∷ 4 ∷ 5 ∷ 1 ∷ 0 ∷ 2 ∷ []) $
-      by ! (lent-walk opening 𝓤 H A W (opening-known 𝓤 H A W) C Λ fm τs σs (λ rest. rest) open-def.name
+      by ! (lent-walk opening 𝓤 H A W (known-of open-kinds 𝓤 H A W) C Λ fm τs σs (λ rest. rest) open-def.name
       (copy (place 2 []) ∷ copy (place 3 []) ∷ copy (place 4 []) ∷ copy (place 5 []) ∷ []) lend number-def.name (copy (place 9 []) ∷ []) κ q (d .ptr .0)
       (d .ptr .1)
       (d .name) (d .now) (vint w64 m, (vint w64 w, (vint w64 c, (s, (p, tt))))) (vint w64 m ∷ vint w64 w ∷ vint w64 c ∷ s ∷ []) (p ∷ [])

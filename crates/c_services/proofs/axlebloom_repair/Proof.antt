@@ -1,7 +1,5 @@
-use mathlib.Core.Path.{ap, _∙_}
-use Rattle.c_answers.specs.Mends.{mendingMended}
-use Rattle.c_answers.specs.MendsLaws.{mending-mended}
-use Rattle.c_services.specs.NumbersLaws.{repair-group}
+use mathlib.Core.Path.{_∙_}
+use Rattle.c_answers.specs.MendsLaws.{mended-by}
 use borrow.Author.Needs.{needs}
 use Rattle.c_services.proofs.axlebloom_repair.Statement.{statement}
 use Rattle.c_services.proofs.axlebloom_repair.Tie as tie
@@ -20,11 +18,9 @@ same-length-2 c = search needs
 
 returns : tie.Need-returns
 returns c =
-    let e = c .before .before .before .before .before .repair .ensures in
-    let a = c .before .before .before .before .before .before .before .before .before .before .args in (
-      c .mended-of .ensures ∙ ap mendingMended (e .0) ∙ mending-mended _ _ (repair-group (a .m) (a .w) (a .c) (a .g) (a .word .now) (a .marks .now)),
-      (e .1 .0, e .1 .1),
-    )
+    let k = c .before .before .before .before .before .repair in
+    let e = k .ensures in
+    (c .mended-of .ensures ∙ mended-by (k .result) _ _ (e .0 .number) (e .0 .group), (e .1 .0, e .1 .1))
 
 pub axlebloom-repair-spec : {M : Type 1} → statement M
 axlebloom-repair-spec =

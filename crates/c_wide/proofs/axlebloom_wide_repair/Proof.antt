@@ -1,5 +1,5 @@
-use mathlib.Core.Path.{ap, _∙_}
-use Rattle.c_answers.specs.Mends.{mendingMended}
+use mathlib.Core.Path.{_∙_}
+use Rattle.c_answers.specs.MendsLaws.{mended-by}
 use borrow.Author.Needs.{needs}
 use Rattle.c_wide.proofs.axlebloom_wide_repair.Statement.{statement}
 use Rattle.c_wide.proofs.axlebloom_wide_repair.Tie as tie
@@ -18,8 +18,9 @@ same-length-2 c = search needs
 
 returns : tie.Need-returns
 returns c =
-    let e = c .before .before .before .before .before .repair .ensures in
-    (c .mended-of .ensures ∙ ap mendingMended (e .0), (e .1 .0, e .1 .1))
+    let k = c .before .before .before .before .before .repair in
+    let e = k .ensures in
+    (c .mended-of .ensures ∙ mended-by (k .result) _ _ (e .0 .number) (e .0 .group), (e .1 .0, e .1 .1))
 
 pub axlebloom-wide-repair-spec : {M : Type 1} → statement M
 axlebloom-wide-repair-spec =

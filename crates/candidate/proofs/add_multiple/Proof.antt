@@ -1,65 +1,28 @@
-use mathlib.Core.Path.{_≡_, refl, ap₂, _∙_}
-use mathlib.Core.List.{List}
-use Prim.Native.Nat.{ℕ, _-_, _≤_, _<_}
+use mathlib.Core.Path.{refl}
+use Prim.Native.Nat.{_-_}
 use native.Mathlib.Omega.{arith}
-use lib.ListN.{length, getD, length-set}
+use lib.ListN.{length}
 use borrow.Author.Needs.{needs}
-use Rattle.binary_field.specs.Xor.{_⊕_}
-use Rattle.binary_field.specs.XorLaws.{⊕-bits}
-use Rattle.code.specs.Edition.{times}
 use Rattle.byte_edition.specs.Edition.{byteEdition}
-use Rattle.code_engine.specs.ListsLaws.{each-set, rest-set}
+use Rattle.code_loops.specs.Directions.{AddTurn}
+use Rattle.code_loops.specs.DirectionsLaws.{add-first, add-turn, add-last}
 use Rattle.candidate.proofs.add_multiple.Statement.{statement}
 use Rattle.candidate.proofs.add_multiple.Tie as tie
 
 abbrev Inv-loop : tie.InvT-loop
-Inv-loop u h part₀ i₀ part i =
-    (i ≤ length part₀) × (length part ≡ length part₀) × ((k : ℕ) → k < i → getD part k 0 ≡ getD part₀ k 0 ⊕ times byteEdition u (getD h k 0))
-    × ((k : ℕ) → i ≤ k → getD part k 0 ≡ getD part₀ k 0)
+Inv-loop u h part₀ i₀ part i = AddTurn byteEdition u h part₀ part i
 
 abbrev μ-loop : tie.MeasureT-loop
 μ-loop u h part₀ i₀ part i = length part₀ - i
 
 loop-holds : tie.Need-loop-holds Inv-loop μ-loop
-loop-holds c = (omega arith, refl, λ k l. absurd (omega arith), λ k l. refl)
-
-slice-read-part : tie.Need-slice-read-part Inv-loop μ-loop
-slice-read-part c = omega arith
-
-shared-slice-read-shifted-product : tie.Need-shared-slice-read-shifted-product Inv-loop μ-loop
-shared-slice-read-shifted-product c = omega arith
-
-shifted-product-requires : tie.Need-shifted-product-requires Inv-loop μ-loop
-shifted-product-requires c κs = search needs
-
-slice-write-part : tie.Need-slice-write-part Inv-loop μ-loop
-slice-write-part c = omega arith
-
-add-i : tie.Need-add-i Inv-loop μ-loop
-add-i c = omega arith
-
-loop-less : tie.Need-loop-less Inv-loop μ-loop
-loop-less c = omega arith
+loop-holds c = add-first
 
 loop-again : tie.Need-loop-again Inv-loop μ-loop
-loop-again c =
-    let s = c .before .before .before .before in
-    let a = s .before .before .before .args in
-    let i : ℕ = s .loop .i in
-    let x : List ℕ = s .loop .part in
-    let x₀ : List ℕ = a .part .now in (
-      omega arith,
-      simp length-set (omega arith),
-      each-set (λ k v. v ≡ getD x₀ k 0 ⊕ times byteEdition (a .u) (getD (a .h .now) k 0)) x i _ 0 (omega arith) (s .loop .inv .2)
-          (⊕-bits _ _ ∙ ap₂ _⊕_ (s .loop .inv .3 i (omega arith)) (c .shifted-product .ensures)),
-      rest-set (λ k. getD x₀ k 0) x i _ 0 (s .loop .inv .3),
-    )
-
-same-length : tie.Need-same-length Inv-loop μ-loop
-same-length c = omega arith
+loop-again c = add-turn (c .before .before .before .before .loop .inv) (omega arith) refl (c .shifted-product .ensures)
 
 returns : tie.Need-returns Inv-loop μ-loop
-returns c = let s = c .before in record { size = s .loop .inv .1; each = λ k l. s .loop .inv .2 k (omega arith) }
+returns c = add-last (c .before .loop .inv) (omega arith)
 
 pub add-multiple-spec : {M : Type 1} → statement M
 add-multiple-spec =
@@ -68,12 +31,12 @@ add-multiple-spec =
     Inv-loop
     μ-loop
     loop-holds
-    slice-read-part
-    shared-slice-read-shifted-product
-    shifted-product-requires
-    slice-write-part
-    add-i
-    loop-less
+    (let a : tie.Need-slice-read-part Inv-loop μ-loop = λ c. omega arith in a)
+    (let a : tie.Need-shared-slice-read-shifted-product Inv-loop μ-loop = λ c. omega arith in a)
+    (let a : tie.Need-shifted-product-requires Inv-loop μ-loop = λ c κs. search needs in a)
+    (let a : tie.Need-slice-write-part Inv-loop μ-loop = λ c. omega arith in a)
+    (let a : tie.Need-add-i Inv-loop μ-loop = λ c. omega arith in a)
+    (let a : tie.Need-loop-less Inv-loop μ-loop = λ c. omega arith in a)
     loop-again
-    same-length
+    (let a : tie.Need-same-length Inv-loop μ-loop = λ c. omega arith in a)
     returns)

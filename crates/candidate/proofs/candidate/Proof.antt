@@ -11,9 +11,6 @@ use Rattle.code.specs.LimitsLaws.{places-most, word-of-good}
 use Rattle.candidate.proofs.candidate.Statement.{statement}
 use Rattle.candidate.proofs.candidate.Tie as tie
 
-word-refusal-requires : tie.Need-word-refusal-requires
-word-refusal-requires c κs = search needs
-
 returns : tie.Need-returns
 returns c =
     let r = c .before in
@@ -56,9 +53,6 @@ rebuild-requires c κs =
     let l = places-most (L .good) in
     (L .good, (L .size, (omega arith, (simp length-take (omega arith), omega arith))))
 
-same-length : tie.Need-same-length
-same-length c = search needs
-
 returns-4 : tie.Need-returns-4
 returns-4 c =
     let L = shaped (c .before .before .before .before .before .before .before .before) in
@@ -68,12 +62,12 @@ pub candidate-spec : {M : Type 1} → statement M
 candidate-spec =
     tie.close
     (tie.spec
-    word-refusal-requires
+    (let a : tie.Need-word-refusal-requires = λ c κs. search needs in a)
     returns
     returns-2
     returns-3
     array-borrow-prefix-bound
     slice-aggregate-rebuild
     rebuild-requires
-    same-length
+    (let a : tie.Need-same-length = λ c. search needs in a)
     returns-4)

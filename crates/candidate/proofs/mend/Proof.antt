@@ -7,12 +7,6 @@ use Rattle.code_engine.specs.WeightsLaws.{few-at}
 use Rattle.candidate.proofs.mend.Statement.{statement}
 use Rattle.candidate.proofs.mend.Tie as tie
 
-free-places-requires : tie.Need-free-places-requires
-free-places-requires c κs = search needs
-
-across-requires : tie.Need-across-requires
-across-requires c κs = search needs
-
 mend-one-requires : tie.Need-mend-one-requires
 mend-one-requires c κs =
     let x = c .before .before .before in
@@ -24,9 +18,6 @@ mend-one-requires c κs =
       s .pre .0,
       (s .pre .1 .0, (omega arith, (few-at wide (s .pre .1 .1 .1) P (s .pre .1 .1 .0) 0 (omega arith), x .across .ensures .0 (s .pre .0) (s .pre .1 .0)))),
     )
-
-same-length : tie.Need-same-length
-same-length c = search needs
 
 returns : tie.Need-returns
 returns c =
@@ -56,9 +47,6 @@ mend-two-requires c κs =
       ),
     )
 
-same-length-2 : tie.Need-same-length-2
-same-length-2 c = search needs
-
 returns-2 : tie.Need-returns-2
 returns-2 c =
     let g = c .before .before in
@@ -66,9 +54,6 @@ returns-2 c =
       MendedIn.two (rw (t .if2 .taken) at (t .before .before .before .before .before .before .free-places .ensures .0)) (g .mend-two .ensures .0),
       g .mend-two .ensures .1,
     )
-
-same-length-3 : tie.Need-same-length-3
-same-length-3 c = search needs
 
 returns-3 : tie.Need-returns-3
 returns-3 c =
@@ -83,13 +68,13 @@ pub mend-spec : {M : Type 1} → statement M
 mend-spec =
     tie.close
     (tie.spec
-    free-places-requires
-    across-requires
+    (let a : tie.Need-free-places-requires = λ c κs. search needs in a)
+    (let a : tie.Need-across-requires = λ c κs. search needs in a)
     mend-one-requires
-    same-length
+    (let a : tie.Need-same-length = λ c. search needs in a)
     returns
     mend-two-requires
-    same-length-2
+    (let a : tie.Need-same-length-2 = λ c. search needs in a)
     returns-2
-    same-length-3
+    (let a : tie.Need-same-length-3 = λ c. search needs in a)
     returns-3)

@@ -11,33 +11,6 @@ use Rattle.code.specs.PairLaws.{two-met}
 use Rattle.candidate.proofs.two_unknowns.Statement.{statement}
 use Rattle.candidate.proofs.two_unknowns.Tie as tie
 
-shifted-product-requires : tie.Need-shifted-product-requires
-shifted-product-requires c κs = search needs
-
-shifted-product-requires-2 : tie.Need-shifted-product-requires-2
-shifted-product-requires-2 c κs = search needs
-
-inverse-requires : tie.Need-inverse-requires
-inverse-requires c κs = search needs
-
-shifted-product-requires-3 : tie.Need-shifted-product-requires-3
-shifted-product-requires-3 c κs = search needs
-
-shifted-product-requires-4 : tie.Need-shifted-product-requires-4
-shifted-product-requires-4 c κs = search needs
-
-shifted-product-requires-5 : tie.Need-shifted-product-requires-5
-shifted-product-requires-5 c κs = search needs
-
-shifted-product-requires-6 : tie.Need-shifted-product-requires-6
-shifted-product-requires-6 c κs = search needs
-
-shifted-product-requires-7 : tie.Need-shifted-product-requires-7
-shifted-product-requires-7 c κs = search needs
-
-shifted-product-requires-8 : tie.Need-shifted-product-requires-8
-shifted-product-requires-8 c κs = search needs
-
 -- the sum of two that are known
 sum-of : {x y a b : ℕ} → x ≡ a → y ≡ b → bitXor x y ≡ a ⊕ b
 sum-of {x} {y} e f = ⊕-bits x y ∙ ap₂ _⊕_ e f
@@ -62,13 +35,13 @@ pub two-unknowns-spec : {M : Type 1} → statement M
 two-unknowns-spec =
     tie.close
     (tie.spec
-    shifted-product-requires
-    shifted-product-requires-2
-    inverse-requires
-    shifted-product-requires-3
-    shifted-product-requires-4
-    shifted-product-requires-5
-    shifted-product-requires-6
-    shifted-product-requires-7
-    shifted-product-requires-8
+    (let a : tie.Need-shifted-product-requires = λ c κs. search needs in a)
+    (let a : tie.Need-shifted-product-requires-2 = λ c κs. search needs in a)
+    (let a : tie.Need-inverse-requires = λ c κs. search needs in a)
+    (let a : tie.Need-shifted-product-requires-3 = λ c κs. search needs in a)
+    (let a : tie.Need-shifted-product-requires-4 = λ c κs. search needs in a)
+    (let a : tie.Need-shifted-product-requires-5 = λ c κs. search needs in a)
+    (let a : tie.Need-shifted-product-requires-6 = λ c κs. search needs in a)
+    (let a : tie.Need-shifted-product-requires-7 = λ c κs. search needs in a)
+    (let a : tie.Need-shifted-product-requires-8 = λ c κs. search needs in a)
     returns)

@@ -7,12 +7,6 @@ use Rattle.code_engine.specs.CandidateStepsLaws.{group-end, way-asked, way-give
 use Rattle.candidate.proofs.way.Statement.{statement}
 use Rattle.candidate.proofs.way.Tie as tie
 
-div-g : tie.Need-div-g
-div-g c = search needs
-
-rem-j : tie.Need-rem-j
-rem-j c = search needs
-
 mul-a : tie.Need-mul-a
 mul-a c =
     let s = c .before in
@@ -26,12 +20,6 @@ add-e c =
     let a = s .args in
     let e = group-end (a .m) (a .w) (a .c) (a .p) (s .pre .0) (s .pre .1 .0) in
     omega arith
-
-sub-direction : tie.Need-sub-direction
-sub-direction c = search needs
-
-part-direction-start : tie.Need-part-direction-start
-part-direction-start c = search needs
 
 part-direction-end : tie.Need-part-direction-end
 part-direction-end c =
@@ -61,12 +49,12 @@ pub way-spec : {M : Type 1} → statement M
 way-spec =
     tie.close
     (tie.spec
-    div-g
-    rem-j
+    (let a : tie.Need-div-g = λ c. search needs in a)
+    (let a : tie.Need-rem-j = λ c. search needs in a)
     mul-a
     add-e
-    sub-direction
-    part-direction-start
+    (let a : tie.Need-sub-direction = λ c. search needs in a)
+    (let a : tie.Need-part-direction-start = λ c. search needs in a)
     part-direction-end
     direction-requires
     returns)

@@ -1,64 +1,55 @@
-use Rattle.catalogue_calls.specs.Laws.{spot, looked-number, looked-bad, looked-unnamed, looked-none, looked-place}
-use Rattle.catalogue_calls.specs.Calls.{lookedNumber}
+use Rattle.catalogue_calls.specs.Laws.{spot, looked-bad, looked-unnamed, looked-none, looked-place}
+use Rattle.catalogue_scan.specs.Places.{FoundIn}
 use Rattle.catalogue_scan.specs.BufferLaws.{at-found, not-found}
+use Rattle.catalogue_text.specs.Names.{goodName}
 use borrow.Author.Tests.{not-true, not-false}
-use mathlib.Core.Path.{sym, ap, _∙_}
+use mathlib.Core.Bool.{true}
+use mathlib.Core.Path.{_≡_, sym, _∙_}
 use borrow.Author.Needs.{needs}
 use Rattle.catalogue_calls.proofs.lookup.Statement.{statement}
 use Rattle.catalogue_calls.proofs.lookup.Tie as tie
 
-scan-buffer-requires : tie.Need-scan-buffer-requires
-scan-buffer-requires c κs = search needs
+abbrev start : tie.After-is-name → tie.Start
+start k = k .before .before .before .before .before .before .before
 
-enum-told : tie.Need-enum-told
-enum-told c = search needs
+found : (k : tie.After-is-name) → let a = start k .args in FoundIn (k .before .before .found .given .0 .0) (a .buffer .now) (a .size) (a .name .now)
+found k = let a = start k .args in at-found (a .buffer .now) (a .size) (a .name .now) _ (cc)
 
-enum-known-found : tie.Need-enum-known-found
-enum-known-found c = search needs
-
-is-name-requires : tie.Need-is-name-requires
-is-name-requires c κs = search needs
+named : (k : tie.Else1) → goodName (start (k .before) .args .name .now) ≡ true
+named k = let r = k .before .is-name in sym (r .ensures) ∙ not-false (r .result) (k .if1 .left)
 
 returns : tie.Need-returns
 returns c =
-    let a = c .before .before .before .before .before .before .before .before .args in
-    let p = at-found (a .buffer .now) (a .size) (a .name .now) (c .before .before .before .found .given .0 .0) (cc) in
+    let a = start (c .before) .args in
     let r = c .before .is-name in
-    let e = looked-unnamed (a .buffer .now) (a .size) (a .name .now) (p .whole) (sym (r .ensures) ∙ not-true (r .result) (c .if1 .taken)) in
-    (e, ap lookedNumber e ∙ looked-number (a .buffer .now) (a .size) (a .name .now))
+    looked-unnamed (a .buffer .now) (a .size) (a .name .now) (found (c .before) .whole) (sym (r .ensures) ∙ not-true (r .result) (c .if1 .taken))
 
 returns-2 : tie.Need-returns-2
 returns-2 c =
-    let a = c .before .before .before .before .before .before .before .before .before .before .before .args in
-    let p = at-found (a .buffer .now) (a .size) (a .name .now) (c .before .before .before .before .before .before .found .given .0 .0) (cc) in
-    let r = c .before .before .before .before .is-name in
-    let e = looked-none (a .buffer .now) (a .size) (a .name .now) (p .whole) (sym (r .ensures) ∙ not-false (r .result) (c .before .before .before .if1 .left))
-    (sym (spot _ (a .buffer .now) (a .size) (a .name .now) p .m) ∙ c .if2 .taken) in
-    (e, ap lookedNumber e ∙ looked-number (a .buffer .now) (a .size) (a .name .now))
+    let k = c .before .before .before in
+    let a = start (k .before) .args in
+    let p = found (k .before) in
+    looked-none (a .buffer .now) (a .size) (a .name .now) (p .whole) (named k) (sym (spot _ (a .buffer .now) (a .size) (a .name .now) p .m) ∙ c .if2 .taken)
 
 returns-3 : tie.Need-returns-3
 returns-3 c =
     let a = c .before .before .before .before .before .args in
-    let e = looked-bad (a .buffer .now) (a .size) (a .name .now) (not-found (a .buffer .now) (a .size) (a .name .now) (cc)) in
-    (e, ap lookedNumber e ∙ looked-number (a .buffer .now) (a .size) (a .name .now))
+    looked-bad (a .buffer .now) (a .size) (a .name .now) (not-found (a .buffer .now) (a .size) (a .name .now) (cc))
 
 returns-4 : tie.Need-returns-4
 returns-4 c =
-    let a = c .before .before .before .before .before .before .before .before .before .before .before .args in
-    let p = at-found (a .buffer .now) (a .size) (a .name .now) (c .before .before .before .before .before .before .found .given .0 .0) (cc) in
-    let r = c .before .before .before .before .is-name in
-    let e = looked-place _ (a .buffer .now) (a .size) (a .name .now) p (sym (r .ensures) ∙ not-false (r .result)
-    (c .before .before .before .if1 .left)) (c .if2 .left) in
-    (e, ap lookedNumber e ∙ looked-number (a .buffer .now) (a .size) (a .name .now))
+    let k = c .before .before .before in
+    let a = start (k .before) .args in
+    looked-place _ (a .buffer .now) (a .size) (a .name .now) (found (k .before)) (named k) (c .if2 .left)
 
 pub lookup-spec : {M : Type 1} → statement M
 lookup-spec =
     tie.close
     (tie.spec
-    scan-buffer-requires
-    enum-told
-    enum-known-found
-    is-name-requires
+    (let a : tie.Need-scan-buffer-requires = λ c κs. search needs in a)
+    (let a : tie.Need-enum-told = λ c. search needs in a)
+    (let a : tie.Need-enum-known-found = λ c. search needs in a)
+    (let a : tie.Need-is-name-requires = λ c κs. search needs in a)
     returns
     returns-2
     returns-3

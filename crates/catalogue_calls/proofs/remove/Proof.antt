@@ -1,114 +1,89 @@
-use Rattle.catalogue_calls.specs.Laws.{spot, remove-number, remove-bad, remove-unnamed, remove-none, remove-other, remove-change}
-use Rattle.catalogue_calls.specs.Calls.{changedNumber}
+use Rattle.catalogue_calls.specs.Laws.{spot, remove-bad, remove-unnamed, remove-none, remove-other, remove-change}
+use Rattle.catalogue_calls.specs.Calls.{stored}
+use Rattle.catalogue_scan.specs.Places.{FoundIn}
 use Rattle.catalogue_scan.specs.BufferLaws.{at-found, not-found}
+use Rattle.catalogue_text.specs.Names.{goodName}
 use borrow.Author.Tests.{not-true, not-false}
-use mathlib.Core.Path.{sym, ap, _∙_}
+use mathlib.Core.Bool.{true}
+use mathlib.Core.Path.{_≡_, sym, _∙_}
 use borrow.Author.Needs.{needs}
 use Rattle.catalogue_calls.proofs.remove.Statement.{statement}
 use Rattle.catalogue_calls.proofs.remove.Tie as tie
 
-scan-buffer-requires : tie.Need-scan-buffer-requires
-scan-buffer-requires c κs = search needs
+abbrev start : tie.After-is-name → tie.Start
+start k = k .before .before .before .before .before .before .before .before
 
-enum-told : tie.Need-enum-told
-enum-told c = search needs
-
-enum-known-found : tie.Need-enum-known-found
-enum-known-found c = search needs
-
-is-name-requires : tie.Need-is-name-requires
-is-name-requires c κs = search needs
-
-same-length : tie.Need-same-length
-same-length c = search needs
+found : (k : tie.After-is-name) → let a = start k .args in FoundIn (k .before .before .found .given .0 .0) (a .buffer .now) (a .size) (a .name .now)
+found k = let a = start k .args in at-found (a .buffer .now) (a .size) (a .name .now) _ (cc)
 
 returns : tie.Need-returns
 returns c =
-    let a = c .before .before .before .before .before .before .before .before .before .args in
-    let p = at-found (a .buffer .now) (a .size) (a .name .now) (c .before .before .before .found .given .0 .0) (cc) in
-    let r = c .before .is-name in
-    let e = remove-unnamed (a .name .now) (a .expected) (a .buffer .now) (a .size) (p .whole) (sym (r .ensures) ∙ not-true (r .result) (c .if1 .taken)) in
-    (e .0, (ap changedNumber (e .0) ∙ remove-number (a .name .now) (a .expected) (a .buffer .now) (a .size), e .1))
+    let k = c .before in
+    let a = start k .args in
+    remove-unnamed (a .name .now) (a .expected) (a .buffer .now) (a .size) (found k .whole)
+    (sym (k .is-name .ensures) ∙ not-true (k .is-name .result) (c .if1 .taken))
 
-same-length-2 : tie.Need-same-length-2
-same-length-2 c = search needs
+named : (k : tie.Else1) → goodName (start (k .before) .args .name .now) ≡ true
+named k = let r = k .before .is-name in sym (r .ensures) ∙ not-false (r .result) (k .if1 .left)
 
 returns-2 : tie.Need-returns-2
 returns-2 c =
-    let a = c .before .before .before .before .before .before .before .before .before .before .before .args in
-    let p = at-found (a .buffer .now) (a .size) (a .name .now) (c .before .before .before .before .before .found .given .0 .0) (cc) in
-    let r = c .before .before .before .is-name in
-    let s = spot _ (a .buffer .now) (a .size) (a .name .now) p in
-    let e = remove-none (a .name .now) (a .expected) (a .buffer .now) (a .size) (p .whole) (sym (r .ensures) ∙ not-false (r .result)
-    (c .before .before .if1 .left)) (sym (s .m) ∙ c .if2 .taken) in
-    (e .0, (ap changedNumber (e .0) ∙ remove-number (a .name .now) (a .expected) (a .buffer .now) (a .size), e .1))
+    let k = c .before .before in
+    let a = start (k .before) .args in
+    let p = found (k .before) in
+    remove-none (a .name .now) (a .expected) (a .buffer .now) (a .size) (p .whole) (named k)
+    (sym (spot _ (a .buffer .now) (a .size) (a .name .now) p .m) ∙ c .if2 .taken)
 
-cast-if3 : tie.Need-cast-if3
-cast-if3 c = search needs
-
-same-length-3 : tie.Need-same-length-3
-same-length-3 c = search needs
+there : (k : tie.Else2) → let a = start (k .before .before .before) .args in (stored (a .buffer .now) (a .size) (a .name .now)) .m ≡ 0 → ⊥
+there k z =
+    let a = start (k .before .before .before) .args in
+    k .if2 .left (spot _ (a .buffer .now) (a .size) (a .name .now) (found (k .before .before .before)) .m ∙ z)
 
 returns-3 : tie.Need-returns-3
 returns-3 c =
-    let a = c .before .before .before .before .before .before .before .before .before .before .before .before .before .args in
-    let p = at-found (a .buffer .now) (a .size) (a .name .now) (c .before .before .before .before .before .before .before .found .given .0 .0) (cc) in
-    let r = c .before .before .before .before .before .is-name in
-    let s = spot _ (a .buffer .now) (a .size) (a .name .now) p in
-    let e = remove-other (a .name .now) (a .expected) (a .buffer .now) (a .size) (p .whole) (sym (r .ensures) ∙ not-false (r .result)
-    (c .before .before .before .before .if1 .left)) (λ z. c .before .before .if2 .left (s .m ∙ z)) (λ z. c .if3 .taken (s .revision ∙ z)) in
-    (e .0, (ap changedNumber (e .0) ∙ remove-number (a .name .now) (a .expected) (a .buffer .now) (a .size), e .1))
+    let e = c .before .before in
+    let k = e .before .before in
+    let a = start (k .before) .args in
+    let p = found (k .before) in
+    remove-other (a .name .now) (a .expected) (a .buffer .now) (a .size) (p .whole) (named k) (there e)
+    (λ z. c .if3 .taken (spot _ (a .buffer .now) (a .size) (a .name .now) p .revision ∙ z))
 
 change-requires : tie.Need-change-requires
-change-requires c κs =
-    let a = c .before .before .before .before .before .before .before .before .before .before .before .before .before .before .args in
-    let p = at-found (a .buffer .now) (a .size) (a .name .now) (c .before .before .before .before .before .before .before .before .found .given .0 .0) (cc) in
-    let r = c .before .before .before .before .before .before .is-name in
-    (p, (sym (r .ensures) ∙ not-false (r .result) (c .before .before .before .before .before .if1 .left)))
-
-same-length-4 : tie.Need-same-length-4
-same-length-4 c = search needs
+change-requires c κs = let k = c .before .before .before .before .before in (found (k .before), named k)
 
 returns-4 : tie.Need-returns-4
 returns-4 c =
     let a = c .before .before .before .before .before .before .args in
-    let e = remove-bad (a .name .now) (a .expected) (a .buffer .now) (a .size) (not-found (a .buffer .now) (a .size) (a .name .now) (cc)) in
-    (e .0, (ap changedNumber (e .0) ∙ remove-number (a .name .now) (a .expected) (a .buffer .now) (a .size), e .1))
-
-same-length-5 : tie.Need-same-length-5
-same-length-5 c = search needs
+    remove-bad (a .name .now) (a .expected) (a .buffer .now) (a .size) (not-found (a .buffer .now) (a .size) (a .name .now) (cc))
 
 returns-5 : tie.Need-returns-5
 returns-5 c =
-    let a = c .before .before .before .before .before .before .before .before .before .before .before .before .before .before .before .before .before .args in
-    let p = at-found (a .buffer .now) (a .size) (a .name .now)
-    (c .before .before .before .before .before .before .before .before .before .before .before .found .given .0 .0) (cc) in
-    let r = c .before .before .before .before .before .before .before .before .before .is-name in
-    let s = spot _ (a .buffer .now) (a .size) (a .name .now) p in
-    let d = c .before .before .change .ensures in
-    let f = remove-change (a .name .now) (a .expected) (a .buffer .now) (a .size) (p .whole) (sym (r .ensures) ∙ not-false (r .result)
-    (c .before .before .before .before .before .before .before .before .if1 .left)) (λ z. c .before .before .before .before .before .before .if2 .left
-    (s .m ∙ z)) (sym (s .revision) ∙ c .before .before .before .before .if3 .left) in
-    let r₀ = d .0 ∙ f .0 in
-    (r₀, (ap changedNumber r₀ ∙ remove-number (a .name .now) (a .expected) (a .buffer .now) (a .size), d .1 ∙ f .1))
+    let o = c .before .before .before .before in
+    let e = o .before .before in
+    let k = e .before .before in
+    let a = start (k .before) .args in
+    let p = found (k .before) in
+    remove-change (a .name .now) (a .expected) (a .buffer .now) (a .size) (p .whole) (named k) (there e)
+    (sym (spot _ (a .buffer .now) (a .size) (a .name .now) p .revision) ∙ o .if3 .left) (c .before .before .change .result)
+    _ (c .before .before .change .ensures)
 
 pub remove-spec : {M : Type 1} → statement M
 remove-spec =
     tie.close
     (tie.spec
-    scan-buffer-requires
-    enum-told
-    enum-known-found
-    is-name-requires
-    same-length
+    (let a : tie.Need-scan-buffer-requires = λ c κs. search needs in a)
+    (let a : tie.Need-enum-told = λ c. search needs in a)
+    (let a : tie.Need-enum-known-found = λ c. search needs in a)
+    (let a : tie.Need-is-name-requires = λ c κs. search needs in a)
+    (let a : tie.Need-same-length = λ c. search needs in a)
     returns
-    same-length-2
+    (let a : tie.Need-same-length-2 = λ c. search needs in a)
     returns-2
-    cast-if3
-    same-length-3
+    (let a : tie.Need-cast-if3 = λ c. search needs in a)
+    (let a : tie.Need-same-length-3 = λ c. search needs in a)
     returns-3
     change-requires
-    same-length-4
+    (let a : tie.Need-same-length-4 = λ c. search needs in a)
     returns-4
-    same-length-5
+    (let a : tie.Need-same-length-5 = λ c. search needs in a)
     returns-5)

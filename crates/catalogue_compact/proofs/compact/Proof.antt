@@ -1,50 +1,44 @@
-use Rattle.catalogue_compact.specs.Laws.{compact-number, compact-bad, lines-at, compact-none, compact-room, compact-done}
-use Rattle.catalogue_compact.specs.Compaction.{compactedNumber}
+use Rattle.catalogue_compact.specs.Laws.{compact-bad, lines-at, compact-none, Compacts, compacts}
+use Rattle.catalogue_scan.specs.Places.{FoundIn}
 use Rattle.catalogue_scan.specs.BufferLaws.{at-found, not-found}
 use Rattle.catalogue_lines.specs.SpliceLaws.{row-line, row-room}
 use mathlib.Core.List.{[]}
 use lib.Seq.{length-take-le}
 use native.Mathlib.Omega.{arith}
-use mathlib.Core.Path.{_≡_, refl, sym, ap, _∙_}
+use mathlib.Core.Path.{sym}
 use borrow.Author.Needs.{needs}
 use Rattle.catalogue_compact.proofs.compact.Statement.{statement}
 use Rattle.catalogue_compact.proofs.compact.Tie as tie
 
-slice-aggregate-scan-buffer : tie.Need-slice-aggregate-scan-buffer
-slice-aggregate-scan-buffer c = search needs
+abbrev start : tie.After-found → tie.Start
+start k = k .before .before .before .before .before .before
 
-scan-buffer-requires : tie.Need-scan-buffer-requires
-scan-buffer-requires c κs = search needs
-
-enum-told : tie.Need-enum-told
-enum-told c = search needs
-
-enum-known-found : tie.Need-enum-known-found
-enum-known-found c = search needs
-
-same-length : tie.Need-same-length
-same-length c = search needs
+found : (k : tie.After-found) → let a = start k .args in FoundIn (k .found .given .0 .0) (a .buffer .now) (a .size) []
+found k = let a = start k .args in at-found (a .buffer .now) (a .size) [] _ (cc)
 
 returns : tie.Need-returns
 returns c =
-    let a = c .before .before .before .before .before .before .before .before .before .args in
-    let found = c .before .before .before .found .given .0 .0 in
-    let p = at-found (a .buffer .now) (a .size) [] found (cc) in
-    let e = compact-none found (a .buffer .now) (a .size) [] p (c .if1 .taken) in
-    (e .0, (ap compactedNumber (e .0) ∙ compact-number (a .buffer .now) (a .size), e .1))
+    let k = c .before .before .before in
+    let a = start k .args in
+    compact-none _ (a .buffer .now) (a .size) [] (found k) (c .if1 .taken)
 
 drop-gone-requires : tie.Need-drop-gone-requires
 drop-gone-requires c κs =
-    let a = c .before .before .before .before .before .before .before .before .before .before .args in
-    let found = c .before .before .before .before .found .given .0 .0 in
-    let p = at-found (a .buffer .now) (a .size) [] found (cc) in
-    lines-at found (a .buffer .now) (a .size) [] p
+    let k = c .before .before .before .before in
+    let a = start k .args in
+    lines-at _ (a .buffer .now) (a .size) [] (found k)
 
-larger-requires : tie.Need-larger-requires
-larger-requires c κs = search needs
-
-first-line-requires : tie.Need-first-line-requires
-first-line-requires c κs = search needs
+-- the gone lines are dropped
+dropped : (k : tie.After-larger) → let f = k .before .before .before .before .before .before .before .before in
+    let a = start f .args in
+    let d = k .before .before .before .drop-gone in
+    Compacts (f .found .given .0 .0) (a .buffer .now) (a .size) (k .larger .result) (d .result) (d .last .0)
+dropped k =
+    let e = k .before .before .before .before .before in
+    let f = e .before .before .before in
+    let a = start f .args in
+    let d = k .before .before .before .drop-gone in
+    compacts _ (a .buffer .now) (a .size) [] (found f) (e .if1 .left) _ (k .larger .ensures) _ _ (d .ensures .0) (d .ensures .1)
 
 array-share-prefix-line : tie.Need-array-share-prefix-line
 array-share-prefix-line c = row-room (c .before .before .first-line .result) _ (c .before .before .first-line .ensures)
@@ -55,93 +49,47 @@ slice-aggregate-splice c =
     sym (length-take-le (row .result .length) (row .result .bytes) (row-room (row .result) _ (row .ensures)))
 
 splice-requires : tie.Need-splice-requires
-splice-requires c κs = search needs
+splice-requires c κs =
+    let r = c .before .before .before in
+    rw (row-line (r .first-line .result) _ (r .first-line .ensures)) (dropped (r .before) .fits)
 
 sub-t24 : tie.Need-sub-t24
-sub-t24 c =
-    let a = c .before .before .before .before .before .before .before .before .before .before .before .before .before .before .before .before
-    .before .before .before .before .before .before .args in
-    let found = c .before .before .before .before .before .before .before .before .before .before .before .before .before .before .before
-    .before .found .given .0 .0 in
-    let p = at-found (a .buffer .now) (a .size) [] found (cc) in
-    let d = c .before .before .before .before .before .before .before .before .before .before .before .drop-gone in
-    let row = c .before .before .before .before .before .before .before .first-line in
-    let h = row .ensures in
-    let z = h .size in
-    let g = c .before .before .before .before .before .before .before .before .larger .ensures in
-    let r = compact-room found (a .buffer .now) (a .size) [] p
-    (c .before .before .before .before .before .before .before .before .before .before .before .before .before .if1 .left)
-    (c .before .before .before .before .before .before .before .before .larger .result) g (d .last .0) (d .result) (d .ensures .0)
-    (d .ensures .1) in
-    omega (arith, r .0, r .1)
+sub-t24 c = let d = dropped (c .before .before .before .before .before .before .before .before) in omega arith
 
 add-t25 : tie.Need-add-t25
-add-t25 c =
-    let a = c .before .before .before .before .before .before .before .before .before .before .before .before .before .before .before .before
-    .before .before .before .before .before .before .args in
-    let found = c .before .before .before .before .before .before .before .before .before .before .before .before .before .before .before
-    .before .found .given .0 .0 in
-    let p = at-found (a .buffer .now) (a .size) [] found (cc) in
-    let d = c .before .before .before .before .before .before .before .before .before .before .before .drop-gone in
-    let row = c .before .before .before .before .before .before .before .first-line in
-    let h = row .ensures in
-    let z = h .size in
-    let g = c .before .before .before .before .before .before .before .before .larger .ensures in
-    let r = compact-room found (a .buffer .now) (a .size) [] p
-    (c .before .before .before .before .before .before .before .before .before .before .before .before .before .if1 .left)
-    (c .before .before .before .before .before .before .before .before .larger .result) g (d .last .0) (d .result) (d .ensures .0)
-    (d .ensures .1) in
-    omega (arith, r .0, r .1)
-
-same-length-2 : tie.Need-same-length-2
-same-length-2 c = search needs
+add-t25 c = let d = dropped (c .before .before .before .before .before .before .before .before) in omega arith
 
 returns-2 : tie.Need-returns-2
 returns-2 c =
     let a = c .before .before .before .before .before .before .args in
-    let e = compact-bad (a .buffer .now) (a .size) (not-found (a .buffer .now) (a .size) [] (cc)) in
-    (e .0, (ap compactedNumber (e .0) ∙ compact-number (a .buffer .now) (a .size), e .1))
-
-same-length-3 : tie.Need-same-length-3
-same-length-3 c = search needs
+    compact-bad (a .buffer .now) (a .size) (not-found (a .buffer .now) (a .size) [] (cc))
 
 returns-3 : tie.Need-returns-3
 returns-3 c =
-    let a = c .before .before .before .before .before .before .before .before .before .before .before .before .before .before .before .before
-    .before .before .before .before .before .before .args in
-    let found = c .before .before .before .before .before .before .before .before .before .before .before .before .before .before .before
-    .before .found .given .0 .0 in
-    let p = at-found (a .buffer .now) (a .size) [] found (cc) in
-    let d = c .before .before .before .before .before .before .before .before .before .before .before .drop-gone in
-    let row = c .before .before .before .before .before .before .before .first-line in
-    let h = row .ensures in
-    let z = h .size in
-    let g = c .before .before .before .before .before .before .before .before .larger .ensures in
-    let e = compact-done found (a .buffer .now) (a .size) [] p
-    (c .before .before .before .before .before .before .before .before .before .before .before .before .before .if1 .left)
-    (c .before .before .before .before .before .before .before .before .larger .result) g (d .last .0) (d .result) (d .ensures .0)
-    (d .ensures .1) (c .before .before .before .splice .last .0) (rw (row-line (row .result) _ h) at (c .before .before .before .splice .ensures .0)) in
-    rw z (e .0, (ap compactedNumber (e .0) ∙ compact-number (a .buffer .now) (a .size), e .1))
+    let r = c .before .before .before .before .before .before .before in
+    let p = c .before .before .before .splice in
+    rw (r .first-line .ensures .size)
+    (dropped (r .before) .done (p .last .0) (rw (row-line (r .first-line .result) _ (r .first-line .ensures)) at (p .ensures)))
 
 pub compact-spec : {M : Type 1} → statement M
 compact-spec =
     tie.close
     (tie.spec
-    slice-aggregate-scan-buffer
-    scan-buffer-requires
-    enum-told
-    enum-known-found
-    same-length
+    (let a : tie.Need-slice-aggregate-scan-buffer = λ c. search needs in a)
+    (let a : tie.Need-scan-buffer-requires = λ c κs. search needs in a)
+    (let a : tie.Need-enum-told = λ c. search needs in a)
+    (let a : tie.Need-enum-known-found = λ c. search needs in a)
+    (let a : tie.Need-same-length = λ c. search needs in a)
     returns
     drop-gone-requires
-    larger-requires
-    first-line-requires
+    (let a : tie.Need-larger-requires = λ c κs. search needs in a)
+    (let a : tie.Need-first-line-requires = λ c κs. search needs in a)
     array-share-prefix-line
     slice-aggregate-splice
     splice-requires
     sub-t24
     add-t25
-    same-length-2
+    (let a : tie.Need-same-length-2 = λ c. search needs in a)
     returns-2
-    same-length-3
+    (let a : tie.Need-same-length-3 = λ c. search needs in a)
     returns-3)

@@ -8,8 +8,8 @@ use Rattle.catalogue_compact.proofs.keep_line.Tie as tie
 returns : tie.Need-returns
 returns c = rw (eq-eqb (c .before .before .args .m) 0 (c .if1 .taken)) (refl, refl)
 
-shift-down-requires : tie.Need-shift-down-requires
-shift-down-requires c κs = search needs
+move-down-requires : tie.Need-move-down-requires
+move-down-requires c κs = search needs
 
 sub-result : tie.Need-sub-result
 sub-result c = search needs
@@ -22,12 +22,9 @@ same-length c = search needs
 
 returns-2 : tie.Need-returns-2
 returns-2 c =
-    rw (ne-eqb (c .before .before .before .before .before .before .args .m) 0 (c .before .before .before .before .if1 .left)) (
-      refl,
-      c .before .before .shift-down .ensures .0 (c .before .before .before .before .before .before .pre .0)
-          (c .before .before .before .before .before .before .pre .1) (c .before .before .before .before .before .before .pre .2),
-    )
+    let k = c .before .before .before .before in
+    rw (ne-eqb (k .before .before .args .m) 0 (k .if1 .left)) (refl, c .before .before .move-down .ensures)
 
 pub keep-line-spec : {M : Type 1} → statement M
 keep-line-spec =
-    tie.close (tie.spec returns shift-down-requires sub-result add-result same-length returns-2)
+    tie.close (tie.spec returns move-down-requires sub-result add-result same-length returns-2)

@@ -1,13 +1,9 @@
 use Rattle.catalogue_lines.specs.Splice.{HoldsRow}
 use Rattle.catalogue_lines.specs.SpliceLaws.{gone-is, shaped-is}
-use native.Mathlib.Omega.{arith}
-use mathlib.Core.Path.{refl, subst}
+use mathlib.Core.Path.{subst}
 use borrow.Author.Needs.{needs}
 use Rattle.catalogue_lines.proofs.entry_line.Statement.{statement}
 use Rattle.catalogue_lines.proofs.entry_line.Tie as tie
-
-returns : tie.Need-returns
-returns c = ((λ l. absurd (omega arith)), λ l. record { size = refl; most = omega arith; contents = refl })
 
 slice-aggregate-row-with : tie.Need-slice-aggregate-row-with
 slice-aggregate-row-with c = search needs
@@ -15,32 +11,18 @@ slice-aggregate-row-with c = search needs
 row-with-requires : tie.Need-row-with-requires
 row-with-requires c κs = search needs
 
-returns-2 : tie.Need-returns-2
-returns-2 c =
-    let a = c .before .before .before .before .before .args in (
-      (λ l. subst (HoldsRow (c .row-with .result)) (gone-is (a .name .now) (a .revision) (a .m) (a .w) (a .c) (c .before .before .if2 .taken))
-          (c .row-with .ensures)),
-      λ l. absurd (omega arith),
-    )
+returns : tie.Need-returns
+returns c =
+    let a = c .before .before .before .before .args in
+    subst (HoldsRow (c .row-with .result)) (gone-is (a .name .now) (a .revision) (a .m) (a .w) (a .c) (c .before .before .if1 .taken)) (c .row-with .ensures)
 
 shaped-line-requires : tie.Need-shaped-line-requires
 shaped-line-requires c κs = search needs
 
-returns-3 : tie.Need-returns-3
-returns-3 c =
-    let a = c .before .before .before .before .args in (
-      (λ l. subst (HoldsRow (c .shaped-line .result)) (shaped-is (a .name .now) (a .revision) (a .m) (a .w) (a .c) (c .before .if2 .left))
-          (c .shaped-line .ensures)),
-      λ l. absurd (omega arith),
-    )
+returns-2 : tie.Need-returns-2
+returns-2 c =
+    let a = c .before .before .before .args in
+    subst (HoldsRow (c .shaped-line .result)) (shaped-is (a .name .now) (a .revision) (a .m) (a .w) (a .c) (c .before .if1 .left)) (c .shaped-line .ensures)
 
 pub entry-line-spec : {M : Type 1} → statement M
-entry-line-spec =
-    tie.close
-    (tie.spec
-    returns
-    slice-aggregate-row-with
-    row-with-requires
-    returns-2
-    shaped-line-requires
-    returns-3)
+entry-line-spec = tie.close (tie.spec slice-aggregate-row-with row-with-requires returns shaped-line-requires returns-2)

@@ -10,24 +10,6 @@ use Rattle.catalogue_lines.proofs.field_after.Tie as tie
 returns : tie.Need-returns
 returns c = let a = c .before .before .args in (sym (field-none (a .line .now) (a .at) (omega arith)), λ h. h)
 
-add-start : tie.Need-add-start
-add-start c = search needs
-
-part-end-requires : tie.Need-part-end-requires
-part-end-requires c κs = search needs
-
-sub-number : tie.Need-sub-number
-sub-number c = search needs
-
-part-number-start : tie.Need-part-number-start
-part-number-start c = search needs
-
-part-number-end : tie.Need-part-number-end
-part-number-end c = search needs
-
-number-requires : tie.Need-number-requires
-number-requires c κs = search needs
-
 returns-2 : tie.Need-returns-2
 returns-2 c =
     let a = c .before .before .before .before .before .args in
@@ -41,10 +23,10 @@ field-after-spec =
     tie.close
     (tie.spec
     returns
-    add-start
-    part-end-requires
-    sub-number
-    part-number-start
-    part-number-end
-    number-requires
+    (let a : tie.Need-add-start = λ c. search needs in a)
+    (let a : tie.Need-part-end-requires = λ c κs. search needs in a)
+    (let a : tie.Need-sub-number = λ c. search needs in a)
+    (let a : tie.Need-part-number-start = λ c. search needs in a)
+    (let a : tie.Need-part-number-end = λ c. search needs in a)
+    (let a : tie.Need-number-requires = λ c κs. search needs in a)
     returns-2)

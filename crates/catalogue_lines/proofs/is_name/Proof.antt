@@ -24,24 +24,12 @@ returns-2 c = sym (name-long _ (c .if2 .taken))
 loop-holds : tie.Need-loop-holds Inv-loop μ-loop
 loop-holds c = (omega arith, c .before .if1 .left, omega arith, refl)
 
-shared-slice-read-is-name-byte : tie.Need-shared-slice-read-is-name-byte Inv-loop μ-loop
-shared-slice-read-is-name-byte c = omega arith
-
-is-name-byte-requires : tie.Need-is-name-byte-requires Inv-loop μ-loop
-is-name-byte-requires c κs = search needs
-
 returns-3 : tie.Need-returns-3 Inv-loop μ-loop
 returns-3 c =
     let l = c .before .before .before .before .loop in
     let n = c .before .before .before .before .before .before .before .before .args .name .now in
     let r = c .before .is-name-byte in
     sym (name-bytes n (l .inv .1) (l .inv .2) ∙ sym (l .inv .3) ∙ name-stop n (l .i) (omega arith) (sym (r .ensures) ∙ not-true (r .result) (c .if3 .taken)))
-
-add-i : tie.Need-add-i Inv-loop μ-loop
-add-i c = omega arith
-
-loop-less : tie.Need-loop-less Inv-loop μ-loop
-loop-less c = omega arith
 
 loop-again : tie.Need-loop-again Inv-loop μ-loop
 loop-again c =
@@ -65,10 +53,10 @@ is-name-spec =
     returns
     returns-2
     loop-holds
-    shared-slice-read-is-name-byte
-    is-name-byte-requires
+    (let a : tie.Need-shared-slice-read-is-name-byte Inv-loop μ-loop = λ c. omega arith in a)
+    (let a : tie.Need-is-name-byte-requires Inv-loop μ-loop = λ c κs. search needs in a)
     returns-3
-    add-i
-    loop-less
+    (let a : tie.Need-add-i Inv-loop μ-loop = λ c. omega arith in a)
+    (let a : tie.Need-loop-less Inv-loop μ-loop = λ c. omega arith in a)
     loop-again
     returns-4)

@@ -5,33 +5,12 @@ use borrow.Author.Needs.{needs}
 use Rattle.catalogue_lines.proofs.line_if.Statement.{statement}
 use Rattle.catalogue_lines.proofs.line_if.Tie as tie
 
-unread-requires : tie.Need-unread-requires
-unread-requires c κs = search needs
-
 returns : tie.Need-returns
 returns c = let a = c .before .before .args in c .unread .ensures ∙ sym (revision-none (a .size) (a .revision) (a .m) (a .w) (a .c) (c .before .if1 .taken))
-
-unread-requires-2 : tie.Need-unread-requires-2
-unread-requires-2 c κs = search needs
 
 returns-2 : tie.Need-returns-2
 returns-2 c =
     let a = c .before .before .before .args in c .unread2 .ensures ∙ sym (revision-high (a .size) (a .revision) (a .m) (a .w) (a .c) (c .before .if2 .taken))
-
-new-requires : tie.Need-new-requires
-new-requires c κs = search needs
-
-enum-known-r : tie.Need-enum-known-r
-enum-known-r c = search needs
-
-unread-requires-3 : tie.Need-unread-requires-3
-unread-requires-3 c κs = search needs
-
-enum-known-s : tie.Need-enum-known-s
-enum-known-s c = search needs
-
-cast-t11 : tie.Need-cast-t11
-cast-t11 c = search needs
 
 returns-3 : tie.Need-returns-3
 returns-3 c =
@@ -52,14 +31,14 @@ pub line-if-spec : {M : Type 1} → statement M
 line-if-spec =
     tie.close
     (tie.spec
-    unread-requires
+    (let a : tie.Need-unread-requires = λ c κs. search needs in a)
     returns
-    unread-requires-2
+    (let a : tie.Need-unread-requires-2 = λ c κs. search needs in a)
     returns-2
-    new-requires
-    enum-known-r
-    unread-requires-3
-    enum-known-s
-    cast-t11
+    (let a : tie.Need-new-requires = λ c κs. search needs in a)
+    (let a : tie.Need-enum-known-r = λ c. search needs in a)
+    (let a : tie.Need-unread-requires-3 = λ c κs. search needs in a)
+    (let a : tie.Need-enum-known-s = λ c. search needs in a)
+    (let a : tie.Need-cast-t11 = λ c. search needs in a)
     returns-3
     returns-4)

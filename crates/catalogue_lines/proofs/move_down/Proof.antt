@@ -19,24 +19,6 @@ abbrev μ-loop : tie.MeasureT-loop
 loop-holds : tie.Need-loop-holds Inv-loop μ-loop
 loop-holds c = let a = c .args in (omega arith, omega arith, refl, move-none (a .buffer .now) (a .to) (a .from) (drop (a .from) (a .buffer .now)))
 
-slice-read-buffer : tie.Need-slice-read-buffer Inv-loop μ-loop
-slice-read-buffer c = omega arith
-
-sub-buffer : tie.Need-sub-buffer Inv-loop μ-loop
-sub-buffer c = omega arith
-
-add-buffer : tie.Need-add-buffer Inv-loop μ-loop
-add-buffer c = omega arith
-
-slice-write-buffer : tie.Need-slice-write-buffer Inv-loop μ-loop
-slice-write-buffer c = omega arith
-
-add-i : tie.Need-add-i Inv-loop μ-loop
-add-i c = omega arith
-
-loop-less : tie.Need-loop-less Inv-loop μ-loop
-loop-less c = omega arith
-
 loop-again : tie.Need-loop-again Inv-loop μ-loop
 loop-again c =
     let l = c .before .before .loop in
@@ -47,9 +29,6 @@ loop-again c =
       down-more (a .buffer .now) (l .buffer) (a .from) (a .end) (a .to) (l .i) (omega arith)
           (omega arith) (omega arith) (l .inv .3),
     )
-
-same-length : tie.Need-same-length Inv-loop μ-loop
-same-length c = omega arith
 
 returns : tie.Need-returns Inv-loop μ-loop
 returns c =
@@ -65,12 +44,12 @@ move-down-spec =
     Inv-loop
     μ-loop
     loop-holds
-    slice-read-buffer
-    sub-buffer
-    add-buffer
-    slice-write-buffer
-    add-i
-    loop-less
+    (let a : tie.Need-slice-read-buffer Inv-loop μ-loop = λ c. omega arith in a)
+    (let a : tie.Need-sub-buffer Inv-loop μ-loop = λ c. omega arith in a)
+    (let a : tie.Need-add-buffer Inv-loop μ-loop = λ c. omega arith in a)
+    (let a : tie.Need-slice-write-buffer Inv-loop μ-loop = λ c. omega arith in a)
+    (let a : tie.Need-add-i Inv-loop μ-loop = λ c. omega arith in a)
+    (let a : tie.Need-loop-less Inv-loop μ-loop = λ c. omega arith in a)
     loop-again
-    same-length
+    (let a : tie.Need-same-length Inv-loop μ-loop = λ c. omega arith in a)
     returns)

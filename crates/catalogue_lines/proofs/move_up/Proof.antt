@@ -16,30 +16,9 @@ Inv-loop buffer₀ from end to i₀ j₀ buffer i j =
 abbrev μ-loop : tie.MeasureT-loop
 μ-loop buffer₀ from end to i₀ j₀ buffer i j = i
 
-sub-j : tie.Need-sub-j Inv-loop μ-loop
-sub-j c = omega arith
-
-add-j : tie.Need-add-j Inv-loop μ-loop
-add-j c = omega arith
-
 loop-holds : tie.Need-loop-holds Inv-loop μ-loop
 loop-holds c =
     let a = c .args in (omega arith, omega arith, refl, refl, move-none (a .buffer .now) (a .to + (a .end - a .from)) (a .end) (drop (a .end) (a .buffer .now)))
-
-sub-i : tie.Need-sub-i Inv-loop μ-loop
-sub-i c = omega arith
-
-sub-j-2 : tie.Need-sub-j-2 Inv-loop μ-loop
-sub-j-2 c = omega arith
-
-slice-read-buffer : tie.Need-slice-read-buffer Inv-loop μ-loop
-slice-read-buffer c = omega arith
-
-slice-write-buffer : tie.Need-slice-write-buffer Inv-loop μ-loop
-slice-write-buffer c = omega arith
-
-loop-less : tie.Need-loop-less Inv-loop μ-loop
-loop-less c = omega arith
 
 loop-again : tie.Need-loop-again Inv-loop μ-loop
 loop-again c =
@@ -52,9 +31,6 @@ loop-again c =
       up-more (a .buffer .now) (l .buffer) (a .from) (a .end) (a .to) (l .i) (omega arith) (omega arith) (omega arith) (omega arith) (l .j) (l .inv .2)
           (l .inv .4),
     )
-
-same-length : tie.Need-same-length Inv-loop μ-loop
-same-length c = omega arith
 
 returns : tie.Need-returns Inv-loop μ-loop
 returns c =
@@ -70,14 +46,14 @@ move-up-spec =
     (tie.spec
     Inv-loop
     μ-loop
-    sub-j
-    add-j
+    (let a : tie.Need-sub-j Inv-loop μ-loop = λ c. omega arith in a)
+    (let a : tie.Need-add-j Inv-loop μ-loop = λ c. omega arith in a)
     loop-holds
-    sub-i
-    sub-j-2
-    slice-read-buffer
-    slice-write-buffer
-    loop-less
+    (let a : tie.Need-sub-i Inv-loop μ-loop = λ c. omega arith in a)
+    (let a : tie.Need-sub-j-2 Inv-loop μ-loop = λ c. omega arith in a)
+    (let a : tie.Need-slice-read-buffer Inv-loop μ-loop = λ c. omega arith in a)
+    (let a : tie.Need-slice-write-buffer Inv-loop μ-loop = λ c. omega arith in a)
+    (let a : tie.Need-loop-less Inv-loop μ-loop = λ c. omega arith in a)
     loop-again
-    same-length
+    (let a : tie.Need-same-length Inv-loop μ-loop = λ c. omega arith in a)
     returns)

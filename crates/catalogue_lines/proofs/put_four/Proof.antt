@@ -4,21 +4,6 @@ use borrow.Author.Needs.{needs}
 use Rattle.catalogue_lines.proofs.put_four.Statement.{statement}
 use Rattle.catalogue_lines.proofs.put_four.Tie as tie
 
-put-number-requires : tie.Need-put-number-requires
-put-number-requires c κs = search needs
-
-put-number-requires-2 : tie.Need-put-number-requires-2
-put-number-requires-2 c κs = search needs
-
-put-number-requires-3 : tie.Need-put-number-requires-3
-put-number-requires-3 c κs = search needs
-
-put-number-requires-4 : tie.Need-put-number-requires-4
-put-number-requires-4 c κs = search needs
-
-same-length : tie.Need-same-length
-same-length c = search needs
-
 returns : tie.Need-returns
 returns c =
     let a = c .before .before .before .before .before .before .before .before .before .before .before .before .before .before .before .before .before .args in
@@ -38,9 +23,9 @@ pub put-four-spec : {M : Type 1} → statement M
 put-four-spec =
     tie.close
     (tie.spec
-    put-number-requires
-    put-number-requires-2
-    put-number-requires-3
-    put-number-requires-4
-    same-length
+    (let a : tie.Need-put-number-requires = λ c κs. search needs in a)
+    (let a : tie.Need-put-number-requires-2 = λ c κs. search needs in a)
+    (let a : tie.Need-put-number-requires-3 = λ c κs. search needs in a)
+    (let a : tie.Need-put-number-requires-4 = λ c κs. search needs in a)
+    (let a : tie.Need-same-length = λ c. search needs in a)
     returns)

@@ -1,6 +1,10 @@
-use Rattle.catalogue_lines.specs.ReadingLaws.{name-taken, line-unnamed, read-gone, read-longer, read-numbers}
+use Rattle.catalogue_lines.specs.ReadingLaws.{name-taken, line-unnamed, read-gone, read-rest}
+use Rattle.catalogue_lines.specs.Reading.{unread, readLine, lineIf}
 use Rattle.catalogue_text.specs.Names.{goodName}
 use Rattle.text.specs.Records.{lineName}
+use Prim.Native.Nat.{ℕ, _<_, _≤_}
+use mathlib.Core.List.{List}
+use lib.ListN.{length}
 use lib.Seq.{length-take-le}
 use borrow.Author.Tests.{not-true, not-false}
 use native.Mathlib.Omega.{arith}
@@ -10,17 +14,8 @@ use borrow.Author.Needs.{needs}
 use Rattle.catalogue_lines.proofs.read_line.Statement.{statement}
 use Rattle.catalogue_lines.proofs.read_line.Tie as tie
 
-part-end-requires : tie.Need-part-end-requires
-part-end-requires c κs = search needs
-
 slice-aggregate-is-name : tie.Need-slice-aggregate-is-name
 slice-aggregate-is-name c = let f = c .before in sym (length-take-le (f .part-end .result) (f .before .before .args .line .now) (omega arith))
-
-is-name-requires : tie.Need-is-name-requires
-is-name-requires c κs = search needs
-
-unread-requires : tie.Need-unread-requires
-unread-requires c κs = search needs
 
 returns : tie.Need-returns
 returns c =
@@ -31,89 +26,62 @@ returns c =
     let n : goodName (lineName line) ≡ false = cc (name-taken line, r .ensures) in
     c .unread .ensures ∙ sym (line-unnamed line n)
 
-field-after-requires : tie.Need-field-after-requires
-field-after-requires c κs = search needs
+-- the line lent
+abbrev lent : tie.Else1 → List ℕ
+lent k = k .before .before .before .before .before .args .line .now
 
-is-gone-requires : tie.Need-is-gone-requires
-is-gone-requires c κs = search needs
-
-gone-if-requires : tie.Need-gone-if-requires
-gone-if-requires c κs = search needs
+named : (k : tie.Else1) → goodName (lineName (lent k)) ≡ true
+named k =
+    let p = k .before .before .before .part-end .ensures .0 in
+    let r = k .before .is-name in
+    let e = not-false (r .result) (k .if1 .left) in
+    cc (name-taken (lent k), r .ensures)
 
 returns-2 : tie.Need-returns-2
 returns-2 c =
-    let line = c .before .before .before .before .before .before .before .before .before .args .line .now in
-    let p = c .before .before .before .before .before .before .before .part-end in
-    let q = p .ensures .0 in
-    let r = c .before .before .before .before .before .is-name in
-    let e = not-false (r .result) (c .before .before .before .before .if1 .left) in
-    let n : goodName (lineName line) ≡ true = cc (name-taken line, r .ensures) in
-    let f = c .before .before .before .field-after in
+    let f = c .before .before .before in
+    let p = f .before .before .before .before .part-end in
     let g = c .before .before .is-gone in
-    c .gone-if .ensures ∙ sym (read-gone line (p .result) (f .result) q (f .ensures .0) n (sym (g .ensures) ∙ c .before .if2 .taken))
+    c .gone-if .ensures ∙ sym (read-gone (lent (f .before)) (p .result) (f .field-after .result) (p .ensures .0) (f .field-after .ensures .0)
+    (named (f .before)) (sym (g .ensures) ∙ c .before .if2 .taken))
 
-field-after-requires-2 : tie.Need-field-after-requires-2
-field-after-requires-2 c κs = search needs
-
-field-after-requires-3 : tie.Need-field-after-requires-3
-field-after-requires-3 c κs = search needs
-
-field-after-requires-4 : tie.Need-field-after-requires-4
-field-after-requires-4 c κs = search needs
-
-unread-requires-2 : tie.Need-unread-requires-2
-unread-requires-2 c κs = search needs
+-- a line of five fields or more, by the end of its fifth
+rest : (k : tie.After-field-after4) → let s = k .before .before .before .before .before .before in let line = lent s in
+    (k .field-after4 .result .end < length line → readLine line ≡ unread)
+    × (length line ≤ k .field-after4 .result .end
+    → readLine line ≡ lineIf (s .before .before .before .part-end .result) (k .before .before .before .before .before .field-after .result .value)
+    (k .before .before .field-after2 .result .value) (k .before .field-after3 .result .value) (k .field-after4 .result .value))
+rest k =
+    let o = k .before .before .before in
+    let f = o .before .before in
+    let p = f .before .before .before .before .part-end in
+    read-rest (lent (f .before)) (p .result) (f .field-after .result) (p .ensures .0) (f .field-after .ensures .0)
+    (sym (o .before .is-gone .ensures) ∙ o .if2 .left) _ _ _
+    (k .before .before .field-after2 .ensures .0) (k .before .field-after3 .ensures .0) (k .field-after4 .ensures .0) (named (f .before))
 
 returns-3 : tie.Need-returns-3
-returns-3 c =
-    let line = c .before .before .before .before .before .before .before .before .before .before .before .before .before .before .args .line .now in
-    let p = c .before .before .before .before .before .before .before .before .before .before .before .before .part-end in
-    let q = p .ensures .0 in
-    let r = c .before .before .before .before .before .before .before .before .before .before .is-name in
-    let e = not-false (r .result) (c .before .before .before .before .before .before .before .before .before .if1 .left) in
-    let n : goodName (lineName line) ≡ true = cc (name-taken line, r .ensures) in
-    let f = c .before .before .before .before .before .before .before .before .field-after in
-    let g = c .before .before .before .before .before .before .before .is-gone in
-    c .unread2 .ensures ∙ sym (read-longer line (p .result) (f .result) q (f .ensures .0) (sym (g .ensures)
-    ∙ c .before .before .before .before .before .before .if2 .left) _ _ _
-    (c .before .before .before .before .before .field-after2 .ensures .0) (c .before .before .before .before .field-after3 .ensures .0)
-    (c .before .before .before .field-after4 .ensures .0) (c .before .if3 .taken))
-
-line-if-requires : tie.Need-line-if-requires
-line-if-requires c κs = search needs
+returns-3 c = c .unread2 .ensures ∙ sym (rest (c .before .before .before) .0 (c .before .if3 .taken))
 
 returns-4 : tie.Need-returns-4
-returns-4 c =
-    let line = c .before .before .before .before .before .before .before .before .before .before .before .before .before .before .args .line .now in
-    let p = c .before .before .before .before .before .before .before .before .before .before .before .before .part-end in
-    let q = p .ensures .0 in
-    let r = c .before .before .before .before .before .before .before .before .before .before .is-name in
-    let e = not-false (r .result) (c .before .before .before .before .before .before .before .before .before .if1 .left) in
-    let n : goodName (lineName line) ≡ true = cc (name-taken line, r .ensures) in
-    let f = c .before .before .before .before .before .before .before .before .field-after in
-    let g = c .before .before .before .before .before .before .before .is-gone in
-    c .line-if .ensures ∙ sym (read-numbers line (p .result) (f .result) q (f .ensures .0) (sym (g .ensures)
-    ∙ c .before .before .before .before .before .before .if2 .left) _ _ _
-    (c .before .before .before .before .before .field-after2 .ensures .0) (c .before .before .before .before .field-after3 .ensures .0)
-    (c .before .before .before .field-after4 .ensures .0) n (c .before .if3 .left))
+returns-4 c = c .line-if .ensures ∙ sym (rest (c .before .before .before) .1 (c .before .if3 .left))
 
 pub read-line-spec : {M : Type 1} → statement M
 read-line-spec =
     tie.close
     (tie.spec
-    part-end-requires
+    (let a : tie.Need-part-end-requires = λ c κs. search needs in a)
     slice-aggregate-is-name
-    is-name-requires
-    unread-requires
+    (let a : tie.Need-is-name-requires = λ c κs. search needs in a)
+    (let a : tie.Need-unread-requires = λ c κs. search needs in a)
     returns
-    field-after-requires
-    is-gone-requires
-    gone-if-requires
+    (let a : tie.Need-field-after-requires = λ c κs. search needs in a)
+    (let a : tie.Need-is-gone-requires = λ c κs. search needs in a)
+    (let a : tie.Need-gone-if-requires = λ c κs. search needs in a)
     returns-2
-    field-after-requires-2
-    field-after-requires-3
-    field-after-requires-4
-    unread-requires-2
+    (let a : tie.Need-field-after-requires-2 = λ c κs. search needs in a)
+    (let a : tie.Need-field-after-requires-3 = λ c κs. search needs in a)
+    (let a : tie.Need-field-after-requires-4 = λ c κs. search needs in a)
+    (let a : tie.Need-unread-requires-2 = λ c κs. search needs in a)
     returns-3
-    line-if-requires
+    (let a : tie.Need-line-if-requires = λ c κs. search needs in a)
     returns-4)

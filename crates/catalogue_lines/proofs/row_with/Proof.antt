@@ -4,24 +4,6 @@ use borrow.Author.Needs.{needs}
 use Rattle.catalogue_lines.proofs.row_with.Statement.{statement}
 use Rattle.catalogue_lines.proofs.row_with.Tie as tie
 
-slice-aggregate-put-text : tie.Need-slice-aggregate-put-text
-slice-aggregate-put-text c = search needs
-
-put-text-requires : tie.Need-put-text-requires
-put-text-requires c κs = search needs
-
-slice-aggregate-put-number : tie.Need-slice-aggregate-put-number
-slice-aggregate-put-number c = search needs
-
-put-number-requires : tie.Need-put-number-requires
-put-number-requires c κs = search needs
-
-slice-aggregate-put-text-2 : tie.Need-slice-aggregate-put-text-2
-slice-aggregate-put-text-2 c = search needs
-
-put-text-requires-2 : tie.Need-put-text-requires-2
-put-text-requires-2 c κs = search needs
-
 returns : tie.Need-returns
 returns c =
     let a = c .before .before .before .before .before .before .before .before .before .before .before .args in
@@ -38,10 +20,10 @@ pub row-with-spec : {M : Type 1} → statement M
 row-with-spec =
     tie.close
     (tie.spec
-    slice-aggregate-put-text
-    put-text-requires
-    slice-aggregate-put-number
-    put-number-requires
-    slice-aggregate-put-text-2
-    put-text-requires-2
+    (let a : tie.Need-slice-aggregate-put-text = λ c. search needs in a)
+    (let a : tie.Need-put-text-requires = λ c κs. search needs in a)
+    (let a : tie.Need-slice-aggregate-put-number = λ c. search needs in a)
+    (let a : tie.Need-put-number-requires = λ c κs. search needs in a)
+    (let a : tie.Need-slice-aggregate-put-text-2 = λ c. search needs in a)
+    (let a : tie.Need-put-text-requires-2 = λ c κs. search needs in a)
     returns)

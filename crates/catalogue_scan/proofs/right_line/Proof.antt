@@ -1,17 +1,16 @@
 use Rattle.catalogue_scan.specs.ScanLaws.{read-none, read-some}
 use Rattle.catalogue_lines.specs.declared.Line.{Line}
+use Rattle.catalogue_lines.specs.Reading.{unread}
+use Rattle.catalogue_scan.specs.Places.{rightLine}
 use Rattle.catalogue_text.specs.Names.{before}
 use lib.Seq.{length-take-le}
-use lib.ListN.{take}
-use native.Mathlib.Omega.{arith}
-use mathlib.Core.Bool.{true, false}
+use lib.ListN.{length, take}
+use mathlib.Core.Bool.{cond}
+use Prim.Native.Nat.{_≤_}
 use mathlib.Core.Path.{_≡_, sym, ap, _∙_}
 use borrow.Author.Needs.{needs}
 use Rattle.catalogue_scan.proofs.right_line.Statement.{statement}
 use Rattle.catalogue_scan.proofs.right_line.Tie as tie
-
-read-line-requires : tie.Need-read-line-requires
-read-line-requires c κs = search needs
 
 returns : tie.Need-returns
 returns c =
@@ -20,42 +19,33 @@ returns c =
     let z = ap (λ (l : Line). l .size) (r .ensures) in
     r .ensures ∙ read-none (a .last .now) (a .line .now) (sym z ∙ c .if1 .taken)
 
+-- a line that can be read
+read : (k : tie.Else1) → let a = k .before .before .before .before .args in let r = k .before .read-line .result in
+    (r .size ≤ length (a .line .now)) × (rightLine (a .last .now) (a .line .now) ≡ cond (before (a .last .now) (take (r .size) (a .line .now))) r unread)
+read k =
+    let a = k .before .before .before .before .args in
+    let r = k .before .read-line in
+    rw (r .ensures) (read-some (a .last .now) (a .line .now) (λ e. k .if1 .left (ap (λ (l : Line). l .size) (r .ensures) ∙ e)))
+
 slice-aggregate-is-before : tie.Need-slice-aggregate-is-before
 slice-aggregate-is-before c =
-    let a = c .before .before .before .before .before .args in
-    let r = c .before .before .read-line in
-    let z = ap (λ (l : Line). l .size) (r .ensures) in
-    let s = read-some (a .last .now) (a .line .now) (λ e. c .before .if1 .left (z ∙ e)) in
-    sym (length-take-le (r .result .size) (a .line .now) (omega (arith, s .0)))
-
-is-before-requires : tie.Need-is-before-requires
-is-before-requires c κs = search needs
+    let k = c .before in
+    let s = read k in
+    sym (length-take-le (k .before .read-line .result .size) (k .before .before .before .before .args .line .now) (s .0))
 
 returns-2 : tie.Need-returns-2
-returns-2 c =
-    let a = c .before .before .before .before .before .before .before .args in
-    let r = c .before .before .before .before .read-line in
-    let z = ap (λ (l : Line). l .size) (r .ensures) in
-    let s = read-some (a .last .now) (a .line .now) (λ e. c .before .before .before .if1 .left (z ∙ e)) in
-    let t : before (a .last .now) (take (r .result .size) (a .line .now)) ≡ true = sym (c .before .is-before .ensures) ∙ c .if2 .taken in
-    sym (s .1 ∙ rw (← z, t, r .ensures))
+returns-2 c = sym (read (c .before .before .before) .1 ∙ rw (sym (c .before .is-before .ensures) ∙ c .if2 .taken))
 
 returns-3 : tie.Need-returns-3
-returns-3 c =
-    let a = c .before .before .before .before .before .before .before .args in
-    let r = c .before .before .before .before .read-line in
-    let z = ap (λ (l : Line). l .size) (r .ensures) in
-    let s = read-some (a .last .now) (a .line .now) (λ e. c .before .before .before .if1 .left (z ∙ e)) in
-    let t : before (a .last .now) (take (r .result .size) (a .line .now)) ≡ false = sym (c .before .is-before .ensures) ∙ c .if2 .left in
-    sym (s .1 ∙ rw (← z, t))
+returns-3 c = sym (read (c .before .before .before) .1 ∙ rw (sym (c .before .is-before .ensures) ∙ c .if2 .left))
 
 pub right-line-spec : {M : Type 1} → statement M
 right-line-spec =
     tie.close
     (tie.spec
-    read-line-requires
+    (let a : tie.Need-read-line-requires = λ c κs. search needs in a)
     returns
     slice-aggregate-is-before
-    is-before-requires
+    (let a : tie.Need-is-before-requires = λ c κs. search needs in a)
     returns-2
     returns-3)

@@ -1,7 +1,7 @@
 use Rattle.catalogue_scan.proofs.Steps.{step-open, step-wrong, step-size, step-right, step-less}
 use Rattle.catalogue_scan.specs.ScanLaws.{Scanning, scan-start, scan-done}
 use lib.ListN.{length}
-use Prim.Native.Nat.{_-_}
+use Prim.Native.Nat.{_+_, _-_, _≤_}
 use mathlib.Core.Path.{_≡_, sym, subst}
 use native.Mathlib.Omega.{arith}
 use borrow.Author.Needs.{needs}
@@ -14,17 +14,11 @@ Inv-loop text first floor name place₀ top₀ from₀ to₀ at₀ place top fro
 abbrev μ-loop : tie.MeasureT-loop
 μ-loop text first floor name place₀ top₀ from₀ to₀ at₀ place top from to at = length text - at
 
-place-at-requires : tie.Need-place-at-requires Inv-loop μ-loop
-place-at-requires c κs = search needs
-
 loop-holds : tie.Need-loop-holds Inv-loop μ-loop
 loop-holds c =
     let a = c .before .before .before .args in
     subst (λ p. Scanning (a .text .now) (a .name .now) (a .first) (a .first) 0 0 p 0) (sym (c .place-at .ensures)) (scan-start (a .text .now)
     (a .name .now) (a .first) (c .before .before .before .pre))
-
-part-end-requires : tie.Need-part-end-requires Inv-loop μ-loop
-part-end-requires c κs = search needs
 
 returns : tie.Need-returns Inv-loop μ-loop
 returns c =
@@ -43,18 +37,6 @@ part-right-line-start c = let i = c .before .before .before .loop .inv in i .ord
 part-right-line-end : tie.Need-part-right-line-end Inv-loop μ-loop
 part-right-line-end c = let i = c .before .before .before .loop .inv in i .named
 
-sub-right-line-2 : tie.Need-sub-right-line-2 Inv-loop μ-loop
-sub-right-line-2 c = omega arith
-
-part-right-line-start-2 : tie.Need-part-right-line-start-2 Inv-loop μ-loop
-part-right-line-start-2 c = omega arith
-
-part-right-line-end-2 : tie.Need-part-right-line-end-2 Inv-loop μ-loop
-part-right-line-end-2 c = omega arith
-
-right-line-requires : tie.Need-right-line-requires Inv-loop μ-loop
-right-line-requires c κs = search needs
-
 returns-2 : tie.Need-returns-2 Inv-loop μ-loop
 returns-2 c =
     let l = c .before .before .before .before .before .before .before .before .loop in
@@ -64,40 +46,23 @@ returns-2 c =
     step-wrong (a .text .now) (a .name .now) (a .first) (a .floor) (l .at) (l .from) (l .to) (l .place) (l .top) (l .inv) (p .result) (p .ensures .0)
     (omega arith) (r .result) (r .ensures) (c .if2 .taken)
 
-larger-gone-requires : tie.Need-larger-gone-requires Inv-loop μ-loop
-larger-gone-requires c κs = search needs
+-- the name at hand ends before its line
+inside : (k : tie.Else2 Inv-loop μ-loop) → let f = k .before .before .before .before .before .before in
+    f .before .before .loop .at + k .before .before .right-line .result .size ≤ f .part-end .result
+inside k =
+    let r = k .before .before .right-line in
+    let e = k .before .before .before .before .before in
+    let p = e .before .part-end in
+    let l = e .before .before .before .loop in
+    let a = e .before .before .before .before .before .before .before .args in
+    step-size (a .text .now) (a .name .now) (a .first) (a .floor) (l .at) (l .from) (l .to) (l .place) (l .top) (l .inv) (p .result) (p .ensures .0)
+    (e .if1 .left) (r .result) (r .ensures) (k .if2 .left)
 
 add-to : tie.Need-add-to Inv-loop μ-loop
-add-to c =
-    let l = c .before .before .before .before .before .before .before .before .before .before .loop in
-    let a = c .before .before .before .before .before .before .before .before .before .before .before .before .before .before .args in
-    let p = c .before .before .before .before .before .before .before .before .part-end in
-    let r = c .before .before .before .before .right-line in
-    let s = step-size (a .text .now) (a .name .now) (a .first) (a .floor) (l .at) (l .from) (l .to) (l .place) (l .top) (l .inv) (p .result)
-    (p .ensures .0) (omega arith) (r .result) (r .ensures) (c .before .before .if2 .left) in
-    omega arith
-
-add-at : tie.Need-add-at Inv-loop μ-loop
-add-at c = omega arith
-
-sub-place-next : tie.Need-sub-place-next Inv-loop μ-loop
-sub-place-next c = omega arith
-
-part-place-next-start : tie.Need-part-place-next-start Inv-loop μ-loop
-part-place-next-start c = omega arith
+add-to c = let s = inside (c .before .before) in omega arith
 
 part-place-next-end : tie.Need-part-place-next-end Inv-loop μ-loop
-part-place-next-end c =
-    let l = c .before .before .before .before .before .before .before .before .before .before .loop in
-    let a = c .before .before .before .before .before .before .before .before .before .before .before .before .before .before .args in
-    let p = c .before .before .before .before .before .before .before .before .part-end in
-    let r = c .before .before .before .before .right-line in
-    let s = step-size (a .text .now) (a .name .now) (a .first) (a .floor) (l .at) (l .from) (l .to) (l .place) (l .top) (l .inv) (p .result)
-    (p .ensures .0) (omega arith) (r .result) (r .ensures) (c .before .before .if2 .left) in
-    omega arith
-
-place-next-requires : tie.Need-place-next-requires Inv-loop μ-loop
-place-next-requires c κs = search needs
+part-place-next-end c = let s = inside (c .before .before) in omega arith
 
 loop-less : tie.Need-loop-less Inv-loop μ-loop
 loop-less c =
@@ -129,25 +94,25 @@ scan-lines-spec =
     (tie.spec
     Inv-loop
     μ-loop
-    place-at-requires
+    (let a : tie.Need-place-at-requires Inv-loop μ-loop = λ c κs. search needs in a)
     loop-holds
-    part-end-requires
+    (let a : tie.Need-part-end-requires Inv-loop μ-loop = λ c κs. search needs in a)
     returns
     sub-right-line
     part-right-line-start
     part-right-line-end
-    sub-right-line-2
-    part-right-line-start-2
-    part-right-line-end-2
-    right-line-requires
+    (let a : tie.Need-sub-right-line-2 Inv-loop μ-loop = λ c. omega arith in a)
+    (let a : tie.Need-part-right-line-start-2 Inv-loop μ-loop = λ c. omega arith in a)
+    (let a : tie.Need-part-right-line-end-2 Inv-loop μ-loop = λ c. omega arith in a)
+    (let a : tie.Need-right-line-requires Inv-loop μ-loop = λ c κs. search needs in a)
     returns-2
-    larger-gone-requires
+    (let a : tie.Need-larger-gone-requires Inv-loop μ-loop = λ c κs. search needs in a)
     add-to
-    add-at
-    sub-place-next
-    part-place-next-start
+    (let a : tie.Need-add-at Inv-loop μ-loop = λ c. omega arith in a)
+    (let a : tie.Need-sub-place-next Inv-loop μ-loop = λ c. omega arith in a)
+    (let a : tie.Need-part-place-next-start Inv-loop μ-loop = λ c. omega arith in a)
     part-place-next-end
-    place-next-requires
+    (let a : tie.Need-place-next-requires Inv-loop μ-loop = λ c κs. search needs in a)
     loop-less
     loop-again
     returns-3)

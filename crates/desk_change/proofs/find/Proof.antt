@@ -1,29 +1,22 @@
 use mathlib.Core.Path.{_≡_, sym, _∙_, subst}
 use Prim.Native.Nat.{_*_, _<_}
 use native.Mathlib.Nat.{le-trans}
+use native.Mathlib.Omega.{arith}
 use Rattle.desk_job.specs.declared.Job.{Job}
 use Rattle.desk_record.specs.Desks.{jobAt, withJob, slotOf}
 use Rattle.desk_record.specs.Refusal.{handleRefusal}
 use Rattle.answers.specs.declared.Answer.{Answer}
-use Rattle.desk_change.specs.Change.{changeOf, ChangeGives}
+use Rattle.desk_record.specs.Calls.{ChangeGives}
+use Rattle.desk_change.specs.Change.{changeOf}
 use Rattle.desk_change.specs.ChangeLaws.{refusal-parts, few, found-few, place-done, gives-refused, open-sound, gives-done}
 use borrow.Author.Needs.{needs}
 use Rattle.desk_change.proofs.find.Statement.{statement}
 use Rattle.desk_change.proofs.find.Tie as tie
 
-place-refusal-requires : tie.Need-place-refusal-requires
-place-refusal-requires c κs = search needs
-
 returns : tie.Need-returns
 returns c =
     let a = c .before .before .args in
     gives-refused 0 (a .handle) (a .place) (a .desk) (c .before .place-refusal .result) (c .if1 .taken) (sym (c .before .place-refusal .ensures))
-
-mul-job : tie.Need-mul-job
-mul-job c = search needs
-
-element-copy-out-job : tie.Need-element-copy-out-job
-element-copy-out-job c = search needs
 
 -- no refusal: the handle is open, and the place is below n
 parts : (c : tie.Else1)
@@ -35,17 +28,11 @@ parts c =
     let a = c .before .before .args in
     refusal-parts (a .handle) (a .place) (a .desk) (sym (c .before .place-refusal .ensures) ∙ c .if1 .left)
 
-with-found-requires : tie.Need-with-found-requires
-with-found-requires c κs =
+with-mark-requires : tie.Need-with-mark-requires
+with-mark-requires c κs =
     let a = c .before .before .before .args in
     let P = parts (c .before) in
-    (open-sound 0 (a .handle) (a .place) (a .desk) (P .0), P .1)
-
-mul-then : tie.Need-mul-then
-mul-then c = search needs
-
-element-set-from-then : tie.Need-element-set-from-then
-element-set-from-then c = search needs
+    (open-sound 0 (a .handle) (a .place) (a .desk) (P .0), P .1, omega arith)
 
 returns-2 : tie.Need-returns-2
 returns-2 c =
@@ -55,7 +42,7 @@ returns-2 c =
     let j = jobAt (a .desk) (slotOf (a .handle)) in
     let s = open-sound 0 (a .handle) (a .place) (a .desk) (P .0) in
     subst (λ (x : Job). ChangeGives (changeOf 0 (a .handle) (a .place) (a .desk)) (withJob (a .desk) (slotOf (a .handle)) x) Answer.Done)
-    (sym (c .with-found .ensures))
+    (sym (c .with-mark .ensures))
     (gives-done 0 (a .handle) (a .place) (a .desk) (P .0) (place-done 0 (a .place) j (P .1)
     (le-trans (found-few j s (a .place) (P .1)) (few j s (a .place) (P .1)))))
 
@@ -63,11 +50,11 @@ pub find-spec : {M : Type 1} → statement M
 find-spec =
     tie.close
     (tie.spec
-    place-refusal-requires
+    (let a : tie.Need-place-refusal-requires = λ c κs. search needs in a)
     returns
-    mul-job
-    element-copy-out-job
-    with-found-requires
-    mul-then
-    element-set-from-then
+    (let a : tie.Need-mul-job = λ c. search needs in a)
+    (let a : tie.Need-element-copy-out-job = λ c. search needs in a)
+    with-mark-requires
+    (let a : tie.Need-mul-then = λ c. search needs in a)
+    (let a : tie.Need-element-set-from-then = λ c. search needs in a)
     returns-2)

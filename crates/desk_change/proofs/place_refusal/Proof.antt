@@ -13,27 +13,12 @@ use borrow.Author.Needs.{needs}
 use Rattle.desk_change.proofs.place_refusal.Statement.{statement}
 use Rattle.desk_change.proofs.place_refusal.Tie as tie
 
-handle-refusal-requires : tie.Need-handle-refusal-requires
-handle-refusal-requires c κs = search needs
-
 returns : tie.Need-returns
 unfolding placeRefusal
 returns c =
     let a = c .before .before .args in
     let e = c .before .handle-refusal .ensures in
     e ∙ sym (orElse-first (handleRefusal (a .handle) (a .t1)) (past (a .place) (jobAt (a .t1) (slotOf (a .handle)))) (λ z. c .if1 .taken (e ∙ z)))
-
-mul-job : tie.Need-mul-job
-mul-job c = search needs
-
-element-copy-out-job : tie.Need-element-copy-out-job
-element-copy-out-job c = search needs
-
-cast-n : tie.Need-cast-n
-cast-n c = search needs
-
-cast-n-2 : tie.Need-cast-n-2
-cast-n-2 c = search needs
 
 -- no refusal by the desk or the handle
 held : (c : tie.Else1) → handleRefusal (c .before .before .args .handle) (c .before .before .args .t1) ≡ 0
@@ -66,12 +51,12 @@ pub place-refusal-spec : {M : Type 1} → statement M
 place-refusal-spec =
     tie.close
     (tie.spec
-    handle-refusal-requires
+    (let a : tie.Need-handle-refusal-requires = λ c κs. search needs in a)
     returns
-    mul-job
-    element-copy-out-job
-    cast-n
-    cast-n-2
+    (let a : tie.Need-mul-job = λ c. search needs in a)
+    (let a : tie.Need-element-copy-out-job = λ c. search needs in a)
+    (let a : tie.Need-cast-n = λ c. search needs in a)
+    (let a : tie.Need-cast-n-2 = λ c. search needs in a)
     mul-n
     returns-2
     returns-3)

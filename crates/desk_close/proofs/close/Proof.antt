@@ -1,50 +1,37 @@
-use mathlib.Core.Path.{_≡_, refl, sym, ap, _∙_}
-use Rattle.answers.specs.AnswersLaws.{answer-refused}
-use Rattle.desk_record.specs.Desks.{slotOf}
-use Rattle.desk_job.specs.Jobs.{emptyJob}
-use Rattle.desk_close.specs.Close.{closeOf, closeBy}
-use Rattle.desk_record.specs.Desks.{withJob}
-use Rattle.desk_close.specs.CloseLaws.{close-refused}
+use mathlib.Core.Path.{sym, _∙_, subst}
+use Rattle.answers.specs.declared.Answer.{Answer}
+use Rattle.desk_job.specs.declared.Job.{Job}
+use Rattle.desk_record.specs.Desks.{withJob, slotOf}
+use Rattle.desk_record.specs.Refusal.{handleRefusal}
+use Rattle.desk_record.specs.Calls.{ChangeGives}
+use Rattle.desk_record.specs.CallsLaws.{call-refused, call-done}
+use Rattle.desk_close.specs.Close.{closeOf}
 use borrow.Author.Needs.{needs}
 use Rattle.desk_close.proofs.close.Statement.{statement}
 use Rattle.desk_close.proofs.close.Tie as tie
-
-handle-refusal-requires : tie.Need-handle-refusal-requires
-handle-refusal-requires c κs = search needs
 
 returns : tie.Need-returns
 unfolding closeOf
 returns c =
     let a = c .before .before .args in
-    let r = c .before .handle-refusal .result in
-    let e : closeOf (a .handle) (a .desk) ≡ record { number = r; desk = a .desk }
-    = ap (λ n. closeBy n (a .handle) (a .desk)) (sym (c .before .handle-refusal .ensures)) ∙ close-refused r (c .if1 .taken) (a .handle) (a .desk) in
-    rw e (record { desk-is = refl; answer-is = sym (answer-refused r (c .if1 .taken)); number-is = refl })
-
-empty-requires : tie.Need-empty-requires
-empty-requires c κs = search needs
-
-mul-free : tie.Need-mul-free
-mul-free c = search needs
-
-element-set-from-free : tie.Need-element-set-from-free
-element-set-from-free c = search needs
+    let h = c .before .handle-refusal in
+    call-refused (handleRefusal (a .handle) (a .desk)) (h .result) (sym (h .ensures)) (c .if1 .taken) _ (a .desk)
 
 returns-2 : tie.Need-returns-2
 unfolding closeOf
 returns-2 c =
     let a = c .before .before .before .args in
-    let e : closeOf (a .handle) (a .desk) ≡ record { number = 0; desk = withJob (a .desk) (slotOf (a .handle)) emptyJob }
-    = ap (λ n. closeBy n (a .handle) (a .desk)) (sym (c .before .before .handle-refusal .ensures) ∙ c .before .if1 .left) in
-    rw (e, c .empty .ensures) (record { desk-is = refl; answer-is = refl; number-is = refl })
+    let e = sym (c .before .before .handle-refusal .ensures) ∙ c .before .if1 .left in
+    subst (λ (j : Job). ChangeGives (closeOf (a .handle) (a .desk)) (withJob (a .desk) (slotOf (a .handle)) j) Answer.Done) (sym (c .empty .ensures))
+    (call-done (handleRefusal (a .handle) (a .desk)) e _ (a .desk))
 
 pub close-spec : {M : Type 1} → statement M
 close-spec =
     tie.close
     (tie.spec
-    handle-refusal-requires
+    (let a : tie.Need-handle-refusal-requires = λ c κs. search needs in a)
     returns
-    empty-requires
-    mul-free
-    element-set-from-free
+    (let a : tie.Need-empty-requires = λ c κs. search needs in a)
+    (let a : tie.Need-mul-free = λ c. search needs in a)
+    (let a : tie.Need-element-set-from-free = λ c. search needs in a)
     returns-2)

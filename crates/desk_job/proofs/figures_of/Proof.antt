@@ -23,9 +23,6 @@ Inv-loop m w c marks lost₀ excess₀ g₀ lost excess g = LentIn byteLimits m 
 abbrev μ-loop : tie.MeasureT-loop
 μ-loop m w c marks lost₀ excess₀ g₀ lost excess g = m - g
 
-word-refusal-requires : tie.Need-word-refusal-requires Inv-loop μ-loop
-word-refusal-requires c κs = search needs
-
 returns : tie.Need-returns Inv-loop μ-loop
 returns c =
     let a = c .before .before .before .args in
@@ -49,17 +46,8 @@ mul-a c = omega (arith, end-fits (c .before .loop .inv .0) (c .before .loop .g) 
 add-e : tie.Need-add-e Inv-loop μ-loop
 add-e c = omega (arith, end-fits (c .before .loop .inv .0) (c .before .loop .g) (c .loop-test .taken))
 
-sub-lost-in : tie.Need-sub-lost-in Inv-loop μ-loop
-sub-lost-in c = search needs
-
-part-lost-in-start : tie.Need-part-lost-in-start Inv-loop μ-loop
-part-lost-in-start c = search needs
-
 part-lost-in-end : tie.Need-part-lost-in-end Inv-loop μ-loop
 part-lost-in-end c = omega (arith, end-fits (c .before .loop .inv .0) (c .before .loop .g) (c .loop-test .taken))
-
-lost-in-requires : tie.Need-lost-in-requires Inv-loop μ-loop
-lost-in-requires c κs = search needs
 
 -- a stretch has at most 16 places
 few : (c : tie.After-lost-in Inv-loop μ-loop) → c .lost-in .result ≤ 16
@@ -77,17 +65,8 @@ array-write-lost c =
     let k = s .loop .inv .0 .good .few in
     omega arith
 
-sub-excess : tie.Need-sub-excess Inv-loop μ-loop
-sub-excess c = omega arith
-
 add-excess : tie.Need-add-excess Inv-loop μ-loop
 add-excess c = omega (arith, few (c .before))
-
-add-g : tie.Need-add-g Inv-loop μ-loop
-add-g c = omega arith
-
-loop-less : tie.Need-loop-less Inv-loop μ-loop
-loop-less c = omega arith
 
 loop-again : tie.Need-loop-again Inv-loop μ-loop
 loop-again c =
@@ -118,20 +97,20 @@ figures-of-spec =
     (tie.spec
     Inv-loop
     μ-loop
-    word-refusal-requires
+    (let a : tie.Need-word-refusal-requires Inv-loop μ-loop = λ c κs. search needs in a)
     returns
     loop-holds
     mul-a
     add-e
-    sub-lost-in
-    part-lost-in-start
+    (let a : tie.Need-sub-lost-in Inv-loop μ-loop = λ c. search needs in a)
+    (let a : tie.Need-part-lost-in-start Inv-loop μ-loop = λ c. search needs in a)
     part-lost-in-end
-    lost-in-requires
+    (let a : tie.Need-lost-in-requires Inv-loop μ-loop = λ c κs. search needs in a)
     cast-lost
     array-write-lost
-    sub-excess
+    (let a : tie.Need-sub-excess Inv-loop μ-loop = λ c. omega arith in a)
     add-excess
-    add-g
-    loop-less
+    (let a : tie.Need-add-g Inv-loop μ-loop = λ c. omega arith in a)
+    (let a : tie.Need-loop-less Inv-loop μ-loop = λ c. omega arith in a)
     loop-again
     returns-2)

@@ -14,15 +14,6 @@ use borrow.Author.Needs.{needs}
 use Rattle.desk_job.proofs.has_figures.Statement.{statement}
 use Rattle.desk_job.proofs.has_figures.Tie as tie
 
-cast-m : tie.Need-cast-m
-cast-m c = search needs
-
-cast-w : tie.Need-cast-w
-cast-w c = search needs
-
-cast-c : tie.Need-cast-c
-cast-c c = search needs
-
 mul-n : tie.Need-mul-n
 mul-n c =
     let s = c .before .before .before in
@@ -44,12 +35,6 @@ slice-aggregate-figures-of c =
     let k = good-places j (s .pre) in
     sym (length-take-le (j .m * j .w) (j .marks) (omega arith))
 
-figures-of-requires : tie.Need-figures-of-requires
-figures-of-requires c κs = search needs
-
-cast-if1 : tie.Need-cast-if1
-cast-if1 c = search needs
-
 -- what was worked from the marks
 worked : (c : tie.After-figures-of) → c .figures-of .result ≡ lossFigures (c .before .before .before .before .before .before .args .job .m)
     (c .before .before .before .before .before .before .args .job .w) (c .before .before .before .before .before .before .args .job .c)
@@ -64,9 +49,6 @@ returns c =
     let f = c .before .before .before .before .before in
     let s = f .before .before .before .before .before .before in
     sym (other-excess (s .args .job) (λ e. c .if1 .taken (ap (λ (x : Figures). x .excess) (worked f) ∙ e)))
-
-same-counts-requires : tie.Need-same-counts-requires
-same-counts-requires c κs = search needs
 
 returns-2 : tie.Need-returns-2
 returns-2 c =
@@ -83,14 +65,14 @@ pub has-figures-spec : {M : Type 1} → statement M
 has-figures-spec =
     tie.close
     (tie.spec
-    cast-m
-    cast-w
-    cast-c
+    (let a : tie.Need-cast-m = λ c. search needs in a)
+    (let a : tie.Need-cast-w = λ c. search needs in a)
+    (let a : tie.Need-cast-c = λ c. search needs in a)
     mul-n
     array-share-prefix-marks
     slice-aggregate-figures-of
-    figures-of-requires
-    cast-if1
+    (let a : tie.Need-figures-of-requires = λ c κs. search needs in a)
+    (let a : tie.Need-cast-if1 = λ c. search needs in a)
     returns
-    same-counts-requires
+    (let a : tie.Need-same-counts-requires = λ c κs. search needs in a)
     returns-2)

@@ -11,15 +11,6 @@ use Rattle.desk_job.specs.JobLaws.{large-job}
 use Rattle.desk_job.proofs.is_good.Statement.{statement}
 use Rattle.desk_job.proofs.is_good.Tie as tie
 
-cast-m : tie.Need-cast-m
-cast-m c = search needs
-
-cast-w : tie.Need-cast-w
-cast-w c = search needs
-
-cast-c : tie.Need-cast-c
-cast-c c = search needs
-
 mul-n : tie.Need-mul-n
 mul-n c =
     let j = c .before .before .before .args .job in
@@ -42,9 +33,6 @@ slice-aggregate-judged c =
     let l : length (j .marks) ≡ 240 = length-unmapped ℕ (j .marks) 240 (s .good .0 .1 .1 .1 .1 .1 .1 .1 .1 .0 .1 .0 .1) in
     sym (length-take-le (j .m * j .w) (j .marks) (omega (arith, c .before .before .if1 .left)))
 
-judged-requires : tie.Need-judged-requires
-judged-requires c κs = search needs
-
 returns-2 : tie.Need-returns-2
 unfolding isGood
 returns-2 c = ap (λ n. eqb n 0) (c .judged .ensures)
@@ -53,12 +41,12 @@ pub is-good-spec : {M : Type 1} → statement M
 is-good-spec =
     tie.close
     (tie.spec
-    cast-m
-    cast-w
-    cast-c
+    (let a : tie.Need-cast-m = λ c. search needs in a)
+    (let a : tie.Need-cast-w = λ c. search needs in a)
+    (let a : tie.Need-cast-c = λ c. search needs in a)
     mul-n
     returns
     array-share-prefix-marks
     slice-aggregate-judged
-    judged-requires
+    (let a : tie.Need-judged-requires = λ c κs. search needs in a)
     returns-2)

@@ -18,22 +18,10 @@ abbrev μ-loop : tie.MeasureT-loop
 loop-holds : tie.Need-loop-holds Inv-loop μ-loop
 loop-holds c = (omega arith, jobs-long (c .args .t1) _ (c .good .0), refl)
 
-mul-job : tie.Need-mul-job Inv-loop μ-loop
-mul-job c = omega arith
-
-element-copy-out-job : tie.Need-element-copy-out-job Inv-loop μ-loop
-element-copy-out-job c = omega arith
-
 returns : tie.Need-returns Inv-loop μ-loop
 returns c =
     let l = c .before .before .before .before in
     sym (free-here (l .before .args .t1 .jobs) (l .loop .slot) (omega arith) (ne-eqb _ _ (c .if1 .taken))) ∙ l .loop .inv .2
-
-add-slot : tie.Need-add-slot Inv-loop μ-loop
-add-slot c = omega arith
-
-loop-less : tie.Need-loop-less Inv-loop μ-loop
-loop-less c = omega arith
 
 loop-again : tie.Need-loop-again Inv-loop μ-loop
 loop-again c =
@@ -52,10 +40,10 @@ free-slot-spec =
     Inv-loop
     μ-loop
     loop-holds
-    mul-job
-    element-copy-out-job
+    (let a : tie.Need-mul-job Inv-loop μ-loop = λ c. omega arith in a)
+    (let a : tie.Need-element-copy-out-job Inv-loop μ-loop = λ c. omega arith in a)
     returns
-    add-slot
-    loop-less
+    (let a : tie.Need-add-slot Inv-loop μ-loop = λ c. omega arith in a)
+    (let a : tie.Need-loop-less Inv-loop μ-loop = λ c. omega arith in a)
     loop-again
     returns-2)

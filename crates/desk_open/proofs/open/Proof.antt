@@ -8,9 +8,9 @@ use Rattle.code_services.specs.Marks.{MarkedIn}
 use Rattle.code_services.specs.JudgeLaws.{zero-excess}
 use Rattle.desk_job.specs.declared.Figures.{Figures}
 use Rattle.desk_job.specs.Figures.{lossFigures}
-use Rattle.desk_open.specs.Open.{openOf, openBy, newHandle}
+use Rattle.desk_open.specs.Open.{openOf, openBy, openedNumber, newHandle}
 use Rattle.desk_job.specs.JobLaws.{judged-marked}
-use Rattle.desk_open.specs.OpenLaws.{open-refused, opened-refused, Openable, open-parts, new-job}
+use Rattle.desk_open.specs.OpenLaws.{open-refused, handle-apart, Openable, open-parts, new-job}
 use Rattle.desk_record.proofs.Laws.{jobs-long}
 use borrow.Author.Needs.{needs}
 use Rattle.desk_open.proofs.open.Statement.{statement}
@@ -35,9 +35,6 @@ marked c =
 slot : (c : tie.After-free-slot) → c .free-slot .result < 8
 slot c = subst (λ n. n < 8) (sym (c .free-slot .ensures)) (parts c .room)
 
-open-refusal-requires : tie.Need-open-refusal-requires
-open-refusal-requires c κs = search needs
-
 returns : tie.Need-returns
 unfolding openOf
 returns c =
@@ -46,10 +43,7 @@ returns c =
     let e : openOf (a .m) (a .w) (a .c) (a .marks .now) (a .desk) ≡ record { number = r; handle = 0; desk = a .desk }
     = ap (λ n. openBy n (a .m) (a .w) (a .c) (a .marks .now) (a .desk)) (sym (c .before .open-refusal .ensures))
     ∙ open-refused r (c .if1 .taken) (a .m) (a .w) (a .c) (a .marks .now) (a .desk) in
-    rw e (record { desk-is = refl; answer-is = sym (opened-refused r (c .if1 .taken) 0); number-is = refl; handle-is = refl })
-
-free-slot-requires : tie.Need-free-slot-requires
-free-slot-requires c κs = search needs
+    rw e (record { desk-is = refl; number-is = refl; handle-is = refl; refusal-some = λ q. c .if1 .taken (ap openedNumber q) })
 
 add-t : tie.Need-add-t
 add-t c = let k = parts (c .before) .early in omega arith
@@ -67,9 +61,6 @@ kept-requires c κs =
     let M = marked (c .before) in
     let l = places-most (M .good) in
     let z = M .size in omega arith
-
-figures-of-requires : tie.Need-figures-of-requires
-figures-of-requires c κs = search needs
 
 -- the figures of the marks given
 worked : (c : tie.After-figures-of)
@@ -112,20 +103,20 @@ returns-2 c =
     let e : openOf (a .m) (a .w) (a .c) (a .marks .now) (a .desk) ≡ openBy 0 (a .m) (a .w) (a .c) (a .marks .now) (a .desk)
     = ap (λ n. openBy n (a .m) (a .w) (a .c) (a .marks .now) (a .desk)) (sym (f .before .before .open-refusal .ensures) ∙ f .before .if1 .left) in
     rw (e, f .free-slot .ensures, g .before .kept .ensures, worked g, new-job (a .m) (a .w) (a .c) (a .marks .now) (newHandle (a .desk)) (marked f .size))
-    (record { desk-is = refl; answer-is = refl; number-is = refl; handle-is = refl })
+    (record { desk-is = refl; number-is = refl; handle-is = refl; refusal-some = handle-apart _ 0 })
 
 pub open-spec : {M : Type 1} → statement M
 open-spec =
     tie.close
     (tie.spec
-    open-refusal-requires
+    (let a : tie.Need-open-refusal-requires = λ c κs. search needs in a)
     returns
-    free-slot-requires
+    (let a : tie.Need-free-slot-requires = λ c κs. search needs in a)
     add-t
     mul-handle
     add-handle
     kept-requires
-    figures-of-requires
+    (let a : tie.Need-figures-of-requires = λ c κs. search needs in a)
     cast-t18
     cast-t19
     cast-t20

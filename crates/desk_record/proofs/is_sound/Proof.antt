@@ -86,23 +86,11 @@ abbrev μ-loop : tie.MeasureT-loop
 returns : tie.Need-returns Inv-loop μ-loop
 returns c = sym (unsound (c .before .args .t1) (λ S. let k = S .few in omega (arith, c .if1 .taken)))
 
-element-copy-out-first : tie.Need-element-copy-out-first Inv-loop μ-loop
-element-copy-out-first c = omega arith
-
-is-sound-slot-requires : tie.Need-is-sound-slot-requires Inv-loop μ-loop
-is-sound-slot-requires c κs = tt
-
 returns-2 : tie.Need-returns-2 Inv-loop μ-loop
 returns-2 c =
     let d = c .before .before .before .before .args .t1 in
     let h : isSoundSlot (d .t) 0 (jobAt d 0) ≡ false = sym (c .before .is-sound-slot .ensures) ∙ not-true _ (c .if2 .taken) in
     sym (unsound d (λ S. true≢false (sym (S .slots 0 (omega arith)) ∙ h)))
-
-issue-in-requires : tie.Need-issue-in-requires Inv-loop μ-loop
-issue-in-requires c κs = tt
-
-array-write-issues : tie.Need-array-write-issues Inv-loop μ-loop
-array-write-issues c = omega arith
 
 loop-holds : tie.Need-loop-holds Inv-loop μ-loop
 loop-holds c =
@@ -116,33 +104,12 @@ loop-holds c =
       below-more _ _ (λ k l. absurd (omega arith)) (lowest d),
     )
 
-mul-job : tie.Need-mul-job Inv-loop μ-loop
-mul-job c = omega arith
-
-element-copy-out-job : tie.Need-element-copy-out-job Inv-loop μ-loop
-element-copy-out-job c = omega arith
-
-is-sound-slot-requires-2 : tie.Need-is-sound-slot-requires-2 Inv-loop μ-loop
-is-sound-slot-requires-2 c κs = tt
-
 returns-3 : tie.Need-returns-3 Inv-loop μ-loop
 returns-3 c =
     let l = c .before .before .before .before in
     let d = l .before .before .before .before .before .before .args .t1 in
     let h : isSoundSlot (d .t) (l .loop .s) (jobAt d (l .loop .s)) ≡ false = sym (c .before .is-sound-slot2 .ensures) ∙ not-true _ (c .if3 .taken) in
     sym (unsound d (λ S. true≢false (sym (S .slots (l .loop .s) (omega arith)) ∙ h)))
-
-issue-in-requires-2 : tie.Need-issue-in-requires-2 Inv-loop μ-loop
-issue-in-requires-2 c κs = tt
-
-mul-issues : tie.Need-mul-issues Inv-loop μ-loop
-mul-issues c = omega arith
-
-array-write-issues-2 : tie.Need-array-write-issues-2 Inv-loop μ-loop
-array-write-issues-2 c = omega arith
-
-is-twice-requires : tie.Need-is-twice-requires Inv-loop μ-loop
-is-twice-requires c κs = omega arith
 
 returns-4 : tie.Need-returns-4 Inv-loop μ-loop
 returns-4 c =
@@ -154,12 +121,6 @@ returns-4 c =
     = sym (c .before .before .before .before .is-sound-slot2 .ensures) ∙ not-false _ (c .before .before .before .if3 .left) in
     let h : isTwice d (l .loop .s) ≡ true = sym (told d (d .t) (l .loop .s) x K g) ∙ sym (c .before .is-twice .ensures) ∙ c .if4 .taken in
     sym (unsound d (λ S. true≢false (sym h ∙ S .once (l .loop .s) (omega arith))))
-
-add-s : tie.Need-add-s Inv-loop μ-loop
-add-s c = omega arith
-
-loop-less : tie.Need-loop-less Inv-loop μ-loop
-loop-less c = omega arith
 
 loop-again : tie.Need-loop-again Inv-loop μ-loop
 loop-again c =
@@ -192,22 +153,22 @@ is-sound-spec =
     Inv-loop
     μ-loop
     returns
-    element-copy-out-first
-    is-sound-slot-requires
+    (let a : tie.Need-element-copy-out-first Inv-loop μ-loop = λ c. omega arith in a)
+    (let a : tie.Need-is-sound-slot-requires Inv-loop μ-loop = λ c κs. tt in a)
     returns-2
-    issue-in-requires
-    array-write-issues
+    (let a : tie.Need-issue-in-requires Inv-loop μ-loop = λ c κs. tt in a)
+    (let a : tie.Need-array-write-issues Inv-loop μ-loop = λ c. omega arith in a)
     loop-holds
-    mul-job
-    element-copy-out-job
-    is-sound-slot-requires-2
+    (let a : tie.Need-mul-job Inv-loop μ-loop = λ c. omega arith in a)
+    (let a : tie.Need-element-copy-out-job Inv-loop μ-loop = λ c. omega arith in a)
+    (let a : tie.Need-is-sound-slot-requires-2 Inv-loop μ-loop = λ c κs. tt in a)
     returns-3
-    issue-in-requires-2
-    mul-issues
-    array-write-issues-2
-    is-twice-requires
+    (let a : tie.Need-issue-in-requires-2 Inv-loop μ-loop = λ c κs. tt in a)
+    (let a : tie.Need-mul-issues Inv-loop μ-loop = λ c. omega arith in a)
+    (let a : tie.Need-array-write-issues-2 Inv-loop μ-loop = λ c. omega arith in a)
+    (let a : tie.Need-is-twice-requires Inv-loop μ-loop = λ c κs. omega arith in a)
     returns-4
-    add-s
-    loop-less
+    (let a : tie.Need-add-s Inv-loop μ-loop = λ c. omega arith in a)
+    (let a : tie.Need-loop-less Inv-loop μ-loop = λ c. omega arith in a)
     loop-again
     returns-5)

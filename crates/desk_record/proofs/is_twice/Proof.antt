@@ -16,23 +16,11 @@ Inv-loop s issues u r₀ r = (r ≤ s) × (anyBelow r (λ k. eqb (getD issues k 
 abbrev μ-loop : tie.MeasureT-loop
 μ-loop s issues u r₀ r = s - r
 
-mul-u : tie.Need-mul-u Inv-loop μ-loop
-mul-u c = omega arith
-
-array-read-u : tie.Need-array-read-u Inv-loop μ-loop
-array-read-u c = omega arith
-
 returns : tie.Need-returns Inv-loop μ-loop
 returns c = simp (eq-eqb _ _ (c .if1 .taken))
 
 loop-holds : tie.Need-loop-holds Inv-loop μ-loop
 loop-holds c = (omega arith, refl)
-
-mul-if2 : tie.Need-mul-if2 Inv-loop μ-loop
-mul-if2 c = omega arith
-
-array-read-if2 : tie.Need-array-read-if2 Inv-loop μ-loop
-array-read-if2 c = omega arith
 
 returns-2 : tie.Need-returns-2 Inv-loop μ-loop
 returns-2 c =
@@ -41,12 +29,6 @@ returns-2 c =
     let a = e .before .args in
     let h = any-true (a .s) (λ k. eqb (getD (a .t1) k 0) (getD (a .t1) (a .s) 0)) (l .loop .r) (omega arith) (eq-eqb _ _ (c .if2 .taken)) in
     simp (ne-eqb _ _ (e .if1 .left), h)
-
-add-r : tie.Need-add-r Inv-loop μ-loop
-add-r c = omega arith
-
-loop-less : tie.Need-loop-less Inv-loop μ-loop
-loop-less c = omega arith
 
 loop-again : tie.Need-loop-again Inv-loop μ-loop
 loop-again c =
@@ -70,14 +52,14 @@ is-twice-spec =
     (tie.spec
     Inv-loop
     μ-loop
-    mul-u
-    array-read-u
+    (let a : tie.Need-mul-u Inv-loop μ-loop = λ c. omega arith in a)
+    (let a : tie.Need-array-read-u Inv-loop μ-loop = λ c. omega arith in a)
     returns
     loop-holds
-    mul-if2
-    array-read-if2
+    (let a : tie.Need-mul-if2 Inv-loop μ-loop = λ c. omega arith in a)
+    (let a : tie.Need-array-read-if2 Inv-loop μ-loop = λ c. omega arith in a)
     returns-2
-    add-r
-    loop-less
+    (let a : tie.Need-add-r Inv-loop μ-loop = λ c. omega arith in a)
+    (let a : tie.Need-loop-less Inv-loop μ-loop = λ c. omega arith in a)
     loop-again
     returns-3)

@@ -12,34 +12,16 @@ use borrow.Author.Needs.{needs}
 use Rattle.desk_serve.proofs.serve.Statement.{statement}
 use Rattle.desk_serve.proofs.serve.Tie as tie
 
-handle-refusal-requires : tie.Need-handle-refusal-requires
-handle-refusal-requires c κs = search needs
-
 returns : tie.Need-returns
 returns c =
     let a = c .before .before .before .args in
     gives-handle (a .handle) (a .word .now) (a .desk) (c .before .handle-refusal .result) (c .if1 .taken) (sym (c .before .handle-refusal .ensures))
-
-mul-job : tie.Need-mul-job
-mul-job c = search needs
-
-element-copy-out-job : tie.Need-element-copy-out-job
-element-copy-out-job c = search needs
 
 serve-job-requires : tie.Need-serve-job-requires
 serve-job-requires c κs =
     let e₁ = c .before .before in
     let a = e₁ .before .before .before .args in
     open-good (a .handle) (a .desk) (sym (e₁ .before .handle-refusal .ensures) ∙ e₁ .if1 .left)
-
-enum-known-r : tie.Need-enum-known-r
-enum-known-r c = search needs
-
-enum-known-group : tie.Need-enum-known-group
-enum-known-group c = search needs
-
-enum-told : tie.Need-enum-told
-enum-told c = search needs
 
 served-once-requires : tie.Need-served-once-requires
 served-once-requires c κs =
@@ -49,15 +31,6 @@ served-once-requires c κs =
     let z : jobNumber j (a .word .now) ≡ 0
     = mending-is (jobNumber j (a .word .now)) ((jobRecovery j (a .word .now)) .group) (sym (c .enum-told .given .1) ∙ k .serve-job .ensures .0) in
     job-room j (a .word .now) z
-
-mul-raised : tie.Need-mul-raised
-mul-raised c = search needs
-
-element-set-from-raised : tie.Need-element-set-from-raised
-element-set-from-raised c = search needs
-
-same-length : tie.Need-same-length
-same-length c = search needs
 
 returns-2 : tie.Need-returns-2
 returns-2 c =
@@ -72,9 +45,6 @@ returns-2 c =
     gives-job (a .handle) (a .word .now) (a .desk) (sym (e₁ .before .handle-refusal .ensures) ∙ e₁ .if1 .left) (mending-some n g r q) _
     (k .serve-job .ensures .1) (Mending.Refused r) q
 
-same-length-2 : tie.Need-same-length-2
-same-length-2 c = search needs
-
 returns-3 : tie.Need-returns-3
 returns-3 c =
     let k = c .before .before .before .before .before in
@@ -88,9 +58,6 @@ returns-3 c =
     let some : n ≡ 0 → ⊥ = λ z. let e : n ≡ 9 = mending-is n g q in omega arith in
     gives-job (a .handle) (a .word .now) (a .desk) (sym (e₁ .before .handle-refusal .ensures) ∙ e₁ .if1 .left) some _
     (k .serve-job .ensures .1) (Mending.Contradictory r) q
-
-same-length-3 : tie.Need-same-length-3
-same-length-3 c = search needs
 
 returns-4 : tie.Need-returns-4
 returns-4 c =
@@ -116,20 +83,20 @@ pub serve-spec : {M : Type 1} → statement M
 serve-spec =
     tie.close
     (tie.spec
-    handle-refusal-requires
+    (let a : tie.Need-handle-refusal-requires = λ c κs. search needs in a)
     returns
-    mul-job
-    element-copy-out-job
+    (let a : tie.Need-mul-job = λ c. search needs in a)
+    (let a : tie.Need-element-copy-out-job = λ c. search needs in a)
     serve-job-requires
-    enum-known-r
-    enum-known-group
-    enum-told
+    (let a : tie.Need-enum-known-r = λ c. search needs in a)
+    (let a : tie.Need-enum-known-group = λ c. search needs in a)
+    (let a : tie.Need-enum-told = λ c. search needs in a)
     served-once-requires
-    mul-raised
-    element-set-from-raised
-    same-length
+    (let a : tie.Need-mul-raised = λ c. search needs in a)
+    (let a : tie.Need-element-set-from-raised = λ c. search needs in a)
+    (let a : tie.Need-same-length = λ c. search needs in a)
     returns-2
-    same-length-2
+    (let a : tie.Need-same-length-2 = λ c. search needs in a)
     returns-3
-    same-length-3
+    (let a : tie.Need-same-length-3 = λ c. search needs in a)
     returns-4)

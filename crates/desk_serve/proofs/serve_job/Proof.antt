@@ -8,17 +8,9 @@ use Rattle.desk_job.specs.Jobs.{jobMarks}
 use Rattle.desk_serve.specs.Serve.{jobRecovery, jobNumber}
 use Rattle.desk_job.specs.JobLaws.{good-places}
 use Rattle.desk_serve.specs.ServeLaws.{recover-unchanged, unless-same, job-length, job-end, job-recovery}
+use Rattle.code_services.specs.AnsweredLaws.{answers-at}
 use Rattle.desk_serve.proofs.serve_job.Statement.{statement}
 use Rattle.desk_serve.proofs.serve_job.Tie as tie
-
-cast-m : tie.Need-cast-m
-cast-m c = search needs
-
-cast-w : tie.Need-cast-w
-cast-w c = search needs
-
-cast-c : tie.Need-cast-c
-cast-c c = search needs
 
 mul-n : tie.Need-mul-n
 mul-n c =
@@ -51,12 +43,6 @@ slice-aggregate-recover c =
     let k = good-places j (s .pre) in
     sym (length-take-le (j .m * j .w) (j .marks) (omega arith))
 
-recover-requires : tie.Need-recover-requires
-recover-requires c κs = search needs
-
-same-length : tie.Need-same-length
-same-length c = search needs
-
 returns-3 : tie.Need-returns-3
 returns-3 c =
     let k = c .before .before .before in
@@ -66,7 +52,7 @@ returns-3 c =
     let n : jobNumber (a .job) (a .word .now) ≡ (jobRecovery (a .job) (a .word .now)) .number =
     job-recovery (a .job) (a .word .now) (e₁ .if1 .left) (e₂ .if2 .left) in
     rw n (
-      k .recover .ensures .0,
+      answers-at (k .recover .ensures .0),
       k .recover .ensures .1 .0
           ∙ unless-same ((jobRecovery (a .job) (a .word .now)) .number) ((jobRecovery (a .job) (a .word .now)) .word) (a .word .now)
           (recover-unchanged (a .job .m) (a .job .w) (a .job .c) (a .word .now) (jobMarks (a .job))),
@@ -76,14 +62,14 @@ pub serve-job-spec : {M : Type 1} → statement M
 serve-job-spec =
     tie.close
     (tie.spec
-    cast-m
-    cast-w
-    cast-c
+    (let a : tie.Need-cast-m = λ c. search needs in a)
+    (let a : tie.Need-cast-w = λ c. search needs in a)
+    (let a : tie.Need-cast-c = λ c. search needs in a)
     mul-n
     returns
     returns-2
     array-borrow-prefix-marks
     slice-aggregate-recover
-    recover-requires
-    same-length
+    (let a : tie.Need-recover-requires = λ c κs. search needs in a)
+    (let a : tie.Need-same-length = λ c. search needs in a)
     returns-3)

@@ -24,30 +24,6 @@ abbrev μ-loop : tie.MeasureT-loop
 loop-holds : tie.Need-loop-holds Inv-loop μ-loop
 loop-holds c = (omega arith, refl, λ l h. absurd (omega arith), λ l h. refl)
 
-shared-slice-read-shifted-product : tie.Need-shared-slice-read-shifted-product Inv-loop μ-loop
-shared-slice-read-shifted-product c = omega arith
-
-shifted-product-requires : tie.Need-shifted-product-requires Inv-loop μ-loop
-shifted-product-requires c κs = search needs
-
-shared-slice-read-shifted-product-2 : tie.Need-shared-slice-read-shifted-product-2 Inv-loop μ-loop
-shared-slice-read-shifted-product-2 c = omega arith
-
-shifted-product-requires-2 : tie.Need-shifted-product-requires-2 Inv-loop μ-loop
-shifted-product-requires-2 c κs = search needs
-
-slice-read-part : tie.Need-slice-read-part Inv-loop μ-loop
-slice-read-part c = omega arith
-
-slice-write-part : tie.Need-slice-write-part Inv-loop μ-loop
-slice-write-part c = omega arith
-
-add-i : tie.Need-add-i Inv-loop μ-loop
-add-i c = omega arith
-
-loop-less : tie.Need-loop-less Inv-loop μ-loop
-loop-less c = omega arith
-
 loop-again : tie.Need-loop-again Inv-loop μ-loop
 loop-again c =
     let s = c .before .before .before .before .before .before in
@@ -66,9 +42,6 @@ loop-again c =
       rest-set (λ l. getD x₀ l 0) x i _ 0 (s .loop .inv .3),
     )
 
-same-length : tie.Need-same-length Inv-loop μ-loop
-same-length c = omega arith
-
 returns : tie.Need-returns Inv-loop μ-loop
 returns c = let s = c .before in record { size = s .loop .inv .1; each = λ l h. s .loop .inv .2 l (omega arith) }
 
@@ -79,14 +52,14 @@ add-rows-spec =
     Inv-loop
     μ-loop
     loop-holds
-    shared-slice-read-shifted-product
-    shifted-product-requires
-    shared-slice-read-shifted-product-2
-    shifted-product-requires-2
-    slice-read-part
-    slice-write-part
-    add-i
-    loop-less
+    (let a : tie.Need-shared-slice-read-shifted-product Inv-loop μ-loop = λ c. omega arith in a)
+    (let a : tie.Need-shifted-product-requires Inv-loop μ-loop = λ c κs. search needs in a)
+    (let a : tie.Need-shared-slice-read-shifted-product-2 Inv-loop μ-loop = λ c. omega arith in a)
+    (let a : tie.Need-shifted-product-requires-2 Inv-loop μ-loop = λ c κs. search needs in a)
+    (let a : tie.Need-slice-read-part Inv-loop μ-loop = λ c. omega arith in a)
+    (let a : tie.Need-slice-write-part Inv-loop μ-loop = λ c. omega arith in a)
+    (let a : tie.Need-add-i Inv-loop μ-loop = λ c. omega arith in a)
+    (let a : tie.Need-loop-less Inv-loop μ-loop = λ c. omega arith in a)
     loop-again
-    same-length
+    (let a : tie.Need-same-length Inv-loop μ-loop = λ c. omega arith in a)
     returns)

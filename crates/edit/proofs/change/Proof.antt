@@ -31,26 +31,11 @@ long s =
     ∙ stretch-length (a .w) g (a .word .now)
     (subst (λ n. suc g * a .w ≤ n) (sym (s .pre .1 .1 .0)) (mul-le-mul-right (a .w) (group-less (s .pre .0) (a .number) (s .pre .1 .1 .1 .0))))
 
-sub-v : tie.Need-sub-v
-sub-v c = search needs
-
-div-g : tie.Need-div-g
-div-g c = search needs
-
-rem-j : tie.Need-rem-j
-rem-j c = search needs
-
 mul-a : tie.Need-mul-a
 mul-a c = let e = ends (c .before) in omega arith
 
 add-e : tie.Need-add-e
 add-e c = let e = ends (c .before) in omega arith
-
-sub-refill : tie.Need-sub-refill
-sub-refill c = search needs
-
-part-refill-start : tie.Need-part-refill-start
-part-refill-start c = search needs
 
 part-refill-end : tie.Need-part-refill-end
 part-refill-end c = let e = ends (c .before) in omega arith
@@ -69,12 +54,6 @@ refill-requires c κs =
         (omega (arith, good .few), omega arith),
       ),
     )
-
-correct-requires : tie.Need-correct-requires
-correct-requires c κs = search needs
-
-same-length : tie.Need-same-length
-same-length c = search needs
 
 returns : tie.Need-returns
 returns c =
@@ -102,15 +81,15 @@ pub change-spec : {M : Type 1} → statement M
 change-spec =
     tie.close
     (tie.spec
-    sub-v
-    div-g
-    rem-j
+    (let a : tie.Need-sub-v = λ c. search needs in a)
+    (let a : tie.Need-div-g = λ c. search needs in a)
+    (let a : tie.Need-rem-j = λ c. search needs in a)
     mul-a
     add-e
-    sub-refill
-    part-refill-start
+    (let a : tie.Need-sub-refill = λ c. search needs in a)
+    (let a : tie.Need-part-refill-start = λ c. search needs in a)
     part-refill-end
     refill-requires
-    correct-requires
-    same-length
+    (let a : tie.Need-correct-requires = λ c κs. search needs in a)
+    (let a : tie.Need-same-length = λ c. search needs in a)
     returns)

@@ -8,68 +8,11 @@ use borrow.Author.Needs.{needs}
 use Rattle.edit.proofs.correct.Statement.{statement}
 use Rattle.edit.proofs.correct.Tie as tie
 
-sub-power-of-two : tie.Need-sub-power-of-two
-sub-power-of-two c = search needs
-
-power-of-two-requires : tie.Need-power-of-two-requires
-power-of-two-requires c κs = search needs
-
-shifted-product-requires : tie.Need-shifted-product-requires
-shifted-product-requires c κs = search needs
-
-add-checks : tie.Need-add-checks
-add-checks c = search needs
-
 sub-a : tie.Need-sub-a
 sub-a c =
     let s = c .before .before .before in
     let k = checks-fit (s .args .m) (s .args .w) (s .args .c) (s .pre .0) in
     omega arith
-
-sub-b : tie.Need-sub-b
-sub-b c = search needs
-
-mul-b : tie.Need-mul-b
-mul-b c = search needs
-
-sub-b-2 : tie.Need-sub-b-2
-sub-b-2 c = search needs
-
-add-b : tie.Need-add-b
-add-b c = search needs
-
-mul-b-2 : tie.Need-mul-b-2
-mul-b-2 c = search needs
-
-add-e : tie.Need-add-e
-add-e c = search needs
-
-sub-add-rows : tie.Need-sub-add-rows
-sub-add-rows c = search needs
-
-part-add-rows-start : tie.Need-part-add-rows-start
-part-add-rows-start c = search needs
-
-part-add-rows-end : tie.Need-part-add-rows-end
-part-add-rows-end c = search needs
-
-sub-add-rows-2 : tie.Need-sub-add-rows-2
-sub-add-rows-2 c = search needs
-
-part-add-rows-start-2 : tie.Need-part-add-rows-start-2
-part-add-rows-start-2 c = search needs
-
-part-add-rows-end-2 : tie.Need-part-add-rows-end-2
-part-add-rows-end-2 c = search needs
-
-sub-add-rows-3 : tie.Need-sub-add-rows-3
-sub-add-rows-3 c = search needs
-
-part-add-rows-start-3 : tie.Need-part-add-rows-start-3
-part-add-rows-start-3 c = search needs
-
-part-add-rows-end-3 : tie.Need-part-add-rows-end-3
-part-add-rows-end-3 c = search needs
 
 add-rows-requires : tie.Need-add-rows-requires
 unfolding firstFixes secondFixes
@@ -79,9 +22,6 @@ add-rows-requires c κs =
       lent-rows (a .m) (a .w) (a .c) (a .word .now) firstFixes (s .pre .0) (s .pre .1 .0) (s .pre .1 .1) refl,
       lent-rows (a .m) (a .w) (a .c) (a .word .now) secondFixes (s .pre .0) (s .pre .1 .0) (s .pre .1 .1) refl,
     )
-
-same-length : tie.Need-same-length
-same-length c = search needs
 
 returns : tie.Need-returns
 unfolding firstFixes secondFixes
@@ -97,26 +37,26 @@ pub correct-spec : {M : Type 1} → statement M
 correct-spec =
     tie.close
     (tie.spec
-    sub-power-of-two
-    power-of-two-requires
-    shifted-product-requires
-    add-checks
+    (let a : tie.Need-sub-power-of-two = λ c. search needs in a)
+    (let a : tie.Need-power-of-two-requires = λ c κs. search needs in a)
+    (let a : tie.Need-shifted-product-requires = λ c κs. search needs in a)
+    (let a : tie.Need-add-checks = λ c. search needs in a)
     sub-a
-    sub-b
-    mul-b
-    sub-b-2
-    add-b
-    mul-b-2
-    add-e
-    sub-add-rows
-    part-add-rows-start
-    part-add-rows-end
-    sub-add-rows-2
-    part-add-rows-start-2
-    part-add-rows-end-2
-    sub-add-rows-3
-    part-add-rows-start-3
-    part-add-rows-end-3
+    (let a : tie.Need-sub-b = λ c. search needs in a)
+    (let a : tie.Need-mul-b = λ c. search needs in a)
+    (let a : tie.Need-sub-b-2 = λ c. search needs in a)
+    (let a : tie.Need-add-b = λ c. search needs in a)
+    (let a : tie.Need-mul-b-2 = λ c. search needs in a)
+    (let a : tie.Need-add-e = λ c. search needs in a)
+    (let a : tie.Need-sub-add-rows = λ c. search needs in a)
+    (let a : tie.Need-part-add-rows-start = λ c. search needs in a)
+    (let a : tie.Need-part-add-rows-end = λ c. search needs in a)
+    (let a : tie.Need-sub-add-rows-2 = λ c. search needs in a)
+    (let a : tie.Need-part-add-rows-start-2 = λ c. search needs in a)
+    (let a : tie.Need-part-add-rows-end-2 = λ c. search needs in a)
+    (let a : tie.Need-sub-add-rows-3 = λ c. search needs in a)
+    (let a : tie.Need-part-add-rows-start-3 = λ c. search needs in a)
+    (let a : tie.Need-part-add-rows-end-3 = λ c. search needs in a)
     add-rows-requires
-    same-length
+    (let a : tie.Need-same-length = λ c. search needs in a)
     returns)

@@ -20,9 +20,6 @@ use borrow.Author.Needs.{needs}
 use Rattle.edit.proofs.edit.Statement.{statement}
 use Rattle.edit.proofs.edit.Tie as tie
 
-refusal-requires : tie.Need-refusal-requires
-refusal-requires c κs = search needs
-
 returns : tie.Need-returns
 returns c =
     let r = c .before in
@@ -42,9 +39,6 @@ found t =
     let g = good-of-number (a .m) (a .w) (a .c) (length (a .word .now)) (a .number) (fair e) in
     t .test .ensures .0 (g .0) (g .1)
 
-test-requires : tie.Need-test-requires
-test-requires c κs = search needs
-
 cast-t13 : tie.Need-cast-t13
 cast-t13 c =
     let t = c .before .before .before in
@@ -52,9 +46,6 @@ cast-t13 c =
     let a = e .before .before .before .args in
     let g = good-of-number (a .m) (a .w) (a .c) (length (a .word .now)) (a .number) (fair e) in
     omega (arith, ap (λ (x : Tested). x .group) (found t), broken-most byteEdition (a .m) (a .w) (a .c) (a .word .now), g .0 .few)
-
-same-length : tie.Need-same-length
-same-length c = search needs
 
 returns-2 : tie.Need-returns-2
 unfolding brokenGroupIn
@@ -77,9 +68,6 @@ change-requires c κs =
     let s = sold-of-number (a .m) (a .w) (a .c) (length (a .word .now)) (a .number) (fair e) in
     (g .0, (s .few-checks, (g .1, (g .2, subst T (sym (not-false _ (c .before .if2 .left)) ∙ ap (λ (x : Tested). x .codeword) (found t)) tt))))
 
-same-length-2 : tie.Need-same-length-2
-same-length-2 c = search needs
-
 returns-3 : tie.Need-returns-3
 returns-3 c =
     let h = c .before .before in
@@ -94,12 +82,12 @@ pub edit-spec : {M : Type 1} → statement M
 edit-spec =
     tie.close
     (tie.spec
-    refusal-requires
+    (let a : tie.Need-refusal-requires = λ c κs. search needs in a)
     returns
-    test-requires
+    (let a : tie.Need-test-requires = λ c κs. search needs in a)
     cast-t13
-    same-length
+    (let a : tie.Need-same-length = λ c. search needs in a)
     returns-2
     change-requires
-    same-length-2
+    (let a : tie.Need-same-length-2 = λ c. search needs in a)
     returns-3)

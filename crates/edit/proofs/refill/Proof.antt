@@ -11,32 +11,8 @@ use borrow.Author.Needs.{needs}
 use Rattle.edit.proofs.refill.Statement.{statement}
 use Rattle.edit.proofs.refill.Tie as tie
 
-group-sums-requires : tie.Need-group-sums-requires
-group-sums-requires c κs = search needs
-
-slice-write-part : tie.Need-slice-write-part
-slice-write-part c = search needs
-
-add-e : tie.Need-add-e
-add-e c = search needs
-
 sub-a : tie.Need-sub-a
 sub-a c = simp length-set (omega arith)
-
-sub-fill : tie.Need-sub-fill
-sub-fill c = search needs
-
-part-fill-start : tie.Need-part-fill-start
-part-fill-start c = search needs
-
-part-fill-end : tie.Need-part-fill-end
-part-fill-end c = search needs
-
-fill-requires : tie.Need-fill-requires
-fill-requires c κs = search needs
-
-group-sums-requires-2 : tie.Need-group-sums-requires-2
-group-sums-requires-2 c κs = search needs
 
 same-length : tie.Need-same-length
 same-length c =
@@ -64,14 +40,14 @@ pub refill-spec : {M : Type 1} → statement M
 refill-spec =
     tie.close
     (tie.spec
-    group-sums-requires
-    slice-write-part
-    add-e
+    (let a : tie.Need-group-sums-requires = λ c κs. search needs in a)
+    (let a : tie.Need-slice-write-part = λ c. search needs in a)
+    (let a : tie.Need-add-e = λ c. search needs in a)
     sub-a
-    sub-fill
-    part-fill-start
-    part-fill-end
-    fill-requires
-    group-sums-requires-2
+    (let a : tie.Need-sub-fill = λ c. search needs in a)
+    (let a : tie.Need-part-fill-start = λ c. search needs in a)
+    (let a : tie.Need-part-fill-end = λ c. search needs in a)
+    (let a : tie.Need-fill-requires = λ c κs. search needs in a)
+    (let a : tie.Need-group-sums-requires-2 = λ c κs. search needs in a)
     same-length
     returns)

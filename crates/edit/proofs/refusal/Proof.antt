@@ -14,17 +14,11 @@ use borrow.Author.Needs.{needs}
 use Rattle.edit.proofs.refusal.Statement.{statement}
 use Rattle.edit.proofs.refusal.Tie as tie
 
-sale-refusal-requires : tie.Need-sale-refusal-requires
-sale-refusal-requires c κs = search needs
-
 returns : tie.Need-returns
 returns c =
     let a = c .before .before .args in
     let e = c .before .sale-refusal .ensures in
     e ∙ sym (refused-sale (a .m) (a .w) (a .c) (a .lent) (a .number) (λ z. c .if1 .taken (e ∙ z)))
-
-word-refusal-requires : tie.Need-word-refusal-requires
-word-refusal-requires c κs = search needs
 
 returns-2 : tie.Need-returns-2
 returns-2 c =
@@ -74,9 +68,9 @@ pub refusal-spec : {M : Type 1} → statement M
 refusal-spec =
     tie.close
     (tie.spec
-    sale-refusal-requires
+    (let a : tie.Need-sale-refusal-requires = λ c κs. search needs in a)
     returns
-    word-refusal-requires
+    (let a : tie.Need-word-refusal-requires = λ c κs. search needs in a)
     returns-2
     sub-if3
     mul-if3

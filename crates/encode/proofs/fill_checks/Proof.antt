@@ -1,20 +1,21 @@
-use mathlib.Core.Path.{ap, _∙_}
-use Rattle.byte_edition.specs.Edition.{byteEdition}
-use Rattle.code_services.specs.PlacesLaws.{marked-checks}
+use Rattle.byte_edition.specs.EditionLaws.{bytes-sound}
+use Rattle.code_loops.specs.EncodeLaws.{checks-given, checks-filled}
 use borrow.Author.Needs.{needs}
 use Rattle.encode.proofs.fill_checks.Statement.{statement}
 use Rattle.encode.proofs.fill_checks.Tie as tie
 use Rattle.encode.proofs.fill_checks.Reads as reads
 use Rattle.encode.proofs.fill_checks.Lts as lts
-use Rattle.recover.proofs.recover.Reads as recover-reads
-use Rattle.places.proofs.mark_checks.Reads as mark-checks-reads
-use Rattle.code_services.specs.Recover.{recoverIn}
+use Rattle.recover.proofs.recover_determined.Reads as recover-determined-reads
+use Rattle.places.proofs.mark_groups.Reads as mark-groups-reads
 
-mark-checks-requires : tie.Need-mark-checks-requires
-mark-checks-requires c κs = search needs
+mark-groups-requires : tie.Need-mark-groups-requires
+mark-groups-requires c κs = search needs
 
-recover-requires : tie.Need-recover-requires
-recover-requires c κs = search needs
+recover-determined-requires : tie.Need-recover-determined-requires
+recover-determined-requires c κs =
+    let k = c .before .before .before .before in
+    let p = k .before .before .before .before .pre in
+    checks-given bytes-sound (p .0) _ _ (p .1 .0) (p .1 .1) (k .mark-groups .ensures)
 
 same-length : tie.Need-same-length
 same-length c = search needs
@@ -26,12 +27,9 @@ returns : tie.Need-returns
 returns c =
     let r = c .before .before .before .before in
     let k = r .before .before .before .before .before in
-    let s = k .before .before .before .before in
-    let a = s .args in
-    r .recover .ensures .1 .0
-    ∙ ap (λ u. (recoverIn byteEdition (a .m) (a .w) (a .c) (a .word .now) u) .word)
-    (k .mark-checks .ensures ∙ marked-checks (s .pre .0) (a .marks .now) (s .pre .1))
+    let p = k .before .before .before .before .pre in
+    checks-filled bytes-sound (p .0) _ _ (p .1 .0) (p .1 .1) (k .mark-groups .ensures) (r .recover-determined .ensures .1 .0)
 
 pub fill-checks-spec : {M : Type 1} → statement M
 fill-checks-spec =
-    tie.close (tie.spec mark-checks-requires recover-requires same-length same-length-2 returns)
+    tie.close (tie.spec mark-groups-requires recover-determined-requires same-length same-length-2 returns)

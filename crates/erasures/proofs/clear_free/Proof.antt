@@ -36,17 +36,8 @@ sub-loop c = let i = c .loop .inv in omega (arith, i .2, i .3 .size)
 add-e : tie.Need-add-e Inv-loop μ-loop
 add-e c = let i = c .before .loop .inv in omega (arith, i .2, i .3 .size)
 
-sub-clear-free-part : tie.Need-sub-clear-free-part Inv-loop μ-loop
-sub-clear-free-part c = search needs
-
-part-clear-free-part-start : tie.Need-part-clear-free-part-start Inv-loop μ-loop
-part-clear-free-part-start c = search needs
-
 part-clear-free-part-end : tie.Need-part-clear-free-part-end Inv-loop μ-loop
 part-clear-free-part-end c = let i = c .before .loop .inv in omega (arith, i .2, i .3 .size)
-
-clear-free-part-requires : tie.Need-clear-free-part-requires Inv-loop μ-loop
-clear-free-part-requires c κs = search needs
 
 loop-less : tie.Need-loop-less Inv-loop μ-loop
 loop-less c =
@@ -89,10 +80,10 @@ clear-free-spec =
     loop-holds
     sub-loop
     add-e
-    sub-clear-free-part
-    part-clear-free-part-start
+    (let a : tie.Need-sub-clear-free-part Inv-loop μ-loop = λ c. search needs in a)
+    (let a : tie.Need-part-clear-free-part-start Inv-loop μ-loop = λ c. search needs in a)
     part-clear-free-part-end
-    clear-free-part-requires
+    (let a : tie.Need-clear-free-part-requires Inv-loop μ-loop = λ c κs. search needs in a)
     loop-less
     loop-again
     same-length

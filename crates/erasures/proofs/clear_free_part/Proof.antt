@@ -19,21 +19,6 @@ abbrev μ-loop : tie.MeasureT-loop
 loop-holds : tie.Need-loop-holds Inv-loop μ-loop
 loop-holds c = let e : c .args .c - 0 ≡ c .args .c = omega arith in (omega arith, omega arith, omega arith, rw e)
 
-slice-read-if1 : tie.Need-slice-read-if1 Inv-loop μ-loop
-slice-read-if1 c = omega arith
-
-add-bound : tie.Need-add-bound Inv-loop μ-loop
-add-bound c = omega arith
-
-slice-write-part : tie.Need-slice-write-part Inv-loop μ-loop
-slice-write-part c = omega arith
-
-add-i : tie.Need-add-i Inv-loop μ-loop
-add-i c = omega arith
-
-loop-less : tie.Need-loop-less Inv-loop μ-loop
-loop-less c = omega arith
-
 loop-again : tie.Need-loop-again Inv-loop μ-loop
 loop-again c =
     let s = c .before .before .before in
@@ -54,9 +39,6 @@ loop-again c =
     (omega arith, omega arith, omega arith, cc (pass-step d i (omega arith) (a .c - k) (w .0 .left)))))
     (c .if1 .came)
 
-same-length : tie.Need-same-length Inv-loop μ-loop
-same-length c = omega arith
-
 returns : tie.Need-returns Inv-loop μ-loop
 returns c = cc (bound-end (c .before .loop .part) (c .before .loop .i) (c .before .before .args .c - c .before .loop .bound) (omega arith))
 
@@ -67,11 +49,11 @@ clear-free-part-spec =
     Inv-loop
     μ-loop
     loop-holds
-    slice-read-if1
-    add-bound
-    slice-write-part
-    add-i
-    loop-less
+    (let a : tie.Need-slice-read-if1 Inv-loop μ-loop = λ c. omega arith in a)
+    (let a : tie.Need-add-bound Inv-loop μ-loop = λ c. omega arith in a)
+    (let a : tie.Need-slice-write-part Inv-loop μ-loop = λ c. omega arith in a)
+    (let a : tie.Need-add-i Inv-loop μ-loop = λ c. omega arith in a)
+    (let a : tie.Need-loop-less Inv-loop μ-loop = λ c. omega arith in a)
     loop-again
-    same-length
+    (let a : tie.Need-same-length Inv-loop μ-loop = λ c. omega arith in a)
     returns)

@@ -31,23 +31,8 @@ loop-holds c = (
   refl,
 )
 
-shared-slice-read-if1 : tie.Need-shared-slice-read-if1 Inv-loop μ-loop
-shared-slice-read-if1 c = omega arith
-
-mul-at : tie.Need-mul-at Inv-loop μ-loop
-mul-at c = omega arith
-
-array-write-at : tie.Need-array-write-at Inv-loop μ-loop
-array-write-at c = omega arith
-
 add-n : tie.Need-add-n Inv-loop μ-loop
 add-n c = let s = c .before .before .before .before in omega (arith, count-le (s .loop .i) (lost (s .before .args .marks .now)))
-
-add-i : tie.Need-add-i Inv-loop μ-loop
-add-i c = omega arith
-
-loop-less : tie.Need-loop-less Inv-loop μ-loop
-loop-less c = omega arith
 
 loop-again : tie.Need-loop-again Inv-loop μ-loop
 loop-again c =
@@ -121,11 +106,11 @@ find-spec =
     Inv-loop
     μ-loop
     loop-holds
-    shared-slice-read-if1
-    mul-at
-    array-write-at
+    (let a : tie.Need-shared-slice-read-if1 Inv-loop μ-loop = λ c. omega arith in a)
+    (let a : tie.Need-mul-at Inv-loop μ-loop = λ c. omega arith in a)
+    (let a : tie.Need-array-write-at Inv-loop μ-loop = λ c. omega arith in a)
     add-n
-    add-i
-    loop-less
+    (let a : tie.Need-add-i Inv-loop μ-loop = λ c. omega arith in a)
+    (let a : tie.Need-loop-less Inv-loop μ-loop = λ c. omega arith in a)
     loop-again
     returns)

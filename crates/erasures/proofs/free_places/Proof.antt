@@ -8,9 +8,6 @@ use Rattle.erasures.proofs.Laws.{bound-not-free}
 use Rattle.erasures.proofs.free_places.Statement.{statement}
 use Rattle.erasures.proofs.free_places.Tie as tie
 
-all-bound-requires : tie.Need-all-bound-requires
-all-bound-requires c κs = search needs
-
 returns : tie.Need-returns
 returns c =
     let k = c .before in
@@ -25,9 +22,6 @@ returns c =
       two-none (a .marks .now) (a .bound .now) (length (a .marks .now)) N (omega arith),
     )
 
-first-free-requires : tie.Need-first-free-requires
-first-free-requires c κs = search needs
-
 returns-2 : tie.Need-returns-2
 returns-2 c =
     let a = c .before .before .before .before .before .before .args in
@@ -35,12 +29,6 @@ returns-2 c =
       free-none (a .marks .now) (a .bound .now) (n .result) (n .ensures) (c .if2 .taken),
       two-none (a .marks .now) (a .bound .now) (n .result) (n .ensures) (c .if2 .taken),
     )
-
-add-after : tie.Need-add-after
-add-after c = search needs
-
-next-free-requires : tie.Need-next-free-requires
-next-free-requires c κs = search needs
 
 returns-3 : tie.Need-returns-3
 returns-3 c =
@@ -68,11 +56,11 @@ pub free-places-spec : {M : Type 1} → statement M
 free-places-spec =
     tie.close
     (tie.spec
-    all-bound-requires
+    (let a : tie.Need-all-bound-requires = λ c κs. search needs in a)
     returns
-    first-free-requires
+    (let a : tie.Need-first-free-requires = λ c κs. search needs in a)
     returns-2
-    add-after
-    next-free-requires
+    (let a : tie.Need-add-after = λ c. search needs in a)
+    (let a : tie.Need-next-free-requires = λ c κs. search needs in a)
     returns-3
     returns-4)

@@ -43,38 +43,8 @@ returns c = λ p l. absurd (omega arith)
 loop-holds : tie.Need-loop-holds Inv-loop μ-loop
 loop-holds c = (omega arith, omega arith, c .if1 .left, λ p l. absurd (omega arith))
 
-sub-loop : tie.Need-sub-loop Inv-loop μ-loop
-sub-loop c = omega arith
-
-add-e : tie.Need-add-e Inv-loop μ-loop
-add-e c = omega arith
-
-sub-all-bound : tie.Need-sub-all-bound Inv-loop μ-loop
-sub-all-bound c = omega arith
-
-part-all-bound-start : tie.Need-part-all-bound-start Inv-loop μ-loop
-part-all-bound-start c = omega arith
-
-part-all-bound-end : tie.Need-part-all-bound-end Inv-loop μ-loop
-part-all-bound-end c = omega arith
-
-sub-all-bound-2 : tie.Need-sub-all-bound-2 Inv-loop μ-loop
-sub-all-bound-2 c = omega arith
-
-part-all-bound-start-2 : tie.Need-part-all-bound-start-2 Inv-loop μ-loop
-part-all-bound-start-2 c = omega arith
-
-part-all-bound-end-2 : tie.Need-part-all-bound-end-2 Inv-loop μ-loop
-part-all-bound-end-2 c = omega arith
-
-all-bound-requires : tie.Need-all-bound-requires Inv-loop μ-loop
-all-bound-requires c κs = search needs
-
 returns-2 : tie.Need-returns-2 Inv-loop μ-loop
 returns-2 c = c .before .before .before .before .before .loop .inv .3
-
-loop-less : tie.Need-loop-less Inv-loop μ-loop
-loop-less c = omega arith
 
 loop-again : tie.Need-loop-again Inv-loop μ-loop
 loop-again c =
@@ -101,16 +71,16 @@ none-free-spec =
     μ-loop
     returns
     loop-holds
-    sub-loop
-    add-e
-    sub-all-bound
-    part-all-bound-start
-    part-all-bound-end
-    sub-all-bound-2
-    part-all-bound-start-2
-    part-all-bound-end-2
-    all-bound-requires
+    (let a : tie.Need-sub-loop Inv-loop μ-loop = λ c. omega arith in a)
+    (let a : tie.Need-add-e Inv-loop μ-loop = λ c. omega arith in a)
+    (let a : tie.Need-sub-all-bound Inv-loop μ-loop = λ c. omega arith in a)
+    (let a : tie.Need-part-all-bound-start Inv-loop μ-loop = λ c. omega arith in a)
+    (let a : tie.Need-part-all-bound-end Inv-loop μ-loop = λ c. omega arith in a)
+    (let a : tie.Need-sub-all-bound-2 Inv-loop μ-loop = λ c. omega arith in a)
+    (let a : tie.Need-part-all-bound-start-2 Inv-loop μ-loop = λ c. omega arith in a)
+    (let a : tie.Need-part-all-bound-end-2 Inv-loop μ-loop = λ c. omega arith in a)
+    (let a : tie.Need-all-bound-requires Inv-loop μ-loop = λ c κs. search needs in a)
     returns-2
-    loop-less
+    (let a : tie.Need-loop-less Inv-loop μ-loop = λ c. omega arith in a)
     loop-again
     returns-3)

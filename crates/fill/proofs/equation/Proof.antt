@@ -18,9 +18,6 @@ use Rattle.fill.proofs.equation.Lts as lts
 use Rattle.byte_edition.proofs.power_row.Reads as power-row-reads
 use Rattle.byte_edition.proofs.power_sum.Reads as power-sum-reads
 
-power-sum-requires : tie.Need-power-sum-requires
-power-sum-requires c κs = search needs
-
 -- four ones at the front
 ones : (rest : List ℕ) (i : ℕ) → i < 4 → getD (1 ∷ 1 ∷ 1 ∷ 1 ∷ rest) i 0 ≡ 1
 ones rest zero l = refl
@@ -38,33 +35,6 @@ returns c =
           ∙ sym (ap (raised byteEdition _) (c .if1 .taken) ∙ power-zero 8 285 _);
       right = s .power-sum .ensures ∙ syndrome (a .args .part .now) (a .args .e) (omega arith) (omega arith);
     }
-
-power-row-requires : tie.Need-power-row-requires
-power-row-requires c κs = search needs
-
-array-read-t12 : tie.Need-array-read-t12
-array-read-t12 c = search needs
-
-array-read-t16 : tie.Need-array-read-t16
-array-read-t16 c = search needs
-
-array-read-t19 : tie.Need-array-read-t19
-array-read-t19 c = search needs
-
-array-read-t23 : tie.Need-array-read-t23
-array-read-t23 c = search needs
-
-array-read-t26 : tie.Need-array-read-t26
-array-read-t26 c = search needs
-
-array-read-t30 : tie.Need-array-read-t30
-array-read-t30 c = search needs
-
-array-read-t33 : tie.Need-array-read-t33
-array-read-t33 c = search needs
-
-array-read-t37 : tie.Need-array-read-t37
-array-read-t37 c = search needs
 
 -- the entries of a row at four positions below 16
 at-four : (powers at rest : List ℕ) (i : ℕ) → i < 4 → getD at i 0 < 16
@@ -94,15 +64,15 @@ pub equation-spec : {M : Type 1} → statement M
 equation-spec =
     tie.close
     (tie.spec
-    power-sum-requires
+    (let a : tie.Need-power-sum-requires = λ c κs. search needs in a)
     returns
-    power-row-requires
-    array-read-t12
-    array-read-t16
-    array-read-t19
-    array-read-t23
-    array-read-t26
-    array-read-t30
-    array-read-t33
-    array-read-t37
+    (let a : tie.Need-power-row-requires = λ c κs. search needs in a)
+    (let a : tie.Need-array-read-t12 = λ c. search needs in a)
+    (let a : tie.Need-array-read-t16 = λ c. search needs in a)
+    (let a : tie.Need-array-read-t19 = λ c. search needs in a)
+    (let a : tie.Need-array-read-t23 = λ c. search needs in a)
+    (let a : tie.Need-array-read-t26 = λ c. search needs in a)
+    (let a : tie.Need-array-read-t30 = λ c. search needs in a)
+    (let a : tie.Need-array-read-t33 = λ c. search needs in a)
+    (let a : tie.Need-array-read-t37 = λ c. search needs in a)
     returns-2)

@@ -11,21 +11,6 @@ use Rattle.fill.proofs.equations.Lts as lts
 use Rattle.byte_edition.proofs.padded.Reads as padded-reads
 use Rattle.fill.proofs.equations_of.Reads as equations-of-reads
 
-sixteen-or-few-requires : tie.Need-sixteen-or-few-requires
-sixteen-or-few-requires c κs = search needs
-
-equations-of-requires : tie.Need-equations-of-requires
-equations-of-requires c κs = search needs
-
-returns : tie.Need-returns
-returns c = search needs
-
-padded-requires : tie.Need-padded-requires
-padded-requires c κs = search needs
-
-slice-aggregate-equations-of : tie.Need-slice-aggregate-equations-of
-slice-aggregate-equations-of c = search needs
-
 equations-of-requires-2 : tie.Need-equations-of-requires-2
 equations-of-requires-2 c κs =
     let p = c .before in
@@ -46,10 +31,10 @@ pub equations-spec : {M : Type 1} → statement M
 equations-spec =
     tie.close
     (tie.spec
-    sixteen-or-few-requires
-    equations-of-requires
-    returns
-    padded-requires
-    slice-aggregate-equations-of
+    (let a : tie.Need-sixteen-or-few-requires = λ c κs. search needs in a)
+    (let a : tie.Need-equations-of-requires = λ c κs. search needs in a)
+    (let a : tie.Need-returns = λ c. search needs in a)
+    (let a : tie.Need-padded-requires = λ c κs. search needs in a)
+    (let a : tie.Need-slice-aggregate-equations-of = λ c. search needs in a)
     equations-of-requires-2
     returns-2)

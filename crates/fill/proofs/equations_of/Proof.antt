@@ -20,21 +20,6 @@ abbrev μ-loop : tie.MeasureT-loop
 loop-holds : tie.Need-loop-holds Inv-loop μ-loop
 loop-holds c = (omega arith, refl, λ k l. absurd (omega arith))
 
-equation-requires : tie.Need-equation-requires Inv-loop μ-loop
-equation-requires c κs = search needs
-
-mul-rows : tie.Need-mul-rows Inv-loop μ-loop
-mul-rows c = omega arith
-
-array-set-from-rows : tie.Need-array-set-from-rows Inv-loop μ-loop
-array-set-from-rows c = omega arith
-
-add-e : tie.Need-add-e Inv-loop μ-loop
-add-e c = omega arith
-
-loop-less : tie.Need-loop-less Inv-loop μ-loop
-loop-less c = omega arith
-
 loop-again : tie.Need-loop-again Inv-loop μ-loop
 loop-again c =
     let s = c .before .before in
@@ -55,10 +40,10 @@ equations-of-spec =
     Inv-loop
     μ-loop
     loop-holds
-    equation-requires
-    mul-rows
-    array-set-from-rows
-    add-e
-    loop-less
+    (let a : tie.Need-equation-requires Inv-loop μ-loop = λ c κs. search needs in a)
+    (let a : tie.Need-mul-rows Inv-loop μ-loop = λ c. omega arith in a)
+    (let a : tie.Need-array-set-from-rows Inv-loop μ-loop = λ c. omega arith in a)
+    (let a : tie.Need-add-e Inv-loop μ-loop = λ c. omega arith in a)
+    (let a : tie.Need-loop-less Inv-loop μ-loop = λ c. omega arith in a)
     loop-again
     returns)

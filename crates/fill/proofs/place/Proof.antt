@@ -18,37 +18,13 @@ abbrev μ-loop : tie.MeasureT-loop
 loop-holds : tie.Need-loop-holds Inv-loop μ-loop
 loop-holds c = (omega arith, refl, sym (placed-none _ _ _))
 
-mul-p : tie.Need-mul-p Inv-loop μ-loop
-mul-p c = omega arith
-
-array-read-p : tie.Need-array-read-p Inv-loop μ-loop
-array-read-p c = omega arith
-
-mul-part : tie.Need-mul-part Inv-loop μ-loop
-mul-part c = omega arith
-
-index-1-part : tie.Need-index-1-part Inv-loop μ-loop
-index-1-part c = omega arith
-
-index-2-part : tie.Need-index-2-part Inv-loop μ-loop
-index-2-part c = omega arith
-
 slice-write-part : tie.Need-slice-write-part Inv-loop μ-loop
 slice-write-part c = let s = c .before .before in rw (s .loop .inv .1) (s .before .pre .1 _ (omega arith))
-
-add-i : tie.Need-add-i Inv-loop μ-loop
-add-i c = omega arith
-
-loop-less : tie.Need-loop-less Inv-loop μ-loop
-loop-less c = omega arith
 
 loop-again : tie.Need-loop-again Inv-loop μ-loop
 loop-again c =
     let s = c .before .before in
     let a = s .before .args in (omega arith, simp length-set (omega arith), cc (placed-suc (a .part .now) (a .t2) (a .t3) (s .loop .i), add-one (s .loop .i)))
-
-same-length : tie.Need-same-length Inv-loop μ-loop
-same-length c = search needs
 
 returns : tie.Need-returns Inv-loop μ-loop
 returns c =
@@ -63,14 +39,14 @@ place-spec =
     Inv-loop
     μ-loop
     loop-holds
-    mul-p
-    array-read-p
-    mul-part
-    index-1-part
-    index-2-part
+    (let a : tie.Need-mul-p Inv-loop μ-loop = λ c. omega arith in a)
+    (let a : tie.Need-array-read-p Inv-loop μ-loop = λ c. omega arith in a)
+    (let a : tie.Need-mul-part Inv-loop μ-loop = λ c. omega arith in a)
+    (let a : tie.Need-index-1-part Inv-loop μ-loop = λ c. omega arith in a)
+    (let a : tie.Need-index-2-part Inv-loop μ-loop = λ c. omega arith in a)
     slice-write-part
-    add-i
-    loop-less
+    (let a : tie.Need-add-i Inv-loop μ-loop = λ c. omega arith in a)
+    (let a : tie.Need-loop-less Inv-loop μ-loop = λ c. omega arith in a)
     loop-again
-    same-length
+    (let a : tie.Need-same-length Inv-loop μ-loop = λ c. search needs in a)
     returns)

@@ -17,6 +17,7 @@ use Rattle.gather_record.proofs.Laws.{whole}
 use Rattle.gather_finish.specs.Finish.{gatherRecovery}
 use Rattle.gather_finish.specs.FinishLaws.{Finishable, finish-parts, mending-is, mending-some}
 use borrow.Author.Needs.{needs}
+use Rattle.code_services.specs.AnsweredLaws.{answers-at}
 use Rattle.gather_finish.proofs.recover_copy.Statement.{statement}
 use Rattle.gather_finish.proofs.recover_copy.Tie as tie
 
@@ -41,15 +42,6 @@ is-asked s = ap (first (s .args .gather)) (ready s .fits)
 abbrev Answered : Gather → Mending → Type 0
 Answered g a = a ≡ mendingAt ((gatherRecovery g) .number) ((gatherRecovery g) .group)
 
-cast-m : tie.Need-cast-m
-cast-m c = search needs
-
-cast-w : tie.Need-cast-w
-cast-w c = search needs
-
-cast-c : tie.Need-cast-c
-cast-c c = search needs
-
 array-borrow-prefix-found : tie.Need-array-borrow-prefix-found
 array-borrow-prefix-found c = let s = c .before .before .before .before .before .before in omega (arith, room s, long s .bytes-long)
 
@@ -66,9 +58,6 @@ slice-aggregate-recover-2 c =
     let s = c .before .before .before .before .before .before .before .before in
     sym (length-take-le _ (s .args .gather .marks) (omega (arith, room s, long s .marks-long)))
 
-recover-requires : tie.Need-recover-requires
-recover-requires c κs = search needs
-
 -- what the recovery left is as long as the word
 abbrev start : tie.After-recover → tie.Start
 start k = k .before .before .before .before .before .before .before .before .before
@@ -79,33 +68,18 @@ kept k =
     k .recover .kept .1 .1 .1 .0 ∙ length-take-le _ (s .args .gather .bytes) (omega (arith, room s, long s .bytes-long))
 
 answer : (k : tie.After-recover) → Answered (start k .args .gather) (k .recover .result)
-answer k = k .recover .ensures .0 ∙ ap (λ o. mendingAt (o .number) (o .group)) (is-asked (start k))
+answer k = answers-at (k .recover .ensures .0) ∙ ap (λ o. mendingAt (o .number) (o .group)) (is-asked (start k))
 
 -- a refusal's number is not 0, and the word stays
 stays : (s : tie.Start) → ((gatherRecovery (s .args .gather)) .number ≡ 0 → ⊥)
     → s .args .word .now ≡ unlessRefused ((gatherRecovery (s .args .gather)) .number) ((gatherRecovery (s .args .gather)) .word) (s .args .word .now)
 stays s some = sym (unless-refused _ _ _ some)
 
-enum-told : tie.Need-enum-told
-enum-told c = search needs
-
 array-share-prefix-found : tie.Need-array-share-prefix-found
 array-share-prefix-found c = let k = c .before .before .before .before in simp length-append (omega (arith, kept k))
 
 slice-aggregate-copy : tie.Need-slice-aggregate-copy
 slice-aggregate-copy c = let k = c .before .before .before .before .before in sym (length-take-le _ _ (array-share-prefix-found (c .before)))
-
-copy-requires : tie.Need-copy-requires
-copy-requires c κs = search needs
-
-enum-known-group : tie.Need-enum-known-group
-enum-known-group c = search needs
-
-enum-known-r : tie.Need-enum-known-r
-enum-known-r c = search needs
-
-same-length : tie.Need-same-length
-same-length c = search needs
 
 returns : tie.Need-returns
 returns c =
@@ -145,21 +119,21 @@ pub recover-copy-spec : {M : Type 1} → statement M
 recover-copy-spec =
     tie.close
     (tie.spec
-    cast-m
-    cast-w
-    cast-c
+    (let a : tie.Need-cast-m = λ c. search needs in a)
+    (let a : tie.Need-cast-w = λ c. search needs in a)
+    (let a : tie.Need-cast-c = λ c. search needs in a)
     array-borrow-prefix-found
     slice-aggregate-recover
     array-borrow-prefix-marks
     slice-aggregate-recover-2
-    recover-requires
-    enum-told
+    (let a : tie.Need-recover-requires = λ c κs. search needs in a)
+    (let a : tie.Need-enum-told = λ c. search needs in a)
     array-share-prefix-found
     slice-aggregate-copy
-    copy-requires
-    enum-known-group
-    enum-known-r
-    same-length
+    (let a : tie.Need-copy-requires = λ c κs. search needs in a)
+    (let a : tie.Need-enum-known-group = λ c. search needs in a)
+    (let a : tie.Need-enum-known-r = λ c. search needs in a)
+    (let a : tie.Need-same-length = λ c. search needs in a)
     returns
     returns-2
     returns-3)

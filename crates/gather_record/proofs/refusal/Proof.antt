@@ -1,4 +1,5 @@
-use mathlib.Core.Path.{_≡_, sym, _∙_}
+use mathlib.Core.Path.{_≡_, sym, ap₂, _∙_}
+use mathlib.Core.Bool.{Bool, true, false}
 use native.Mathlib.Omega.{arith}
 use borrow.Author.Tests.{lt-ltb, le-ltb, eq-eqb, ne-eqb}
 use lib.Dec.{eqb, ltb}
@@ -23,18 +24,6 @@ good c = good-of-refusal _ _ _ (sym (c .before .shape-refusal .ensures) ∙ c .i
 long : (c : tie.Else1) → Whole (lent c)
 long c = whole (lent c) _ (c .before .before .before .before .before .good .0)
 
-cast-m : tie.Need-cast-m
-cast-m c = search needs
-
-cast-w : tie.Need-cast-w
-cast-w c = search needs
-
-cast-c : tie.Need-cast-c
-cast-c c = search needs
-
-shape-refusal-requires : tie.Need-shape-refusal-requires
-shape-refusal-requires c κs = search needs
-
 returns : tie.Need-returns
 returns c =
     let e = c .before .shape-refusal .ensures in
@@ -48,9 +37,6 @@ array-share-prefix-marks c = let l = places-most (good (c .before)) in omega (ar
 
 slice-aggregate-marks-refusal : tie.Need-slice-aggregate-marks-refusal
 slice-aggregate-marks-refusal c = let b = c .before .before in sym (marks-size (b .before .before .before .before .before .args .gather) (good b) (long b))
-
-marks-refusal-requires : tie.Need-marks-refusal-requires
-marks-refusal-requires c κs = search needs
 
 returns-2 : tie.Need-returns-2
 returns-2 c =
@@ -66,41 +52,34 @@ fair k =
     record-good (lent b) (good b) (long b) (sym (k .before .marks-refusal .ensures) ∙ k .if2 .left)
 
 returns-3 : tie.Need-returns-3
-returns-3 c =
-    let k = c .before .before in
-    let b = k .before .before .before .before in
-    let g = lent b in
-    rw (fair k, lt-ltb 1 (g .finished) (c .if3 .taken))
+returns-3 c = let k = c .before .before in rw (fair k, lt-ltb 1 (lent (k .before .before .before .before) .finished) (c .if3 .taken))
+
+-- the finished byte is 0 or 1
+byte : (d : tie.Else3) (v : Bool) → eqb (lent (d .before .before .before .before .before .before) .finished) 1 ≡ v
+    → gatherRefusal (lent (d .before .before .before .before .before .before)) ≡ refuse 22 v
+byte d v e =
+    let g = lent (d .before .before .before .before .before .before) in
+    fair (d .before .before) ∙ ap₂ (λ a b. refuse 6 a orElse refuse 22 b) (le-ltb 1 (g .finished) (omega arith)) e
 
 returns-4 : tie.Need-returns-4
-returns-4 c =
-    let d = c .before .before in
-    let k = d .before .before in
-    let b = k .before .before .before .before in
-    let g = lent b in
-    rw (fair k, le-ltb 1 (g .finished) (omega arith), eq-eqb (g .finished) 1 (c .if4 .taken))
+returns-4 c = sym (byte (c .before .before) true (eq-eqb _ 1 (c .if4 .taken)))
 
 returns-5 : tie.Need-returns-5
-returns-5 c =
-    let d = c .before .before in
-    let k = d .before .before in
-    let b = k .before .before .before .before in
-    let g = lent b in
-    rw (fair k, le-ltb 1 (g .finished) (omega arith), ne-eqb (g .finished) 1 (c .if4 .left))
+returns-5 c = sym (byte (c .before .before) false (ne-eqb _ 1 (c .if4 .left)))
 
 pub refusal-spec : {M : Type 1} → statement M
 refusal-spec =
     tie.close
     (tie.spec
-    cast-m
-    cast-w
-    cast-c
-    shape-refusal-requires
+    (let a : tie.Need-cast-m = λ c. search needs in a)
+    (let a : tie.Need-cast-w = λ c. search needs in a)
+    (let a : tie.Need-cast-c = λ c. search needs in a)
+    (let a : tie.Need-shape-refusal-requires = λ c κs. search needs in a)
     returns
     mul-n
     array-share-prefix-marks
     slice-aggregate-marks-refusal
-    marks-refusal-requires
+    (let a : tie.Need-marks-refusal-requires = λ c κs. search needs in a)
     returns-2
     returns-3
     returns-4

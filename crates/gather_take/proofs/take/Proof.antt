@@ -33,12 +33,6 @@ room c =
     let l = places-most (t .opened .good) in
     omega (arith, t .inside)
 
-take-refusal-requires : tie.Need-take-refusal-requires
-take-refusal-requires c κs = search needs
-
-answer-of-requires : tie.Need-answer-of-requires
-answer-of-requires c κs = search needs
-
 returns : tie.Need-returns
 unfolding takeOf
 returns c =
@@ -51,29 +45,11 @@ returns c =
 add-end : tie.Need-add-end
 add-end c = omega (arith, room c)
 
-sub-copy : tie.Need-sub-copy
-sub-copy c = search needs
-
-part-kept-start : tie.Need-part-kept-start
-part-kept-start c = search needs
-
 part-kept-end : tie.Need-part-kept-end
 part-kept-end c = omega (arith, room (c .before), long (c .before) .bytes-long)
 
-copy-requires : tie.Need-copy-requires
-copy-requires c κs = search needs
-
-sub-clear-if : tie.Need-sub-clear-if
-sub-clear-if c = search needs
-
-part-marks-start : tie.Need-part-marks-start
-part-marks-start c = search needs
-
 part-marks-end : tie.Need-part-marks-end
 part-marks-end c = omega (arith, room (c .before .before .before .before .before), long (c .before .before .before .before .before) .marks-long)
-
-clear-if-requires : tie.Need-clear-if-requires
-clear-if-requires c κs = search needs
 
 returns-2 : tie.Need-returns-2
 returns-2 c =
@@ -94,16 +70,16 @@ pub take-spec : {M : Type 1} → statement M
 take-spec =
     tie.close
     (tie.spec
-    take-refusal-requires
-    answer-of-requires
+    (let a : tie.Need-take-refusal-requires = λ c κs. search needs in a)
+    (let a : tie.Need-answer-of-requires = λ c κs. search needs in a)
     returns
     add-end
-    sub-copy
-    part-kept-start
+    (let a : tie.Need-sub-copy = λ c. search needs in a)
+    (let a : tie.Need-part-kept-start = λ c. search needs in a)
     part-kept-end
-    copy-requires
-    sub-clear-if
-    part-marks-start
+    (let a : tie.Need-copy-requires = λ c κs. search needs in a)
+    (let a : tie.Need-sub-clear-if = λ c. search needs in a)
+    (let a : tie.Need-part-marks-start = λ c. search needs in a)
     part-marks-end
-    clear-if-requires
+    (let a : tie.Need-clear-if-requires = λ c κs. search needs in a)
     returns-2)

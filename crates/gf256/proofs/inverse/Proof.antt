@@ -8,30 +8,12 @@ use Rattle.gf256.specs.RowsLaws.{inverse-found, inverse-by-norm}
 use Rattle.gf256.proofs.inverse.Statement.{statement}
 use Rattle.gf256.proofs.inverse.Tie as tie
 
-locator-like-requires : tie.Need-locator-like-requires
-locator-like-requires c κs = search needs
-
-locator-inverse-requires : tie.Need-locator-inverse-requires
-locator-inverse-requires c κs = search needs
-
 returns : tie.Need-returns
 returns c =
     let l = c .before .before in
     let a = l .before .args .a in
     let e : getD locatorsByLow (a % 16) 0 ≡ a = sym (l .locator-like .ensures) ∙ c .before .if1 .taken in
     c .locator-inverse .ensures ∙ inverse-found a (omega arith) e
-
-sixteenth-requires : tie.Need-sixteenth-requires
-sixteenth-requires c κs = search needs
-
-shifted-product-requires : tie.Need-shifted-product-requires
-shifted-product-requires c κs = search needs
-
-locator-inverse-requires-2 : tie.Need-locator-inverse-requires-2
-locator-inverse-requires-2 c κs = search needs
-
-shifted-product-requires-2 : tie.Need-shifted-product-requires-2
-shifted-product-requires-2 c κs = search needs
 
 returns-2 : tie.Need-returns-2
 returns-2 c =
@@ -42,11 +24,11 @@ pub inverse-spec : {M : Type 1} → statement M
 inverse-spec =
     tie.close
     (tie.spec
-    locator-like-requires
-    locator-inverse-requires
+    (let a : tie.Need-locator-like-requires = λ c κs. search needs in a)
+    (let a : tie.Need-locator-inverse-requires = λ c κs. search needs in a)
     returns
-    sixteenth-requires
-    shifted-product-requires
-    locator-inverse-requires-2
-    shifted-product-requires-2
+    (let a : tie.Need-sixteenth-requires = λ c κs. search needs in a)
+    (let a : tie.Need-shifted-product-requires = λ c κs. search needs in a)
+    (let a : tie.Need-locator-inverse-requires-2 = λ c κs. search needs in a)
+    (let a : tie.Need-shifted-product-requires-2 = λ c κs. search needs in a)
     returns-2)

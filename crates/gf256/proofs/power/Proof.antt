@@ -20,15 +20,6 @@ abbrev μ-loop : tie.MeasureT-loop
 loop-holds : tie.Need-loop-holds Inv-loop μ-loop
 loop-holds c = (omega arith, sym (power-zero 8 285 _))
 
-shifted-product-requires : tie.Need-shifted-product-requires Inv-loop μ-loop
-shifted-product-requires c κs = search needs
-
-add-i : tie.Need-add-i Inv-loop μ-loop
-add-i c = omega arith
-
-loop-less : tie.Need-loop-less Inv-loop μ-loop
-loop-less c = omega arith
-
 loop-again : tie.Need-loop-again Inv-loop μ-loop
 loop-again c =
     let s = c .before .before in
@@ -47,8 +38,8 @@ power-spec =
     Inv-loop
     μ-loop
     loop-holds
-    shifted-product-requires
-    add-i
-    loop-less
+    (let a : tie.Need-shifted-product-requires Inv-loop μ-loop = λ c κs. search needs in a)
+    (let a : tie.Need-add-i Inv-loop μ-loop = λ c. omega arith in a)
+    (let a : tie.Need-loop-less Inv-loop μ-loop = λ c. omega arith in a)
     loop-again
     returns)

@@ -15,44 +15,8 @@ Inv-loop bytes i₀ t3 t4 t5 i = i ≤ length bytes
 abbrev μ-loop : tie.MeasureT-loop
 μ-loop bytes i₀ t3 t4 t5 i = length bytes - i
 
-loop-holds : tie.Need-loop-holds Inv-loop μ-loop
-loop-holds c = search needs
-
-slice-aggregate-write-all : tie.Need-slice-aggregate-write-all Inv-loop μ-loop
-slice-aggregate-write-all c = search needs
-
-write-all-requires : tie.Need-write-all-requires Inv-loop μ-loop
-write-all-requires c κs = search needs
-
-shared-slice-read-number : tie.Need-shared-slice-read-number Inv-loop μ-loop
-shared-slice-read-number c = search needs
-
 cast-number : tie.Need-cast-number Inv-loop μ-loop
 cast-number c = record { fits = (let h = c .shared-slice-known2 .given (c .before .before .before .before .loop .i) .fits in omega arith) }
-
-slice-aggregate-number : tie.Need-slice-aggregate-number Inv-loop μ-loop
-slice-aggregate-number c = search needs
-
-number-requires : tie.Need-number-requires Inv-loop μ-loop
-number-requires c κs = search needs
-
-add-i : tie.Need-add-i Inv-loop μ-loop
-add-i c = search needs
-
-loop-less : tie.Need-loop-less Inv-loop μ-loop
-loop-less c = search needs
-
-loop-again : tie.Need-loop-again Inv-loop μ-loop
-loop-again c = search needs
-
-slice-aggregate-write-all-2 : tie.Need-slice-aggregate-write-all-2 Inv-loop μ-loop
-slice-aggregate-write-all-2 c = search needs
-
-write-all-requires-2 : tie.Need-write-all-requires-2 Inv-loop μ-loop
-write-all-requires-2 c κs = search needs
-
-returns : tie.Need-returns Inv-loop μ-loop
-returns c = search needs
 
 pub bytes-line-spec : {M : Type 1} → statement M
 bytes-line-spec =
@@ -60,16 +24,16 @@ bytes-line-spec =
     (tie.spec
     Inv-loop
     μ-loop
-    loop-holds
-    slice-aggregate-write-all
-    write-all-requires
-    shared-slice-read-number
+    (let a : tie.Need-loop-holds Inv-loop μ-loop = λ c. search needs in a)
+    (let a : tie.Need-slice-aggregate-write-all Inv-loop μ-loop = λ c. search needs in a)
+    (let a : tie.Need-write-all-requires Inv-loop μ-loop = λ c κs. search needs in a)
+    (let a : tie.Need-shared-slice-read-number Inv-loop μ-loop = λ c. search needs in a)
     cast-number
-    slice-aggregate-number
-    number-requires
-    add-i
-    loop-less
-    loop-again
-    slice-aggregate-write-all-2
-    write-all-requires-2
-    returns)
+    (let a : tie.Need-slice-aggregate-number Inv-loop μ-loop = λ c. search needs in a)
+    (let a : tie.Need-number-requires Inv-loop μ-loop = λ c κs. search needs in a)
+    (let a : tie.Need-add-i Inv-loop μ-loop = λ c. search needs in a)
+    (let a : tie.Need-loop-less Inv-loop μ-loop = λ c. search needs in a)
+    (let a : tie.Need-loop-again Inv-loop μ-loop = λ c. search needs in a)
+    (let a : tie.Need-slice-aggregate-write-all-2 Inv-loop μ-loop = λ c. search needs in a)
+    (let a : tie.Need-write-all-requires-2 Inv-loop μ-loop = λ c κs. search needs in a)
+    (let a : tie.Need-returns Inv-loop μ-loop = λ c. search needs in a))

@@ -18,29 +18,11 @@ Inv-loop part n₀ i₀ n i = (i ≤ length part) × (n ≤ i) × (n ≡ countBe
 abbrev μ-loop : tie.MeasureT-loop
 μ-loop part n₀ i₀ n i = length part - i
 
-few-lost-requires : tie.Need-few-lost-requires Inv-loop μ-loop
-few-lost-requires c κs = omega arith
-
-cast-result : tie.Need-cast-result Inv-loop μ-loop
-cast-result c = omega arith
-
 returns : tie.Need-returns Inv-loop μ-loop
 returns c = c .few-lost .ensures
 
 loop-holds : tie.Need-loop-holds Inv-loop μ-loop
 loop-holds c = (omega arith, omega arith, sym (total-none _))
-
-shared-slice-read-if2 : tie.Need-shared-slice-read-if2 Inv-loop μ-loop
-shared-slice-read-if2 c = omega arith
-
-add-n : tie.Need-add-n Inv-loop μ-loop
-add-n c = omega arith
-
-add-i : tie.Need-add-i Inv-loop μ-loop
-add-i c = omega arith
-
-loop-less : tie.Need-loop-less Inv-loop μ-loop
-loop-less c = omega arith
 
 loop-again : tie.Need-loop-again Inv-loop μ-loop
 loop-again c =
@@ -63,13 +45,13 @@ lost-in-spec =
     (tie.spec
     Inv-loop
     μ-loop
-    few-lost-requires
-    cast-result
+    (let a : tie.Need-few-lost-requires Inv-loop μ-loop = λ c κs. omega arith in a)
+    (let a : tie.Need-cast-result Inv-loop μ-loop = λ c. omega arith in a)
     returns
     loop-holds
-    shared-slice-read-if2
-    add-n
-    add-i
-    loop-less
+    (let a : tie.Need-shared-slice-read-if2 Inv-loop μ-loop = λ c. omega arith in a)
+    (let a : tie.Need-add-n Inv-loop μ-loop = λ c. omega arith in a)
+    (let a : tie.Need-add-i Inv-loop μ-loop = λ c. omega arith in a)
+    (let a : tie.Need-loop-less Inv-loop μ-loop = λ c. omega arith in a)
     loop-again
     returns-2)

@@ -35,17 +35,8 @@ sub-loop c = c .loop .inv .2
 add-e : tie.Need-add-e Inv-loop μ-loop
 add-e c = omega (arith, c .before .loop .inv .2)
 
-sub-lost-in : tie.Need-sub-lost-in Inv-loop μ-loop
-sub-lost-in c = search needs
-
-part-lost-in-start : tie.Need-part-lost-in-start Inv-loop μ-loop
-part-lost-in-start c = search needs
-
 part-lost-in-end : tie.Need-part-lost-in-end Inv-loop μ-loop
 part-lost-in-end c = omega (arith, c .before .loop .inv .2)
-
-lost-in-requires : tie.Need-lost-in-requires Inv-loop μ-loop
-lost-in-requires c κs = search needs
 
 -- a stretch has at most w places
 few : (c : tie.After-lost-in Inv-loop μ-loop) → c .lost-in .result ≤ c .before .before .before .before .before .before .args .w
@@ -61,9 +52,6 @@ few c =
 
 add-lost : tie.Need-add-lost Inv-loop μ-loop
 add-lost c = let i = c .before .before .before .loop .inv in omega (arith, few c, i .2, i .3)
-
-smaller-requires : tie.Need-smaller-requires Inv-loop μ-loop
-smaller-requires c κs = search needs
 
 add-own : tie.Need-add-own Inv-loop μ-loop
 add-own c = let i = c .before .before .before .before .loop .inv in omega (arith, few (c .before), i .2, i .4)
@@ -97,9 +85,6 @@ loop-again c =
     let k = subst (λ n. n ≤ a .w) (sym (c .smaller .ensures)) (le-trans (min-le-left _ (a .c)) f) in
     (g + 1, group-next (a .w) g (s .loop .a) (i .1), room, add-le-add (i .3) f, add-le-add (i .4) k, counted c e)
 
-less-requires : tie.Need-less-requires Inv-loop μ-loop
-less-requires c κs = search needs
-
 returns-2 : tie.Need-returns-2 Inv-loop μ-loop
 returns-2 c =
     let s = c .before .before in
@@ -119,14 +104,14 @@ pattern-excess-spec =
     loop-holds
     sub-loop
     add-e
-    sub-lost-in
-    part-lost-in-start
+    (let a : tie.Need-sub-lost-in Inv-loop μ-loop = λ c. search needs in a)
+    (let a : tie.Need-part-lost-in-start Inv-loop μ-loop = λ c. search needs in a)
     part-lost-in-end
-    lost-in-requires
+    (let a : tie.Need-lost-in-requires Inv-loop μ-loop = λ c κs. search needs in a)
     add-lost
-    smaller-requires
+    (let a : tie.Need-smaller-requires Inv-loop μ-loop = λ c κs. search needs in a)
     add-own
     loop-less
     loop-again
-    less-requires
+    (let a : tie.Need-less-requires Inv-loop μ-loop = λ c κs. search needs in a)
     returns-2)

@@ -1,11 +1,10 @@
-use mathlib.Core.Path.{_≡_, refl, sym}
+use mathlib.Core.Path.{_≡_}
 use lib.ListN.{length}
-use Rattle.code.specs.RefusalsLaws.{unless-refused}
 use Rattle.shape.specs.Shapes.{byteLimits}
 use Rattle.code.specs.Limits.{bufferRefusalIn}
 use Rattle.code.specs.LimitsLaws.{good-of-buffers}
 use Rattle.code_services.specs.Places.{extractedIn, extractedDataIn}
-use Rattle.answers.specs.AnswersLaws.{answer-refused}
+use Rattle.code_loops.specs.EndsLaws.{leaves-refused, leaves-done}
 use borrow.Author.Needs.{needs}
 use Rattle.places.proofs.extract.Statement.{statement}
 use Rattle.places.proofs.extract.Tie as tie
@@ -15,12 +14,7 @@ buffer-refusal-requires c κs = search needs
 
 returns : tie.Need-returns
 unfolding extractedIn extractedDataIn
-returns c =
-    let r = c .before .buffer-refusal in
-    let e = r .ensures in (
-      cc (answer-refused (r .result) (c .if1 .taken)),
-      (e, sym (rw (← e) (unless-refused (r .result) _ _ (c .if1 .taken)))),
-    )
+returns c = leaves-refused _ _ (c .before .buffer-refusal .ensures) (c .if1 .taken)
 
 copy-data-requires : tie.Need-copy-data-requires
 copy-data-requires c κs =
@@ -36,7 +30,7 @@ unfolding extractedIn extractedDataIn
 returns-2 c =
     let a = c .before .before .before .before .before .before .before .before .args in
     let z : bufferRefusalIn byteLimits (a .m) (a .w) (a .c) (length (a .word .now)) (length (a .bytes .now)) ≡ 0 = cc in
-    rw z (refl, (refl, c .before .before .copy-data .ensures))
+    leaves-done _ z (c .before .before .copy-data .ensures)
 
 pub extract-spec : {M : Type 1} → statement M
 extract-spec =

@@ -10,7 +10,7 @@ use Rattle.code_engine.specs.GroupsLaws.{group-next, groups-passed}
 use Rattle.code_services.specs.Places.{isCheck, marksFrom, checkMarks}
 use Rattle.code_services.specs.PlacesRuns.{dataOf, withChecks}
 use Rattle.code_services.specs.PlacesLaws.{no-groups}
-use Rattle.places.proofs.Runs.{Runs, runs-of, marks-turn, marks-first, marks-last, stays, group-below, last-of}
+use Rattle.code_loops.specs.RunsLaws.{Runs, runs-of, marks-turn, marks-first, marks-last, stays, group-below, last-of}
 use Rattle.places.proofs.mark_groups.Statement.{statement}
 use Rattle.places.proofs.mark_groups.Tie as tie
 use Rattle.places.proofs.mark_groups.Reads as reads
@@ -46,12 +46,6 @@ add-e c = let i = c .before .loop .inv in omega (arith, i .2, i .3)
 
 sub-data-of : tie.Need-sub-data-of Inv-loop μ-loop
 sub-data-of c = let i = c .before .loop .inv in omega (arith, i .2, i .3)
-
-data-of-requires : tie.Need-data-of-requires Inv-loop μ-loop
-data-of-requires c κs = search needs
-
-sub-mark-part : tie.Need-sub-mark-part Inv-loop μ-loop
-sub-mark-part c = search needs
 
 part-mark-part-start : tie.Need-part-mark-part-start Inv-loop μ-loop
 part-mark-part-start c = let i = c .before .before .loop .inv in omega (arith, i .2, i .3)
@@ -153,8 +147,8 @@ mark-groups-spec =
     sub-loop
     add-e
     sub-data-of
-    data-of-requires
-    sub-mark-part
+    (let a : tie.Need-data-of-requires Inv-loop μ-loop = λ c κs. search needs in a)
+    (let a : tie.Need-sub-mark-part Inv-loop μ-loop = λ c. search needs in a)
     part-mark-part-start
     part-mark-part-end
     mark-part-requires

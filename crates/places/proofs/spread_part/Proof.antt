@@ -1,9 +1,7 @@
-use mathlib.Core.Path.{_≡_, ap, ap₂, _∙_}
-use mathlib.Core.List.{_++_}
-use Prim.Native.Nat.{_-_}
+use mathlib.Core.Path.{ap}
 use native.Mathlib.Omega.{arith}
-use lib.ListN.{length, replicate, length-take}
-use Rattle.places.proofs.Runs.{two-pieces, second-piece}
+use lib.ListN.{length, length-take}
+use Rattle.code_loops.specs.RunsLaws.{front-and-run}
 use borrow.Author.Needs.{needs}
 use Rattle.places.proofs.spread_part.Statement.{statement}
 use Rattle.places.proofs.spread_part.Tie as tie
@@ -12,53 +10,27 @@ use Rattle.places.proofs.spread_part.Lts as lts
 use Rattle.buffers.proofs.copy.Reads as copy-reads
 use Rattle.buffers.proofs.set_all.Reads as set-all-reads
 
-slice-relend-prefix-copy : tie.Need-slice-relend-prefix-copy
-slice-relend-prefix-copy c = search needs
-
 slice-aggregate-copy : tie.Need-slice-aggregate-copy
 slice-aggregate-copy c = simp length-take (omega arith)
-
-copy-requires : tie.Need-copy-requires
-copy-requires c κs = search needs
-
-sub-set-all : tie.Need-sub-set-all
-sub-set-all c = search needs
-
-part-set-all-start : tie.Need-part-set-all-start
-part-set-all-start c = search needs
-
-part-set-all-end : tie.Need-part-set-all-end
-part-set-all-end c = search needs
-
-set-all-requires : tie.Need-set-all-requires
-set-all-requires c κs = search needs
-
-same-length : tie.Need-same-length
-same-length c = search needs
 
 returns : tie.Need-returns
 returns c =
     let b = c .before .before in
     let a = b .before .before .before .before in
     let s = a .before .before .before .before in
-    let x = s .args .part .now in
-    let bytes = s .args .bytes .now in
-    let d = length bytes in
-    let first : a .copy .last .1 .0 ≡ bytes = a .copy .ensures .0 (simp length-take (omega arith)) in
-    let own : length (a .copy .last .1 .0) ≡ d = ap length first in
-    two-pieces d x (a .copy .last .1 .0) own (b .set-all .last .0)
-    ∙ ap₂ _++_ first (b .set-all .ensures ∙ ap (λ n. replicate n 0) (second-piece d x (a .copy .last .1 .0) own))
+    let first = a .copy .ensures .0 (simp length-take (omega arith)) in
+    front-and-run (length (s .args .bytes .now)) (s .args .part .now) _ (ap length first) 0 _ _ first (b .set-all .ensures)
 
 pub spread-part-spec : {M : Type 1} → statement M
 spread-part-spec =
     tie.close
     (tie.spec
-    slice-relend-prefix-copy
+    (let a : tie.Need-slice-relend-prefix-copy = λ c. search needs in a)
     slice-aggregate-copy
-    copy-requires
-    sub-set-all
-    part-set-all-start
-    part-set-all-end
-    set-all-requires
-    same-length
+    (let a : tie.Need-copy-requires = λ c κs. search needs in a)
+    (let a : tie.Need-sub-set-all = λ c. search needs in a)
+    (let a : tie.Need-part-set-all-start = λ c. search needs in a)
+    (let a : tie.Need-part-set-all-end = λ c. search needs in a)
+    (let a : tie.Need-set-all-requires = λ c κs. search needs in a)
+    (let a : tie.Need-same-length = λ c. search needs in a)
     returns)

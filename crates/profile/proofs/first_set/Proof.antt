@@ -17,9 +17,6 @@ Inv-loop counts w c end size₀ size = (size ≤ end) × (firstIn (within counts
 abbrev μ-loop : tie.MeasureT-loop
 μ-loop counts w c end size₀ size = end - size
 
-add-end : tie.Need-add-end Inv-loop μ-loop
-add-end c = omega arith
-
 loop-holds : tie.Need-loop-holds Inv-loop μ-loop
 loop-holds c = (omega arith, below-zero _ _)
 
@@ -28,9 +25,6 @@ search-requires c κs =
     let s = c .before in
     let a = s .before .args in
     ((omega arith, omega arith, omega arith), size-smaller (a .counts .now) (a .w) (s .loop .size) (s .loop .inv .1))
-
-enum-known-found : tie.Need-enum-known-found Inv-loop μ-loop
-enum-known-found c = search needs
 
 returns : tie.Need-returns Inv-loop μ-loop
 returns c =
@@ -42,15 +36,6 @@ returns c =
     let i = found-set (foundIn n (a .w) (s .loop .size) (a .w) 0) (k .found .given .0 .0) (sym (k .found .given .1) ∙ f .search .ensures) in
     ap Found.Set (i .shows)
     ∙ sym (ap foundAt (size-found n (a .w) (s .loop .size) (s .loop .inv .1) (a .c + 1) (f .before .loop-test .taken) (i .s) (i .found)))
-
-enum-told : tie.Need-enum-told Inv-loop μ-loop
-enum-told c = search needs
-
-add-size : tie.Need-add-size Inv-loop μ-loop
-add-size c = omega arith
-
-loop-less : tie.Need-loop-less Inv-loop μ-loop
-loop-less c = omega arith
 
 loop-again : tie.Need-loop-again Inv-loop μ-loop
 loop-again c =
@@ -74,13 +59,13 @@ first-set-spec =
     (tie.spec
     Inv-loop
     μ-loop
-    add-end
+    (let a : tie.Need-add-end Inv-loop μ-loop = λ c. omega arith in a)
     loop-holds
     search-requires
-    enum-known-found
+    (let a : tie.Need-enum-known-found Inv-loop μ-loop = λ c. search needs in a)
     returns
-    enum-told
-    add-size
-    loop-less
+    (let a : tie.Need-enum-told Inv-loop μ-loop = λ c. search needs in a)
+    (let a : tie.Need-add-size Inv-loop μ-loop = λ c. omega arith in a)
+    (let a : tie.Need-loop-less Inv-loop μ-loop = λ c. omega arith in a)
     loop-again
     returns-2)

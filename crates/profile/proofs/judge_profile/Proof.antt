@@ -7,20 +7,17 @@ use Rattle.code_services.specs.Marks.{marksRefusalIn, MarkedIn}
 use Rattle.code_services.specs.MarksLaws.{good-of-marks}
 use Rattle.profile.specs.declared.Profiled.{Profiled}
 use Rattle.profile.specs.Profile.{shownSet}
-use Rattle.profile.specs.Profiled.{profiledNumberOf, profiledAt, profiledOf, profiledNumber}
+use Rattle.profile.specs.Profiled.{profiledNumberOf, profiledAt, profiledOf, profiledNumber, placesShown, profiledPlaces}
 use Rattle.profile.specs.Search.{foundAt}
 use Rattle.profile.specs.SearchLaws.{search-shown}
-use Rattle.profile.specs.Laws.{profiled-refused, profiled-number, answered-set, answered-none}
+use Rattle.profile.specs.Laws.{profiled-refused, profiled-number, profiled-places, answered-set, answered-none}
 use Rattle.profile.proofs.judge_profile.Statement.{statement}
 use Rattle.profile.proofs.judge_profile.Tie as tie
 
--- the number follows from the answer
+-- the number and the places follow from the answer
 whole : (m w c : ℕ) (marks : List ℕ) (r : Profiled) → r ≡ profiledOf m w c marks
-    → (r ≡ profiledOf m w c marks) × (profiledNumber r ≡ profiledNumberOf m w c marks)
-whole m w c marks r e = (e, ap profiledNumber e ∙ profiled-number m w c marks)
-
-marks-refusal-requires : tie.Need-marks-refusal-requires
-marks-refusal-requires c κs = search needs
+    → (r ≡ profiledOf m w c marks) × ((profiledNumber r ≡ profiledNumberOf m w c marks) × (profiledPlaces r ≡ placesShown m w c marks))
+whole m w c marks r e = (e, (ap profiledNumber e ∙ profiled-number m w c marks, ap profiledPlaces e ∙ profiled-places m w c marks))
 
 returns : tie.Need-returns
 unfolding profiledOf
@@ -45,12 +42,6 @@ lost-by-place-requires c κs = let g = marked c .good in (g .some, g .few, g .na
 
 first-set-requires : tie.Need-first-set-requires
 first-set-requires c κs = let g = marked (c .before .before) .good in (g .narrow, g .few-checks)
-
-enum-known-found : tie.Need-enum-known-found
-enum-known-found c = search needs
-
-enum-told : tie.Need-enum-told
-enum-told c = search needs
 
 -- the search finds the set that is shown
 found : (c : tie.After-first-set)
@@ -82,11 +73,11 @@ pub judge-profile-spec : {M : Type 1} → statement M
 judge-profile-spec =
     tie.close
     (tie.spec
-    marks-refusal-requires
+    (let a : tie.Need-marks-refusal-requires = λ c κs. search needs in a)
     returns
     lost-by-place-requires
     first-set-requires
-    enum-known-found
-    enum-told
+    (let a : tie.Need-enum-known-found = λ c. search needs in a)
+    (let a : tie.Need-enum-told = λ c. search needs in a)
     returns-2
     returns-3)

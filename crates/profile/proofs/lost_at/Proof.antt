@@ -24,9 +24,6 @@ abbrev μ-loop : tie.MeasureT-loop
 fits : (m w j g len : ℕ) → g < m → j < w → len ≡ m * w → g * w + j < len
 fits m w j g len l k e = let h : suc g * w ≤ m * w = mul-le-mul-right w l in let s = suc-mul g w in omega arith
 
-sub-last : tie.Need-sub-last Inv-loop μ-loop
-sub-last c = omega arith
-
 loop-holds : tie.Need-loop-holds Inv-loop μ-loop
 loop-holds c = (omega arith, omega arith, sym (total-none _))
 
@@ -47,15 +44,6 @@ shared-slice-read-if1 c =
     let s = c .before .before in
     let a = s .before .args in
     omega (arith, fits (a .m) (a .w) (a .j) (s .loop .g) (length (a .marks .now)) (omega arith) (omega arith) (omega arith))
-
-add-n : tie.Need-add-n Inv-loop μ-loop
-add-n c = omega arith
-
-add-g : tie.Need-add-g Inv-loop μ-loop
-add-g c = omega arith
-
-loop-less : tie.Need-loop-less Inv-loop μ-loop
-loop-less c = omega arith
 
 loop-again : tie.Need-loop-again Inv-loop μ-loop
 loop-again c =
@@ -82,13 +70,13 @@ lost-at-spec =
     (tie.spec
     Inv-loop
     μ-loop
-    sub-last
+    (let a : tie.Need-sub-last Inv-loop μ-loop = λ c. omega arith in a)
     loop-holds
     mul-p
     add-p
     shared-slice-read-if1
-    add-n
-    add-g
-    loop-less
+    (let a : tie.Need-add-n Inv-loop μ-loop = λ c. omega arith in a)
+    (let a : tie.Need-add-g Inv-loop μ-loop = λ c. omega arith in a)
+    (let a : tie.Need-loop-less Inv-loop μ-loop = λ c. omega arith in a)
     loop-again
     returns)

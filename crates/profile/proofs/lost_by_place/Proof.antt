@@ -29,15 +29,6 @@ loop-holds c = (omega arith, refl, λ i l. absurd (omega arith))
 lost-at-requires : tie.Need-lost-at-requires Inv-loop μ-loop
 lost-at-requires c κs = (omega arith, omega arith, omega arith, omega arith)
 
-array-write-counts : tie.Need-array-write-counts Inv-loop μ-loop
-array-write-counts c = omega arith
-
-add-j : tie.Need-add-j Inv-loop μ-loop
-add-j c = omega arith
-
-loop-less : tie.Need-loop-less Inv-loop μ-loop
-loop-less c = omega arith
-
 loop-again : tie.Need-loop-again Inv-loop μ-loop
 loop-again c =
     let s = c .before .before in
@@ -60,8 +51,8 @@ lost-by-place-spec =
     μ-loop
     loop-holds
     lost-at-requires
-    array-write-counts
-    add-j
-    loop-less
+    (let a : tie.Need-array-write-counts Inv-loop μ-loop = λ c. omega arith in a)
+    (let a : tie.Need-add-j Inv-loop μ-loop = λ c. omega arith in a)
+    (let a : tie.Need-loop-less Inv-loop μ-loop = λ c. omega arith in a)
     loop-again
     returns)

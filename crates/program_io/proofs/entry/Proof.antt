@@ -12,12 +12,6 @@ use Rattle.program_io.proofs.entry.Lts as lts
 use Rattle.program_io.proofs.entry_as.Reads as entry-as-reads
 use Rattle.release.proofs.number_text.Reads as number-text-reads
 
-slice-aggregate-number-text : tie.Need-slice-aggregate-number-text
-slice-aggregate-number-text c = search needs
-
-number-text-requires : tie.Need-number-text-requires
-number-text-requires c κs = search needs
-
 array-share-prefix-text : tie.Need-array-share-prefix-text
 array-share-prefix-text c =
     let t = c .before .number-text in
@@ -28,19 +22,13 @@ array-share-prefix-text c =
 slice-aggregate-entry-as : tie.Need-slice-aggregate-entry-as
 slice-aggregate-entry-as c = sym (length-take-le _ _ (array-share-prefix-text (c .before)))
 
-entry-as-requires : tie.Need-entry-as-requires
-entry-as-requires c κs = search needs
-
-returns : tie.Need-returns
-returns c = search needs
-
 pub entry-spec : {M : Type 1} → statement M
 entry-spec =
     tie.close
     (tie.spec
-    slice-aggregate-number-text
-    number-text-requires
+    (let a : tie.Need-slice-aggregate-number-text = λ c. search needs in a)
+    (let a : tie.Need-number-text-requires = λ c κs. search needs in a)
     array-share-prefix-text
     slice-aggregate-entry-as
-    entry-as-requires
-    returns)
+    (let a : tie.Need-entry-as-requires = λ c κs. search needs in a)
+    (let a : tie.Need-returns = λ c. search needs in a))

@@ -10,61 +10,22 @@ Inv-loop buffer₀ turns₀ got₀ buffer turns got = length buffer ≡ length b
 abbrev μ-loop : tie.MeasureT-loop
 μ-loop buffer₀ turns₀ got₀ buffer turns got = turns
 
-read-requires : tie.Need-read-requires Inv-loop μ-loop
-read-requires c κs = tt
-
-loop-holds : tie.Need-loop-holds Inv-loop μ-loop
-loop-holds c = omega arith
-
-is-again-requires : tie.Need-is-again-requires Inv-loop μ-loop
-is-again-requires c κs = tt
-
-read-requires-2 : tie.Need-read-requires-2 Inv-loop μ-loop
-read-requires-2 c κs = tt
-
-sub-turns : tie.Need-sub-turns Inv-loop μ-loop
-sub-turns c = omega arith
-
-loop-less : tie.Need-loop-less Inv-loop μ-loop
-loop-less c = omega arith
-
-loop-again : tie.Need-loop-again Inv-loop μ-loop
-loop-again c = omega arith
-
-same-length : tie.Need-same-length Inv-loop μ-loop
-same-length c = omega arith
-
-returns : tie.Need-returns Inv-loop μ-loop
-returns c = tt
-
-same-length-2 : tie.Need-same-length-2 Inv-loop μ-loop
-same-length-2 c = omega arith
-
-returns-2 : tie.Need-returns-2 Inv-loop μ-loop
-returns-2 c = tt
-
-same-length-3 : tie.Need-same-length-3 Inv-loop μ-loop
-same-length-3 c = omega arith
-
-returns-3 : tie.Need-returns-3 Inv-loop μ-loop
-returns-3 c = tt
-
 pub read-some-spec : {M : Type 1} → statement M
 read-some-spec =
     tie.close
     (tie.spec
     Inv-loop
     μ-loop
-    read-requires
-    loop-holds
-    is-again-requires
-    read-requires-2
-    sub-turns
-    loop-less
-    loop-again
-    same-length
-    returns
-    same-length-2
-    returns-2
-    same-length-3
-    returns-3)
+    (let a : tie.Need-read-requires Inv-loop μ-loop = λ c κs. tt in a)
+    (let a : tie.Need-loop-holds Inv-loop μ-loop = λ c. omega arith in a)
+    (let a : tie.Need-is-again-requires Inv-loop μ-loop = λ c κs. tt in a)
+    (let a : tie.Need-read-requires-2 Inv-loop μ-loop = λ c κs. tt in a)
+    (let a : tie.Need-sub-turns Inv-loop μ-loop = λ c. omega arith in a)
+    (let a : tie.Need-loop-less Inv-loop μ-loop = λ c. omega arith in a)
+    (let a : tie.Need-loop-again Inv-loop μ-loop = λ c. omega arith in a)
+    (let a : tie.Need-same-length Inv-loop μ-loop = λ c. omega arith in a)
+    (let a : tie.Need-returns Inv-loop μ-loop = λ c. tt in a)
+    (let a : tie.Need-same-length-2 Inv-loop μ-loop = λ c. omega arith in a)
+    (let a : tie.Need-returns-2 Inv-loop μ-loop = λ c. tt in a)
+    (let a : tie.Need-same-length-3 Inv-loop μ-loop = λ c. omega arith in a)
+    (let a : tie.Need-returns-3 Inv-loop μ-loop = λ c. tt in a))

@@ -10,57 +10,21 @@ Inv-loop bytes failed done₀ done = done ≤ length bytes
 abbrev μ-loop : tie.MeasureT-loop
 μ-loop bytes failed done₀ done = length bytes - done
 
-loop-holds : tie.Need-loop-holds Inv-loop μ-loop
-loop-holds c = search needs
-
-sub-rest : tie.Need-sub-rest Inv-loop μ-loop
-sub-rest c = search needs
-
-part-rest-start : tie.Need-part-rest-start Inv-loop μ-loop
-part-rest-start c = search needs
-
-part-rest-end : tie.Need-part-rest-end Inv-loop μ-loop
-part-rest-end c = search needs
-
-write-some-requires : tie.Need-write-some-requires Inv-loop μ-loop
-write-some-requires c κs = search needs
-
-count-requires : tie.Need-count-requires Inv-loop μ-loop
-count-requires c κs = search needs
-
-fail-requires : tie.Need-fail-requires Inv-loop μ-loop
-fail-requires c κs = search needs
-
-returns : tie.Need-returns Inv-loop μ-loop
-returns c = search needs
-
-add-done : tie.Need-add-done Inv-loop μ-loop
-add-done c = search needs
-
-loop-less : tie.Need-loop-less Inv-loop μ-loop
-loop-less c = search needs
-
-loop-again : tie.Need-loop-again Inv-loop μ-loop
-loop-again c = search needs
-
-returns-2 : tie.Need-returns-2 Inv-loop μ-loop
-returns-2 c = search needs
-
 pub write-out-spec : {M : Type 1} → statement M
 write-out-spec =
     tie.close
     (tie.spec
     Inv-loop
     μ-loop
-    loop-holds
-    sub-rest
-    part-rest-start
-    part-rest-end
-    write-some-requires
-    count-requires
-    fail-requires
-    returns
-    add-done
-    loop-less
-    loop-again
-    returns-2)
+    (let a : tie.Need-loop-holds Inv-loop μ-loop = λ c. search needs in a)
+    (let a : tie.Need-sub-rest Inv-loop μ-loop = λ c. search needs in a)
+    (let a : tie.Need-part-rest-start Inv-loop μ-loop = λ c. search needs in a)
+    (let a : tie.Need-part-rest-end Inv-loop μ-loop = λ c. search needs in a)
+    (let a : tie.Need-write-some-requires Inv-loop μ-loop = λ c κs. search needs in a)
+    (let a : tie.Need-count-requires Inv-loop μ-loop = λ c κs. search needs in a)
+    (let a : tie.Need-fail-requires Inv-loop μ-loop = λ c κs. search needs in a)
+    (let a : tie.Need-returns Inv-loop μ-loop = λ c. search needs in a)
+    (let a : tie.Need-add-done Inv-loop μ-loop = λ c. search needs in a)
+    (let a : tie.Need-loop-less Inv-loop μ-loop = λ c. search needs in a)
+    (let a : tie.Need-loop-again Inv-loop μ-loop = λ c. search needs in a)
+    (let a : tie.Need-returns-2 Inv-loop μ-loop = λ c. search needs in a))

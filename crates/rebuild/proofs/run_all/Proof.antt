@@ -22,12 +22,6 @@ slice-aggregate-turn c = sym (c .before .before .before .loop .inv .0)
 turn-requires : tie.Need-turn-requires Inv-loop μ-loop
 turn-requires c κs = let l = c .before .before .before .loop in let k = l .inv .0 in let m = l .inv .1 in omega arith
 
-sub-turns : tie.Need-sub-turns Inv-loop μ-loop
-sub-turns c = omega arith
-
-loop-less : tie.Need-loop-less Inv-loop μ-loop
-loop-less c = omega arith
-
 loop-again : tie.Need-loop-again Inv-loop μ-loop
 loop-again c =
     let l = c .before .before .before .before .before .loop in
@@ -42,15 +36,6 @@ array-borrow-prefix-input c = let l = c .before .before .loop in let k = l .inv 
 slice-aggregate-finish : tie.Need-slice-aggregate-finish Inv-loop μ-loop
 slice-aggregate-finish c = sym (length-take-le _ _ (array-borrow-prefix-input (c .before)))
 
-finish-requires : tie.Need-finish-requires Inv-loop μ-loop
-finish-requires c κs = search needs
-
-returns : tie.Need-returns Inv-loop μ-loop
-returns c = search needs
-
-returns-2 : tie.Need-returns-2 Inv-loop μ-loop
-returns-2 c = search needs
-
 pub run-all-spec : {M : Type 1} → statement M
 run-all-spec =
     tie.close
@@ -60,11 +45,11 @@ run-all-spec =
     loop-holds
     slice-aggregate-turn
     turn-requires
-    sub-turns
-    loop-less
+    (let a : tie.Need-sub-turns Inv-loop μ-loop = λ c. omega arith in a)
+    (let a : tie.Need-loop-less Inv-loop μ-loop = λ c. omega arith in a)
     loop-again
     array-borrow-prefix-input
     slice-aggregate-finish
-    finish-requires
-    returns
-    returns-2)
+    (let a : tie.Need-finish-requires Inv-loop μ-loop = λ c κs. search needs in a)
+    (let a : tie.Need-returns Inv-loop μ-loop = λ c. search needs in a)
+    (let a : tie.Need-returns-2 Inv-loop μ-loop = λ c. search needs in a))

@@ -12,12 +12,6 @@ use Rattle.rebuild.proofs.say_text.Lts as lts
 use Rattle.release.proofs.number_text.Reads as number-text-reads
 use Rattle.program_io.proofs.write_some.Reads as write-some-reads
 
-slice-aggregate-number-text : tie.Need-slice-aggregate-number-text
-slice-aggregate-number-text c = search needs
-
-number-text-requires : tie.Need-number-text-requires
-number-text-requires c κs = search needs
-
 array-share-prefix-text : tie.Need-array-share-prefix-text
 array-share-prefix-text c =
     let t = c .before .number-text in
@@ -28,19 +22,13 @@ array-share-prefix-text c =
 slice-aggregate-write-some : tie.Need-slice-aggregate-write-some
 slice-aggregate-write-some c = sym (length-take-le _ _ (array-share-prefix-text (c .before)))
 
-write-some-requires : tie.Need-write-some-requires
-write-some-requires c κs = search needs
-
-returns : tie.Need-returns
-returns c = search needs
-
 pub say-text-spec : {M : Type 1} → statement M
 say-text-spec =
     tie.close
     (tie.spec
-    slice-aggregate-number-text
-    number-text-requires
+    (let a : tie.Need-slice-aggregate-number-text = λ c. search needs in a)
+    (let a : tie.Need-number-text-requires = λ c κs. search needs in a)
     array-share-prefix-text
     slice-aggregate-write-some
-    write-some-requires
-    returns)
+    (let a : tie.Need-write-some-requires = λ c κs. search needs in a)
+    (let a : tie.Need-returns = λ c. search needs in a))

@@ -1,18 +1,15 @@
-use mathlib.Core.Path.{_≡_, refl, sym, ap, _∙_}
+use mathlib.Core.Path.{_≡_, refl, sym, _∙_}
 use native.Mathlib.Omega.{arith}
+use borrow.Author.Needs.{needs}
 use borrow.Author.Tests.{not-true, not-false}
 use lib.Seq.{length-take-le}
-use Rattle.answers.specs.declared.Mending.{Mending}
-use Rattle.answers.specs.Answers.{mendingAt}
-use Rattle.shape.specs.Shapes.{byteLimits}
 use Rattle.code.specs.LimitsLaws.{places-most}
-use Rattle.byte_edition.specs.Edition.{byteEdition}
-use Rattle.code.specs.ContradictionLaws.{contradicting-most}
-use Rattle.code_services.specs.AttemptLaws.{accepted, service-nine, service-done}
-use borrow.Author.Needs.{needs}
-use Rattle.recover.proofs.recover_determined.Statement.{statement}
+use Rattle.shape.specs.Shapes.{byteLimits}
 use Rattle.byte_edition.specs.EditionLaws.{bytes-sound}
 use Rattle.code_services.specs.Attempt.{AcceptedIn}
+use Rattle.code_services.specs.AttemptLaws.{accepted}
+use Rattle.code_loops.specs.RecoverLaws.{recover-nine, recover-done, named-most}
+use Rattle.recover.proofs.recover_determined.Statement.{statement}
 use Rattle.recover.proofs.recover_determined.Tie as tie
 
 -- the shape is good, and word and marks have its length
@@ -32,58 +29,28 @@ attempt-requires c κs =
     let A = fair (c .before .before .before .before .before) in
     (A .good, (A .word-size, (A .marks-size, sym (slice-aggregate-attempt c) ∙ A .word-size)))
 
-clear-if-requires : tie.Need-clear-if-requires
-clear-if-requires c κs = search needs
-
 cast-t20 : tie.Need-cast-t20
 cast-t20 c =
     let t = c .before .before .before .before .before .before .before .before .before in
-    let s = t .before .before .before .before .before .before in
-    let a = s .args in
-    omega (arith, t .attempt .ensures .group, contradicting-most byteEdition (a .m) (a .w) (a .c) (a .word .now) (a .marks .now), fair s .good .few)
-
-same-length : tie.Need-same-length
-same-length c = search needs
-
-same-length-2 : tie.Need-same-length-2
-same-length-2 c = search needs
+    omega (arith, named-most (t .attempt .ensures), fair (t .before .before .before .before .before .before) .good .few)
 
 returns : tie.Need-returns
 returns c =
-    let d = c .before in
-    let cl = d .before .before .before in
+    let cl = c .before .before .before .before in
     let t = cl .before .before .before .before .before in
     let k = t .before .before .before .before .before in
-    let s = k .before in
-    let a = s .args in
-    let n = not-true _ (d .if1 .taken) in
-    let F = t .attempt .ensures .failed n in
-    let g = t .attempt .ensures .group in
-    let e = service-nine bytes-sound (a .m) (a .w) (a .c) (a .word .now) (a .marks .now) (fair s) (λ p. k .slice-known .given p .fits) (s .pre .1)
-    (F .1 (s .pre .1)) in (
-      ap Mending.Contradictory g ∙ ap (λ o. mendingAt (o .number) (o .group)) (sym e),
-      (F .0 ∙ ap (λ o. o .word) (sym e), (cl .clear-if .ensures .1 n ∙ ap (λ o. o .marks) (sym e), λ z. omega arith)),
-    )
-
-same-length-3 : tie.Need-same-length-3
-same-length-3 c = search needs
-
-same-length-4 : tie.Need-same-length-4
-same-length-4 c = search needs
+    let n = not-true _ (c .before .if1 .taken) in
+    recover-nine bytes-sound (fair (k .before)) (λ p. k .slice-known .given p .fits) (k .before .pre .1)
+    (t .attempt .ensures) n (cl .clear-if .ensures .1 n)
 
 returns-2 : tie.Need-returns-2
 returns-2 c =
     let cl = c .before .before .before in
     let t = cl .before .before .before .before .before in
     let k = t .before .before .before .before .before in
-    let s = k .before in
-    let a = s .args in
     let y = not-false _ (c .if1 .left) in
-    let D = t .attempt .ensures .done y in
-    let e = service-done bytes-sound (a .m) (a .w) (a .c) (a .word .now) (a .marks .now) (fair s) (λ p. k .slice-known .given p .fits) _ (s .pre .1) D in (
-      ap (λ o. mendingAt (o .number) (o .group)) (sym e),
-      (ap (λ o. o .word) (sym e), (cl .clear-if .ensures .0 y ∙ ap (λ o. o .marks) (sym e), λ z. omega arith)),
-    )
+    recover-done bytes-sound (fair (k .before)) (λ p. k .slice-known .given p .fits) (k .before .pre .1)
+    (t .attempt .ensures) y (cl .clear-if .ensures .0 y)
 
 pub recover-determined-spec : {M : Type 1} → statement M
 recover-determined-spec =
@@ -92,11 +59,11 @@ recover-determined-spec =
     array-borrow-prefix-found
     slice-aggregate-attempt
     attempt-requires
-    clear-if-requires
+    (let a : tie.Need-clear-if-requires = λ c κs. search needs in a)
     cast-t20
-    same-length
-    same-length-2
+    (let a : tie.Need-same-length = λ c. search needs in a)
+    (let a : tie.Need-same-length-2 = λ c. search needs in a)
     returns
-    same-length-3
-    same-length-4
+    (let a : tie.Need-same-length-3 = λ c. search needs in a)
+    (let a : tie.Need-same-length-4 = λ c. search needs in a)
     returns-2)

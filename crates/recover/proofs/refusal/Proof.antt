@@ -1,8 +1,7 @@
-use mathlib.Core.Path.{_≡_, sym, ap, _∙_}
 use native.Mathlib.Omega.{arith}
 use borrow.Author.Needs.{needs}
-use Rattle.code.specs.RefusalsLaws.{orElse-first}
-use Rattle.code_services.specs.Recover.{recoverRefusalIn}
+use Rattle.shape.specs.Shapes.{byteLimits}
+use Rattle.code_loops.specs.RecoverLaws.{refused-by-word, refused-by-marks}
 use Rattle.recover.proofs.refusal.Statement.{statement}
 use Rattle.recover.proofs.refusal.Tie as tie
 
@@ -10,18 +9,13 @@ word-refusal-requires : tie.Need-word-refusal-requires
 word-refusal-requires c κs = search needs
 
 returns : tie.Need-returns
-unfolding recoverRefusalIn
-returns c = let r = c .before .word-refusal in sym (rw (← (r .ensures)) (orElse-first (r .result) _ (c .if1 .taken)))
+returns c = refused-by-word byteLimits _ _ _ _ _ (c .before .word-refusal .ensures) (c .if1 .taken)
 
-marks-refusal-requires : tie.Need-marks-refusal-requires
-marks-refusal-requires c κs = search needs
+beside-refusal-requires : tie.Need-beside-refusal-requires
+beside-refusal-requires c κs = search needs
 
 returns-2 : tie.Need-returns-2
-unfolding recoverRefusalIn
-returns-2 c =
-    let b = c .before in
-    let z : b .before .word-refusal .result ≡ 0 = omega arith in
-    c .marks-refusal .ensures ∙ sym (rw (← (b .before .word-refusal .ensures), z))
+returns-2 c = refused-by-marks byteLimits _ _ _ _ _ (c .before .before .word-refusal .ensures) (omega arith) (c .beside-refusal .ensures)
 
 pub refusal-spec : {M : Type 1} → statement M
-refusal-spec = tie.close (tie.spec word-refusal-requires returns marks-refusal-requires returns-2)
+refusal-spec = tie.close (tie.spec word-refusal-requires returns beside-refusal-requires returns-2)

@@ -6,20 +6,11 @@ use Rattle.release.specs.JoinedLaws.{row-below, row-at}
 use Rattle.release.proofs.number_text.Statement.{statement}
 use Rattle.release.proofs.number_text.Tie as tie
 
-row-requires : tie.Need-row-requires
-row-requires c κs = search needs
-
-start-requires : tie.Need-start-requires
-start-requires c κs = search needs
-
 add-start : tie.Need-add-start
 add-start c =
     let r = c .before .row in
     let h : r .result < 33 = subst (λ x. x < 33) (sym (r .ensures)) (row-below _) in
     search needs
-
-start-requires-2 : tie.Need-start-requires-2
-start-requires-2 c κs = search needs
 
 lend-part-requires : tie.Need-lend-part-requires
 lend-part-requires c κs =
@@ -34,9 +25,6 @@ sub-result c =
     let h = r .order in
     search needs
 
-same-length : tie.Need-same-length
-same-length c = search needs
-
 returns : tie.Need-returns
 returns c =
     let s = c .before .before .before .before in
@@ -48,11 +36,11 @@ pub number-text-spec : {M : Type 1} → statement M
 number-text-spec =
     tie.close
     (tie.spec
-    row-requires
-    start-requires
+    (let a : tie.Need-row-requires = λ c κs. search needs in a)
+    (let a : tie.Need-start-requires = λ c κs. search needs in a)
     add-start
-    start-requires-2
+    (let a : tie.Need-start-requires-2 = λ c κs. search needs in a)
     lend-part-requires
     sub-result
-    same-length
+    (let a : tie.Need-same-length = λ c. search needs in a)
     returns)

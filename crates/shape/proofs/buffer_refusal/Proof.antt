@@ -6,18 +6,6 @@ use borrow.Author.Needs.{needs}
 use Rattle.shape.proofs.buffer_refusal.Statement.{statement}
 use Rattle.shape.proofs.buffer_refusal.Tie as tie
 
-new-requires : tie.Need-new-requires
-new-requires c κs = search needs
-
-enum-known-r : tie.Need-enum-known-r
-enum-known-r c = search needs
-
-enum-known-s : tie.Need-enum-known-s
-enum-known-s c = search needs
-
-n-requires : tie.Need-n-requires
-n-requires c κs = search needs
-
 returns : tie.Need-returns
 returns c =
     let a = c .before .before .before .before .before .before .args in
@@ -25,9 +13,6 @@ returns c =
     let g = shaped (a .m) (a .w) (a .c) s (cc) in
     let e : c .before .n .result ≡ placeCount (a .m) (a .w) = cc in
     sym (buffers-word-length (a .m) (a .w) (a .c) (a .word) (a .bytes) (g .good) (λ q. c .if1 .taken (q ∙ sym e)))
-
-k-requires : tie.Need-k-requires
-k-requires c κs = search needs
 
 returns-2 : tie.Need-returns-2
 returns-2 c =
@@ -57,12 +42,12 @@ pub buffer-refusal-spec : {M : Type 1} → statement M
 buffer-refusal-spec =
     tie.close
     (tie.spec
-    new-requires
-    enum-known-r
-    enum-known-s
-    n-requires
+    (let a : tie.Need-new-requires = λ c κs. search needs in a)
+    (let a : tie.Need-enum-known-r = λ c. search needs in a)
+    (let a : tie.Need-enum-known-s = λ c. search needs in a)
+    (let a : tie.Need-n-requires = λ c κs. search needs in a)
     returns
-    k-requires
+    (let a : tie.Need-k-requires = λ c κs. search needs in a)
     returns-2
     returns-3
     returns-4)

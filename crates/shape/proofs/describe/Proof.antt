@@ -6,24 +6,6 @@ use borrow.Author.Needs.{needs}
 use Rattle.shape.proofs.describe.Statement.{statement}
 use Rattle.shape.proofs.describe.Tie as tie
 
-new-requires : tie.Need-new-requires
-new-requires c κs = search needs
-
-enum-known-s : tie.Need-enum-known-s
-enum-known-s c = search needs
-
-n-requires : tie.Need-n-requires
-n-requires c κs = search needs
-
-k-requires : tie.Need-k-requires
-k-requires c κs = search needs
-
-sure-requires : tie.Need-sure-requires
-sure-requires c κs = search needs
-
-enum-known-r : tie.Need-enum-known-r
-enum-known-r c = search needs
-
 returns : tie.Need-returns
 unfolding describedIn figuresIn
 returns c =
@@ -44,11 +26,11 @@ pub describe-spec : {M : Type 1} → statement M
 describe-spec =
     tie.close
     (tie.spec
-    new-requires
-    enum-known-s
-    n-requires
-    k-requires
-    sure-requires
-    enum-known-r
+    (let a : tie.Need-new-requires = λ c κs. search needs in a)
+    (let a : tie.Need-enum-known-s = λ c. search needs in a)
+    (let a : tie.Need-n-requires = λ c κs. search needs in a)
+    (let a : tie.Need-k-requires = λ c κs. search needs in a)
+    (let a : tie.Need-sure-requires = λ c κs. search needs in a)
+    (let a : tie.Need-enum-known-r = λ c. search needs in a)
     returns
     returns-2)

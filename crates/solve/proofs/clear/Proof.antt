@@ -19,14 +19,8 @@ Inv-loop x₀ j t b i₀ x i = (i ≤ t) × (length x ≡ 64) × (rowsOf x ≡ c
 abbrev μ-loop : tie.MeasureT-loop
 μ-loop x₀ j t b i₀ x i = t - i
 
-row-at-requires : tie.Need-row-at-requires Inv-loop μ-loop
-row-at-requires c κs = search needs
-
 loop-holds : tie.Need-loop-holds Inv-loop μ-loop
 loop-holds c = (omega arith, omega arith, clear-none 8 285 _ _)
-
-slice-aggregate-clear-row : tie.Need-slice-aggregate-clear-row Inv-loop μ-loop
-slice-aggregate-clear-row c = search needs
 
 clear-row-requires : tie.Need-clear-row-requires Inv-loop μ-loop
 clear-row-requires c κs =
@@ -38,21 +32,12 @@ clear-row-requires c κs =
           (s .loop .inv .2)),
     )
 
-add-i : tie.Need-add-i Inv-loop μ-loop
-add-i c = omega arith
-
-loop-less : tie.Need-loop-less Inv-loop μ-loop
-loop-less c = omega arith
-
 loop-again : tie.Need-loop-again Inv-loop μ-loop
 loop-again c =
     let r = c .before .before in
     let s = r .before .before .before .before in
     let a = s .before .before .before .before .args in
     (omega arith, search needs, r .clear-row .ensures ∙ clear-next 8 285 (rowsOf (a .x .now)) (a .j) (rowsOf (s .loop .x)) (s .loop .i) (s .loop .inv .2))
-
-same-length : tie.Need-same-length Inv-loop μ-loop
-same-length c = omega arith
 
 returns : tie.Need-returns Inv-loop μ-loop
 returns c =
@@ -66,12 +51,12 @@ clear-spec =
     (tie.spec
     Inv-loop
     μ-loop
-    row-at-requires
+    (let a : tie.Need-row-at-requires Inv-loop μ-loop = λ c κs. search needs in a)
     loop-holds
-    slice-aggregate-clear-row
+    (let a : tie.Need-slice-aggregate-clear-row Inv-loop μ-loop = λ c. search needs in a)
     clear-row-requires
-    add-i
-    loop-less
+    (let a : tie.Need-add-i Inv-loop μ-loop = λ c. omega arith in a)
+    (let a : tie.Need-loop-less Inv-loop μ-loop = λ c. omega arith in a)
     loop-again
-    same-length
+    (let a : tie.Need-same-length Inv-loop μ-loop = λ c. omega arith in a)
     returns)

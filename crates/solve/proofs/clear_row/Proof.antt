@@ -21,31 +21,10 @@ use Rattle.solve.proofs.sum.Reads as sum-reads
 returns : tie.Need-returns
 returns c = row-skip 8 285 _ _ _ (c .if1 .taken)
 
-mul-a : tie.Need-mul-a
-mul-a c = search needs
-
-add-e : tie.Need-add-e
-add-e c = search needs
-
-add-f : tie.Need-add-f
-add-f c = search needs
-
-slice-read-f : tie.Need-slice-read-f
-slice-read-f c = search needs
-
 returns-2 : tie.Need-returns-2
 returns-2 c =
     let a = c .before .before .before .before .before in
     clear-zero 8 285 (a .args .x .now) (omega arith) (a .args .i) (omega arith) (a .args .j) (omega arith) (c .if2 .taken)
-
-sub-sum : tie.Need-sub-sum
-sub-sum c = search needs
-
-part-sum-start : tie.Need-part-sum-start
-part-sum-start c = search needs
-
-part-sum-end : tie.Need-part-sum-end
-part-sum-end c = search needs
 
 sum-requires : tie.Need-sum-requires
 sum-requires c κs =
@@ -53,9 +32,6 @@ sum-requires c κs =
     let x : List ℕ = a .args .x .now in
     ap length (a .pre .1) ∙ row-long x (omega arith) (a .args .j) (omega arith)
     ∙ sym (ap length (stretch-lent 16 (a .args .i) x) ∙ stretch-length 16 (a .args .i) x (omega arith))
-
-same-length : tie.Need-same-length
-same-length c = search needs
 
 returns-3 : tie.Need-returns-3
 returns-3 c =
@@ -69,24 +45,12 @@ returns-3 c =
     (rw (stretch-lent 16 i x, a .pre .1) at (s .sum .ensures)
     ∙ ap (λ f. added 8 285 f (stretch 16 i x) (row (rowsOf x) (a .args .j))) (sym (s .before .before .if3 .taken)))
 
-sub-add : tie.Need-sub-add
-sub-add c = search needs
-
-part-add-start : tie.Need-part-add-start
-part-add-start c = search needs
-
-part-add-end : tie.Need-part-add-end
-part-add-end c = search needs
-
 add-requires : tie.Need-add-requires
 add-requires c κs =
     let a = c .before .before .before .before .before .before .before in
     let x : List ℕ = a .args .x .now in
     ap length (a .pre .1) ∙ row-long x (omega arith) (a .args .j) (omega arith)
     ∙ sym (ap length (stretch-lent 16 (a .args .i) x) ∙ stretch-length 16 (a .args .i) x (omega arith))
-
-same-length-2 : tie.Need-same-length-2
-same-length-2 c = search needs
 
 returns-4 : tie.Need-returns-4
 returns-4 c =
@@ -103,20 +67,20 @@ clear-row-spec =
     tie.close
     (tie.spec
     returns
-    mul-a
-    add-e
-    add-f
-    slice-read-f
+    (let a : tie.Need-mul-a = λ c. search needs in a)
+    (let a : tie.Need-add-e = λ c. search needs in a)
+    (let a : tie.Need-add-f = λ c. search needs in a)
+    (let a : tie.Need-slice-read-f = λ c. search needs in a)
     returns-2
-    sub-sum
-    part-sum-start
-    part-sum-end
+    (let a : tie.Need-sub-sum = λ c. search needs in a)
+    (let a : tie.Need-part-sum-start = λ c. search needs in a)
+    (let a : tie.Need-part-sum-end = λ c. search needs in a)
     sum-requires
-    same-length
+    (let a : tie.Need-same-length = λ c. search needs in a)
     returns-3
-    sub-add
-    part-add-start
-    part-add-end
+    (let a : tie.Need-sub-add = λ c. search needs in a)
+    (let a : tie.Need-part-add-start = λ c. search needs in a)
+    (let a : tie.Need-part-add-end = λ c. search needs in a)
     add-requires
-    same-length-2
+    (let a : tie.Need-same-length-2 = λ c. search needs in a)
     returns-4)

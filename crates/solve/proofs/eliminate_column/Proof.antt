@@ -13,29 +13,11 @@ use Rattle.solve.proofs.exchange.Reads as exchange-reads
 use Rattle.solve.proofs.normalize.Reads as normalize-reads
 use Rattle.solve.proofs.pivot.Reads as pivot-reads
 
-pivot-requires : tie.Need-pivot-requires
-pivot-requires c κs = search needs
-
-same-length : tie.Need-same-length
-same-length c = search needs
-
 returns : tie.Need-returns
 returns c =
     let p = c .before in
     let a = p .before .before .before .args in
     column-none 8 285 (rowsOf (a .x .now)) (a .j) (a .t) (p .pivot .result) (p .pivot .ensures) (omega arith)
-
-exchange-requires : tie.Need-exchange-requires
-exchange-requires c κs = search needs
-
-normalize-requires : tie.Need-normalize-requires
-normalize-requires c κs = search needs
-
-clear-requires : tie.Need-clear-requires
-clear-requires c κs = search needs
-
-same-length-2 : tie.Need-same-length-2
-same-length-2 c = search needs
 
 returns-2 : tie.Need-returns-2
 returns-2 c =
@@ -51,11 +33,11 @@ pub eliminate-column-spec : {M : Type 1} → statement M
 eliminate-column-spec =
     tie.close
     (tie.spec
-    pivot-requires
-    same-length
+    (let a : tie.Need-pivot-requires = λ c κs. search needs in a)
+    (let a : tie.Need-same-length = λ c. search needs in a)
     returns
-    exchange-requires
-    normalize-requires
-    clear-requires
-    same-length-2
+    (let a : tie.Need-exchange-requires = λ c κs. search needs in a)
+    (let a : tie.Need-normalize-requires = λ c κs. search needs in a)
+    (let a : tie.Need-clear-requires = λ c κs. search needs in a)
+    (let a : tie.Need-same-length-2 = λ c. search needs in a)
     returns-2)

@@ -25,12 +25,6 @@ eliminate-column-requires : tie.Need-eliminate-column-requires Inv-loop μ-loop
 eliminate-column-requires c κs =
     (omega arith, omega arith, omega arith)
 
-add-j : tie.Need-add-j Inv-loop μ-loop
-add-j c = omega arith
-
-loop-less : tie.Need-loop-less Inv-loop μ-loop
-loop-less c = omega arith
-
 loop-again : tie.Need-loop-again Inv-loop μ-loop
 loop-again c =
     let r = c .before .before in
@@ -41,9 +35,6 @@ loop-again c =
       r .eliminate-column .ensures ∙ eliminate-next 8 285 (rowsOf (a .x .now)) (a .t) (rowsOf (s .loop .x)) (s .loop .j)
           (s .loop .inv .2),
     )
-
-same-length : tie.Need-same-length Inv-loop μ-loop
-same-length c = omega arith
 
 returns : tie.Need-returns Inv-loop μ-loop
 unfolding eliminated
@@ -60,8 +51,8 @@ eliminate-columns-spec =
     μ-loop
     loop-holds
     eliminate-column-requires
-    add-j
-    loop-less
+    (let a : tie.Need-add-j Inv-loop μ-loop = λ c. omega arith in a)
+    (let a : tie.Need-loop-less Inv-loop μ-loop = λ c. omega arith in a)
     loop-again
-    same-length
+    (let a : tie.Need-same-length Inv-loop μ-loop = λ c. omega arith in a)
     returns)

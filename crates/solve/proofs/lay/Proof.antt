@@ -25,12 +25,6 @@ abbrev μ-loop : tie.MeasureT-loop
 loop-holds : tie.Need-loop-holds Inv-loop μ-loop
 loop-holds c = (omega arith, omega arith, λ e l. absurd (omega arith))
 
-mul-row : tie.Need-mul-row Inv-loop μ-loop
-mul-row c = omega arith
-
-array-copy-out-row : tie.Need-array-copy-out-row Inv-loop μ-loop
-array-copy-out-row c = omega arith
-
 slice-aggregate-put-row : tie.Need-slice-aggregate-put-row Inv-loop μ-loop
 slice-aggregate-put-row c =
     let s = c .before .before .before .before in
@@ -41,12 +35,6 @@ put-row-requires c κs =
     let s = c .before .before .before .before in
     ((omega arith, omega arith), array-rows w8 16 4 (s .before .before .args .t1) _ (s .before .before .good .0) .1 (s .loop .i) (omega arith))
 
-add-i : tie.Need-add-i Inv-loop μ-loop
-add-i c = omega arith
-
-loop-less : tie.Need-loop-less Inv-loop μ-loop
-loop-less c = omega arith
-
 loop-again : tie.Need-loop-again Inv-loop μ-loop
 loop-again c =
     let r = c .before .before in
@@ -56,9 +44,6 @@ loop-again c =
       rw (r .put-row .ensures) (rows-more (rowsOf (s .loop .x)) (s .before .before .args .t1) (s .loop .i) _
           (let l = rows-length (s .loop .x) in omega arith) (s .loop .inv .2) refl),
     )
-
-same-length : tie.Need-same-length Inv-loop μ-loop
-same-length c = omega arith
 
 returns : tie.Need-returns Inv-loop μ-loop
 returns c =
@@ -73,12 +58,12 @@ lay-spec =
     Inv-loop
     μ-loop
     loop-holds
-    mul-row
-    array-copy-out-row
+    (let a : tie.Need-mul-row Inv-loop μ-loop = λ c. omega arith in a)
+    (let a : tie.Need-array-copy-out-row Inv-loop μ-loop = λ c. omega arith in a)
     slice-aggregate-put-row
     put-row-requires
-    add-i
-    loop-less
+    (let a : tie.Need-add-i Inv-loop μ-loop = λ c. omega arith in a)
+    (let a : tie.Need-loop-less Inv-loop μ-loop = λ c. omega arith in a)
     loop-again
-    same-length
+    (let a : tie.Need-same-length Inv-loop μ-loop = λ c. omega arith in a)
     returns)

@@ -14,40 +14,10 @@ use Rattle.solve.proofs.normalize.Lts as lts
 use Rattle.gf256.proofs.inverse.Reads as inverse-reads
 use Rattle.solve.proofs.scale.Reads as scale-reads
 
-mul-a : tie.Need-mul-a
-mul-a c = search needs
-
-add-e : tie.Need-add-e
-add-e c = search needs
-
-add-d : tie.Need-add-d
-add-d c = search needs
-
-slice-read-d : tie.Need-slice-read-d
-slice-read-d c = search needs
-
 returns : tie.Need-returns
 returns c =
     let a = c .before .before .before in
     normalize-one 8 285 (a .args .x .now) (omega arith) (a .args .j) (omega arith) (lit< tt) (λ i. c .before .slice-known2 .given i .fits) (c .if1 .taken)
-
-inverse-requires : tie.Need-inverse-requires
-inverse-requires c κs = search needs
-
-sub-scale : tie.Need-sub-scale
-sub-scale c = search needs
-
-part-scale-start : tie.Need-part-scale-start
-part-scale-start c = search needs
-
-part-scale-end : tie.Need-part-scale-end
-part-scale-end c = search needs
-
-scale-requires : tie.Need-scale-requires
-scale-requires c κs = search needs
-
-same-length : tie.Need-same-length
-same-length c = search needs
 
 returns-2 : tie.Need-returns-2
 returns-2 c =
@@ -63,15 +33,15 @@ pub normalize-spec : {M : Type 1} → statement M
 normalize-spec =
     tie.close
     (tie.spec
-    mul-a
-    add-e
-    add-d
-    slice-read-d
+    (let a : tie.Need-mul-a = λ c. search needs in a)
+    (let a : tie.Need-add-e = λ c. search needs in a)
+    (let a : tie.Need-add-d = λ c. search needs in a)
+    (let a : tie.Need-slice-read-d = λ c. search needs in a)
     returns
-    inverse-requires
-    sub-scale
-    part-scale-start
-    part-scale-end
-    scale-requires
-    same-length
+    (let a : tie.Need-inverse-requires = λ c κs. search needs in a)
+    (let a : tie.Need-sub-scale = λ c. search needs in a)
+    (let a : tie.Need-part-scale-start = λ c. search needs in a)
+    (let a : tie.Need-part-scale-end = λ c. search needs in a)
+    (let a : tie.Need-scale-requires = λ c κs. search needs in a)
+    (let a : tie.Need-same-length = λ c. search needs in a)
     returns-2)

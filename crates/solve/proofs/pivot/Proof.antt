@@ -19,18 +19,6 @@ Inv-loop x j t i₀ i = (j ≤ i) × (i ≤ t) × (pivotFrom (rowsOf x) j (t - i
 abbrev μ-loop : tie.MeasureT-loop
 μ-loop x j t i₀ i = t - i
 
-loop-holds : tie.Need-loop-holds Inv-loop μ-loop
-loop-holds c = search needs
-
-mul-if1 : tie.Need-mul-if1 Inv-loop μ-loop
-mul-if1 c = omega arith
-
-add-if1 : tie.Need-add-if1 Inv-loop μ-loop
-add-if1 c = omega arith
-
-shared-slice-read-if1 : tie.Need-shared-slice-read-if1 Inv-loop μ-loop
-shared-slice-read-if1 c = omega arith
-
 returns : tie.Need-returns Inv-loop μ-loop
 unfolding pivot
 returns c =
@@ -39,12 +27,6 @@ returns c =
     let x : List ℕ = a .x .now in
     let e = entry-of x (s .loop .i) (a .j) (omega arith) (omega arith) in
     cc (search-found (rowsOf x) (a .j) (a .t) (s .loop .i) (omega arith) (λ z. c .if1 .taken (sym e ∙ z)))
-
-add-i : tie.Need-add-i Inv-loop μ-loop
-add-i c = omega arith
-
-loop-less : tie.Need-loop-less Inv-loop μ-loop
-loop-less c = omega arith
 
 loop-again : tie.Need-loop-again Inv-loop μ-loop
 loop-again c =
@@ -67,12 +49,12 @@ pivot-spec =
     (tie.spec
     Inv-loop
     μ-loop
-    loop-holds
-    mul-if1
-    add-if1
-    shared-slice-read-if1
+    (let a : tie.Need-loop-holds Inv-loop μ-loop = λ c. search needs in a)
+    (let a : tie.Need-mul-if1 Inv-loop μ-loop = λ c. omega arith in a)
+    (let a : tie.Need-add-if1 Inv-loop μ-loop = λ c. omega arith in a)
+    (let a : tie.Need-shared-slice-read-if1 Inv-loop μ-loop = λ c. omega arith in a)
     returns
-    add-i
-    loop-less
+    (let a : tie.Need-add-i Inv-loop μ-loop = λ c. omega arith in a)
+    (let a : tie.Need-loop-less Inv-loop μ-loop = λ c. omega arith in a)
     loop-again
     returns-2)

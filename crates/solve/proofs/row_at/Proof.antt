@@ -14,27 +14,6 @@ use Rattle.solve.proofs.row_at.Reads as reads
 use Rattle.solve.proofs.row_at.Lts as lts
 use Rattle.buffers.proofs.copy.Reads as copy-reads
 
-mul-a : tie.Need-mul-a
-mul-a c = search needs
-
-add-e : tie.Need-add-e
-add-e c = search needs
-
-sub-copy : tie.Need-sub-copy
-sub-copy c = search needs
-
-part-copy-start : tie.Need-part-copy-start
-part-copy-start c = search needs
-
-part-copy-end : tie.Need-part-copy-end
-part-copy-end c = search needs
-
-slice-aggregate-copy : tie.Need-slice-aggregate-copy
-slice-aggregate-copy c = search needs
-
-copy-requires : tie.Need-copy-requires
-copy-requires c κs = search needs
-
 returns : tie.Need-returns
 returns c =
     let a = c .before .before .before .before .before .args in
@@ -46,11 +25,11 @@ pub row-at-spec : {M : Type 1} → statement M
 row-at-spec =
     tie.close
     (tie.spec
-    mul-a
-    add-e
-    sub-copy
-    part-copy-start
-    part-copy-end
-    slice-aggregate-copy
-    copy-requires
+    (let a : tie.Need-mul-a = λ c. search needs in a)
+    (let a : tie.Need-add-e = λ c. search needs in a)
+    (let a : tie.Need-sub-copy = λ c. search needs in a)
+    (let a : tie.Need-part-copy-start = λ c. search needs in a)
+    (let a : tie.Need-part-copy-end = λ c. search needs in a)
+    (let a : tie.Need-slice-aggregate-copy = λ c. search needs in a)
+    (let a : tie.Need-copy-requires = λ c κs. search needs in a)
     returns)

@@ -20,24 +20,6 @@ Inv-loop row₀ b c₀ row c = (c ≤ length row₀) × (length row ≡ length r
 abbrev μ-loop : tie.MeasureT-loop
 μ-loop row₀ b c₀ row c = length row₀ - c
 
-loop-holds : tie.Need-loop-holds Inv-loop μ-loop
-loop-holds c = search needs
-
-slice-read-row : tie.Need-slice-read-row Inv-loop μ-loop
-slice-read-row c = omega arith
-
-shared-slice-read-row : tie.Need-shared-slice-read-row Inv-loop μ-loop
-shared-slice-read-row c = omega arith
-
-slice-write-row : tie.Need-slice-write-row Inv-loop μ-loop
-slice-write-row c = omega arith
-
-add-c : tie.Need-add-c Inv-loop μ-loop
-add-c c = omega arith
-
-loop-less : tie.Need-loop-less Inv-loop μ-loop
-loop-less c = omega arith
-
 loop-again : tie.Need-loop-again Inv-loop μ-loop
 loop-again c =
     let s = c .before .before .before in
@@ -52,9 +34,6 @@ loop-again c =
           (sym (one-product 8 285 (lit< tt) (getD y i 0) ∙ mod-eq-of-lt small))),
     )
 
-same-length : tie.Need-same-length Inv-loop μ-loop
-same-length c = omega arith
-
 returns : tie.Need-returns Inv-loop μ-loop
 returns c =
     let s = c .before in
@@ -67,12 +46,12 @@ sum-spec =
     (tie.spec
     Inv-loop
     μ-loop
-    loop-holds
-    slice-read-row
-    shared-slice-read-row
-    slice-write-row
-    add-c
-    loop-less
+    (let a : tie.Need-loop-holds Inv-loop μ-loop = λ c. search needs in a)
+    (let a : tie.Need-slice-read-row Inv-loop μ-loop = λ c. omega arith in a)
+    (let a : tie.Need-shared-slice-read-row Inv-loop μ-loop = λ c. omega arith in a)
+    (let a : tie.Need-slice-write-row Inv-loop μ-loop = λ c. omega arith in a)
+    (let a : tie.Need-add-c Inv-loop μ-loop = λ c. omega arith in a)
+    (let a : tie.Need-loop-less Inv-loop μ-loop = λ c. omega arith in a)
     loop-again
-    same-length
+    (let a : tie.Need-same-length Inv-loop μ-loop = λ c. omega arith in a)
     returns)

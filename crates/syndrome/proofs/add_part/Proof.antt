@@ -10,21 +10,6 @@ use Rattle.syndrome.proofs.add_part.Lts as lts
 use Rattle.byte_edition.proofs.padded.Reads as padded-reads
 use Rattle.syndrome.proofs.add_sixteen.Reads as add-sixteen-reads
 
-add-sixteen-requires : tie.Need-add-sixteen-requires
-add-sixteen-requires c κs = search needs
-
-returns : tie.Need-returns
-returns c = search needs
-
-padded-requires : tie.Need-padded-requires
-padded-requires c κs = search needs
-
-slice-aggregate-add-sixteen : tie.Need-slice-aggregate-add-sixteen
-slice-aggregate-add-sixteen c = search needs
-
-add-sixteen-requires-2 : tie.Need-add-sixteen-requires-2
-add-sixteen-requires-2 c κs = search needs
-
 returns-2 : tie.Need-returns-2
 returns-2 c =
     let p = c .before .before in
@@ -39,9 +24,9 @@ pub add-part-spec : {M : Type 1} → statement M
 add-part-spec =
     tie.close
     (tie.spec
-    add-sixteen-requires
-    returns
-    padded-requires
-    slice-aggregate-add-sixteen
-    add-sixteen-requires-2
+    (let a : tie.Need-add-sixteen-requires = λ c κs. search needs in a)
+    (let a : tie.Need-returns = λ c. search needs in a)
+    (let a : tie.Need-padded-requires = λ c κs. search needs in a)
+    (let a : tie.Need-slice-aggregate-add-sixteen = λ c. search needs in a)
+    (let a : tie.Need-add-sixteen-requires-2 = λ c κs. search needs in a)
     returns-2)

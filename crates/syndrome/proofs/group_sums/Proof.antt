@@ -15,9 +15,6 @@ use Rattle.code_engine.specs.PartsLaws.{second-coefficient-group}
 use Rattle.syndrome.proofs.in_range.Reads as in-range-reads
 use Rattle.syndrome.proofs.padded_sums.Reads as padded-sums-reads
 
-in-range-requires : tie.Need-in-range-requires
-in-range-requires c κs = search needs
-
 returns : tie.Need-returns
 returns c = (λ narrow some few _. absurd (c .before .in-range .ensures .1 (not-true _ (c .if1 .taken)) narrow some few), λ _. refl)
 
@@ -28,12 +25,6 @@ padded-sums-requires : tie.Need-padded-sums-requires
 padded-sums-requires c κs =
     let t = c .before in
     t .before .in-range .ensures .0 (not-false _ (t .if1 .left))
-
-power-of-two-requires : tie.Need-power-of-two-requires
-power-of-two-requires c κs = search needs
-
-shifted-product-requires : tie.Need-shifted-product-requires
-shifted-product-requires c κs = search needs
 
 returns-3 : tie.Need-returns-3
 returns-3 c =
@@ -53,10 +44,10 @@ pub group-sums-spec : {M : Type 1} → statement M
 group-sums-spec =
     tie.close
     (tie.spec
-    in-range-requires
+    (let a : tie.Need-in-range-requires = λ c κs. search needs in a)
     returns
     returns-2
     padded-sums-requires
-    power-of-two-requires
-    shifted-product-requires
+    (let a : tie.Need-power-of-two-requires = λ c κs. search needs in a)
+    (let a : tie.Need-shifted-product-requires = λ c κs. search needs in a)
     returns-3)

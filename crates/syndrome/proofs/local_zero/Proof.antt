@@ -15,26 +15,11 @@ returns c = (λ _ few. absurd (omega arith), λ _. refl)
 returns-2 : tie.Need-returns-2
 returns-2 c = (λ narrow _. absurd (omega arith), λ _. refl)
 
-zero-sums-requires : tie.Need-zero-sums-requires
-zero-sums-requires c κs = search needs
-
 returns-3 : tie.Need-returns-3
 returns-3 c = (λ _ _. c .zero-sums .ensures, λ n. absurd (n (omega arith) (omega arith)))
 
-zero-sums-requires-2 : tie.Need-zero-sums-requires-2
-zero-sums-requires-2 c κs = search needs
-
 returns-4 : tie.Need-returns-4
 returns-4 c = (λ _ _. c .zero-sums2 .ensures, λ n. absurd (n (omega arith) (omega arith)))
-
-padded-requires : tie.Need-padded-requires
-padded-requires c κs = search needs
-
-slice-aggregate-zero-sums : tie.Need-slice-aggregate-zero-sums
-slice-aggregate-zero-sums c = search needs
-
-zero-sums-requires-3 : tie.Need-zero-sums-requires-3
-zero-sums-requires-3 c κs = search needs
 
 returns-5 : tie.Need-returns-5
 returns-5 c =
@@ -48,11 +33,11 @@ local-zero-spec =
     (tie.spec
     returns
     returns-2
-    zero-sums-requires
+    (let a : tie.Need-zero-sums-requires = λ c κs. search needs in a)
     returns-3
-    zero-sums-requires-2
+    (let a : tie.Need-zero-sums-requires-2 = λ c κs. search needs in a)
     returns-4
-    padded-requires
-    slice-aggregate-zero-sums
-    zero-sums-requires-3
+    (let a : tie.Need-padded-requires = λ c κs. search needs in a)
+    (let a : tie.Need-slice-aggregate-zero-sums = λ c. search needs in a)
+    (let a : tie.Need-zero-sums-requires-3 = λ c κs. search needs in a)
     returns-5)

@@ -9,21 +9,6 @@ use Rattle.syndrome.proofs.padded_sums.Lts as lts
 use Rattle.byte_edition.proofs.padded.Reads as padded-reads
 use Rattle.syndrome.proofs.plain_sums.Reads as plain-sums-reads
 
-plain-sums-requires : tie.Need-plain-sums-requires
-plain-sums-requires c κs = search needs
-
-returns : tie.Need-returns
-returns c = search needs
-
-padded-requires : tie.Need-padded-requires
-padded-requires c κs = search needs
-
-slice-aggregate-plain-sums : tie.Need-slice-aggregate-plain-sums
-slice-aggregate-plain-sums c = search needs
-
-plain-sums-requires-2 : tie.Need-plain-sums-requires-2
-plain-sums-requires-2 c κs = search needs
-
 returns-2 : tie.Need-returns-2
 returns-2 c =
     let p = c .before .before in
@@ -34,9 +19,9 @@ pub padded-sums-spec : {M : Type 1} → statement M
 padded-sums-spec =
     tie.close
     (tie.spec
-    plain-sums-requires
-    returns
-    padded-requires
-    slice-aggregate-plain-sums
-    plain-sums-requires-2
+    (let a : tie.Need-plain-sums-requires = λ c κs. search needs in a)
+    (let a : tie.Need-returns = λ c. search needs in a)
+    (let a : tie.Need-padded-requires = λ c κs. search needs in a)
+    (let a : tie.Need-slice-aggregate-plain-sums = λ c. search needs in a)
+    (let a : tie.Need-plain-sums-requires-2 = λ c κs. search needs in a)
     returns-2)

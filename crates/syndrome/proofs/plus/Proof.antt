@@ -22,21 +22,6 @@ abbrev μ-loop : tie.MeasureT-loop
 loop-holds : tie.Need-loop-holds Inv-loop μ-loop
 loop-holds c = (omega arith, omega arith, search needs, λ j l. absurd (omega arith))
 
-array-read-r : tie.Need-array-read-r Inv-loop μ-loop
-array-read-r c = omega arith
-
-shared-slice-read-r : tie.Need-shared-slice-read-r Inv-loop μ-loop
-shared-slice-read-r c = omega arith
-
-array-write-r : tie.Need-array-write-r Inv-loop μ-loop
-array-write-r c = omega arith
-
-add-i : tie.Need-add-i Inv-loop μ-loop
-add-i c = omega arith
-
-loop-less : tie.Need-loop-less Inv-loop μ-loop
-loop-less c = omega arith
-
 loop-again : tie.Need-loop-again Inv-loop μ-loop
 loop-again c =
     let s = c .before .before in
@@ -58,10 +43,10 @@ plus-spec =
     Inv-loop
     μ-loop
     loop-holds
-    array-read-r
-    shared-slice-read-r
-    array-write-r
-    add-i
-    loop-less
+    (let a : tie.Need-array-read-r Inv-loop μ-loop = λ c. omega arith in a)
+    (let a : tie.Need-shared-slice-read-r Inv-loop μ-loop = λ c. omega arith in a)
+    (let a : tie.Need-array-write-r Inv-loop μ-loop = λ c. omega arith in a)
+    (let a : tie.Need-add-i Inv-loop μ-loop = λ c. omega arith in a)
+    (let a : tie.Need-loop-less Inv-loop μ-loop = λ c. omega arith in a)
     loop-again
     returns)

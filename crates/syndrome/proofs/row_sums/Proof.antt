@@ -13,41 +13,11 @@ use Rattle.byte_edition.proofs.first_sum.Reads as first-sum-reads
 use Rattle.byte_edition.proofs.padded.Reads as padded-reads
 use Rattle.byte_edition.proofs.second_sum.Reads as second-sum-reads
 
-array-share-prefix-x : tie.Need-array-share-prefix-x
-array-share-prefix-x c = search needs
-
 slice-aggregate-padded : tie.Need-slice-aggregate-padded
 slice-aggregate-padded c = simp length-take (omega arith)
 
-padded-requires : tie.Need-padded-requires
-padded-requires c κs = search needs
-
-array-share-prefix-y : tie.Need-array-share-prefix-y
-array-share-prefix-y c = search needs
-
 slice-aggregate-padded-2 : tie.Need-slice-aggregate-padded-2
 slice-aggregate-padded-2 c = simp length-take (omega arith)
-
-padded-requires-2 : tie.Need-padded-requires-2
-padded-requires-2 c κs = search needs
-
-slice-aggregate-first-sum : tie.Need-slice-aggregate-first-sum
-slice-aggregate-first-sum c = search needs
-
-sub-first-sum : tie.Need-sub-first-sum
-sub-first-sum c = search needs
-
-first-sum-requires : tie.Need-first-sum-requires
-first-sum-requires c κs = search needs
-
-slice-aggregate-second-sum : tie.Need-slice-aggregate-second-sum
-slice-aggregate-second-sum c = search needs
-
-sub-second-sum : tie.Need-sub-second-sum
-sub-second-sum c = search needs
-
-second-sum-requires : tie.Need-second-sum-requires
-second-sum-requires c κs = search needs
 
 returns : tie.Need-returns
 returns c =
@@ -70,16 +40,16 @@ pub row-sums-spec : {M : Type 1} → statement M
 row-sums-spec =
     tie.close
     (tie.spec
-    array-share-prefix-x
+    (let a : tie.Need-array-share-prefix-x = λ c. search needs in a)
     slice-aggregate-padded
-    padded-requires
-    array-share-prefix-y
+    (let a : tie.Need-padded-requires = λ c κs. search needs in a)
+    (let a : tie.Need-array-share-prefix-y = λ c. search needs in a)
     slice-aggregate-padded-2
-    padded-requires-2
-    slice-aggregate-first-sum
-    sub-first-sum
-    first-sum-requires
-    slice-aggregate-second-sum
-    sub-second-sum
-    second-sum-requires
+    (let a : tie.Need-padded-requires-2 = λ c κs. search needs in a)
+    (let a : tie.Need-slice-aggregate-first-sum = λ c. search needs in a)
+    (let a : tie.Need-sub-first-sum = λ c. search needs in a)
+    (let a : tie.Need-first-sum-requires = λ c κs. search needs in a)
+    (let a : tie.Need-slice-aggregate-second-sum = λ c. search needs in a)
+    (let a : tie.Need-sub-second-sum = λ c. search needs in a)
+    (let a : tie.Need-second-sum-requires = λ c κs. search needs in a)
     returns)

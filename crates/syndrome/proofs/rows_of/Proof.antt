@@ -55,9 +55,6 @@ loop-holds c =
           (rows-none bytes-sound (a .w) (a .word .now) (a .m) (replicate 16 0) (replicate 16 0) (λ j _. zeros-row 16 j) (λ j _. zeros-row 16 j)),
     )
 
-sub-g : tie.Need-sub-g Inv-loop μ-loop
-sub-g c = omega arith
-
 mul-a : tie.Need-mul-a Inv-loop μ-loop
 mul-a c =
     let s = c .before in
@@ -77,12 +74,6 @@ part-add-part-end : tie.Need-part-add-part-end Inv-loop μ-loop
 part-add-part-end c =
     let s = c .before in
     omega (arith, end-fits (s .loop .inv .0) (s .loop .g - 1) (omega arith))
-
-add-part-requires : tie.Need-add-part-requires Inv-loop μ-loop
-add-part-requires c κs = search needs
-
-loop-less : tie.Need-loop-less Inv-loop μ-loop
-loop-less c = omega arith
 
 loop-again : tie.Need-loop-again Inv-loop μ-loop
 loop-again c =
@@ -113,12 +104,12 @@ rows-of-spec =
     Inv-loop
     μ-loop
     loop-holds
-    sub-g
+    (let a : tie.Need-sub-g Inv-loop μ-loop = λ c. omega arith in a)
     mul-a
     sub-add-part
     part-add-part-start
     part-add-part-end
-    add-part-requires
-    loop-less
+    (let a : tie.Need-add-part-requires Inv-loop μ-loop = λ c κs. search needs in a)
+    (let a : tie.Need-loop-less Inv-loop μ-loop = λ c. omega arith in a)
     loop-again
     returns)

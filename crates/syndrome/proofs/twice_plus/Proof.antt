@@ -24,24 +24,6 @@ abbrev μ-loop : tie.MeasureT-loop
 loop-holds : tie.Need-loop-holds Inv-loop μ-loop
 loop-holds c = (omega arith, omega arith, search needs, λ j l. absurd (omega arith))
 
-array-read-double : tie.Need-array-read-double Inv-loop μ-loop
-array-read-double c = omega arith
-
-double-requires : tie.Need-double-requires Inv-loop μ-loop
-double-requires c κs = search needs
-
-shared-slice-read-r : tie.Need-shared-slice-read-r Inv-loop μ-loop
-shared-slice-read-r c = omega arith
-
-array-write-r : tie.Need-array-write-r Inv-loop μ-loop
-array-write-r c = omega arith
-
-add-i : tie.Need-add-i Inv-loop μ-loop
-add-i c = omega arith
-
-loop-less : tie.Need-loop-less Inv-loop μ-loop
-loop-less c = omega arith
-
 loop-again : tie.Need-loop-again Inv-loop μ-loop
 loop-again c =
     let s = c .before .before .before in
@@ -64,11 +46,11 @@ twice-plus-spec =
     Inv-loop
     μ-loop
     loop-holds
-    array-read-double
-    double-requires
-    shared-slice-read-r
-    array-write-r
-    add-i
-    loop-less
+    (let a : tie.Need-array-read-double Inv-loop μ-loop = λ c. omega arith in a)
+    (let a : tie.Need-double-requires Inv-loop μ-loop = λ c κs. search needs in a)
+    (let a : tie.Need-shared-slice-read-r Inv-loop μ-loop = λ c. omega arith in a)
+    (let a : tie.Need-array-write-r Inv-loop μ-loop = λ c. omega arith in a)
+    (let a : tie.Need-add-i Inv-loop μ-loop = λ c. omega arith in a)
+    (let a : tie.Need-loop-less Inv-loop μ-loop = λ c. omega arith in a)
     loop-again
     returns)

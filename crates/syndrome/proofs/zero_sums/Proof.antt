@@ -22,9 +22,6 @@ abbrev μ-loop : tie.MeasureT-loop
 loop-holds : tie.Need-loop-holds Inv-loop μ-loop
 loop-holds c = (omega arith, omega arith, omega arith, below-none _)
 
-power-sum-requires : tie.Need-power-sum-requires Inv-loop μ-loop
-power-sum-requires c κs = search needs
-
 returns : tie.Need-returns Inv-loop μ-loop
 returns c =
     let s = c .before .before .before in
@@ -34,12 +31,6 @@ returns c =
     let z = power-group p narrow (s .loop .e) (omega arith) in
     let e : c .before .power-sum .result ≡ localSum byteEdition (length p) p 0 (s .loop .e) = cc in
     sym (is-false _ (λ t. c .if1 .taken (e ∙ local-zero byteEdition (length p) (a .c) p 0 t (s .loop .e) (omega arith))))
-
-add-e : tie.Need-add-e Inv-loop μ-loop
-add-e c = omega arith
-
-loop-less : tie.Need-loop-less Inv-loop μ-loop
-loop-less c = omega arith
 
 loop-again : tie.Need-loop-again Inv-loop μ-loop
 loop-again c =
@@ -66,9 +57,9 @@ zero-sums-spec =
     Inv-loop
     μ-loop
     loop-holds
-    power-sum-requires
+    (let a : tie.Need-power-sum-requires Inv-loop μ-loop = λ c κs. search needs in a)
     returns
-    add-e
-    loop-less
+    (let a : tie.Need-add-e Inv-loop μ-loop = λ c. omega arith in a)
+    (let a : tie.Need-loop-less Inv-loop μ-loop = λ c. omega arith in a)
     loop-again
     returns-2)

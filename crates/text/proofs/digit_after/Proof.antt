@@ -6,31 +6,13 @@ use Rattle.text.proofs.digit_after.Statement.{statement}
 use Rattle.text.proofs.digit_after.Tie as tie
 use Rattle.text.specs.Decimal.{digitAfter}
 
-add-result : tie.Need-add-result
-add-result c = search needs
-
 returns : tie.Need-returns
 unfolding digitAfter
 returns c = let x = c .before .args .x in simp (lt-leb 48 x (omega arith))
 
-add-result-2 : tie.Need-add-result-2
-add-result-2 c = search needs
-
 returns-2 : tie.Need-returns-2
 unfolding digitAfter
 returns-2 c = let x = c .before .before .args .x in simp (le-leb 48 x (omega arith), le-ltb x 58 (omega arith))
-
-mul-n : tie.Need-mul-n
-mul-n c = search needs
-
-sub-n : tie.Need-sub-n
-sub-n c = search needs
-
-add-n : tie.Need-add-n
-add-n c = search needs
-
-add-result-3 : tie.Need-add-result-3
-add-result-3 c = search needs
 
 returns-3 : tie.Need-returns-3
 unfolding digitAfter
@@ -52,13 +34,13 @@ pub digit-after-spec : {M : Type 1} → statement M
 digit-after-spec =
     tie.close
     (tie.spec
-    add-result
+    (let a : tie.Need-add-result = λ c. search needs in a)
     returns
-    add-result-2
+    (let a : tie.Need-add-result-2 = λ c. search needs in a)
     returns-2
-    mul-n
-    sub-n
-    add-n
-    add-result-3
+    (let a : tie.Need-mul-n = λ c. search needs in a)
+    (let a : tie.Need-sub-n = λ c. search needs in a)
+    (let a : tie.Need-add-n = λ c. search needs in a)
+    (let a : tie.Need-add-result-3 = λ c. search needs in a)
     returns-3
     returns-4)

@@ -17,27 +17,12 @@ abbrev μ-loop : tie.MeasureT-loop
 loop-holds : tie.Need-loop-holds Inv-loop μ-loop
 loop-holds c = (omega arith, omega arith, refl)
 
-shared-slice-read-digit-after : tie.Need-shared-slice-read-digit-after Inv-loop μ-loop
-shared-slice-read-digit-after c = omega arith
-
-digit-after-requires : tie.Need-digit-after-requires Inv-loop μ-loop
-digit-after-requires c κs = omega arith
-
-add-result : tie.Need-add-result Inv-loop μ-loop
-add-result c = search needs
-
 returns : tie.Need-returns Inv-loop μ-loop
 returns c =
     let s = c .before .before .before .before in
     let g = s .before .before .args in
     let e = c .before .digit-after .ensures in
     (cc (digits-stop (g .bound) (g .field .now) (s .loop .i) (omega arith) (s .loop .a) (omega arith)), omega arith)
-
-add-i : tie.Need-add-i Inv-loop μ-loop
-add-i c = omega arith
-
-loop-less : tie.Need-loop-less Inv-loop μ-loop
-loop-less c = omega arith
 
 loop-again : tie.Need-loop-again Inv-loop μ-loop
 loop-again c =
@@ -59,11 +44,11 @@ digits-spec =
     Inv-loop
     μ-loop
     loop-holds
-    shared-slice-read-digit-after
-    digit-after-requires
-    add-result
+    (let a : tie.Need-shared-slice-read-digit-after Inv-loop μ-loop = λ c. omega arith in a)
+    (let a : tie.Need-digit-after-requires Inv-loop μ-loop = λ c κs. omega arith in a)
+    (let a : tie.Need-add-result Inv-loop μ-loop = λ c. search needs in a)
     returns
-    add-i
-    loop-less
+    (let a : tie.Need-add-i Inv-loop μ-loop = λ c. omega arith in a)
+    (let a : tie.Need-loop-less Inv-loop μ-loop = λ c. omega arith in a)
     loop-again
     returns-2)

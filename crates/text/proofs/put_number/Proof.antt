@@ -10,20 +10,11 @@ use borrow.Author.Needs.{needs}
 use Rattle.text.proofs.put_number.Statement.{statement}
 use Rattle.text.proofs.put_number.Tie as tie
 
-digit-count-requires : tie.Need-digit-count-requires
-digit-count-requires c κs = search needs
-
 returns : tie.Need-returns
 returns c =
     let a = c .before .before .before .args in
     let p = put-none (a .out .now) (a .at) (9 ∷ digitsOf 9 (a .x)) (omega arith) in
     (sym (p .0), sym (p .1))
-
-add-start : tie.Need-add-start
-add-start c = search needs
-
-sub-if2 : tie.Need-sub-if2
-sub-if2 c = search needs
 
 returns-2 : tie.Need-returns-2
 returns-2 c =
@@ -31,17 +22,8 @@ returns-2 c =
     let p = put-none (a .out .now) (a .at) (9 ∷ digitsOf 9 (a .x)) (omega arith) in
     (sym (p .0), sym (p .1))
 
-slice-write-out : tie.Need-slice-write-out
-slice-write-out c = search needs
-
-add-write-digits : tie.Need-add-write-digits
-add-write-digits c = search needs
-
 write-digits-requires : tie.Need-write-digits-requires
 write-digits-requires c κs = simp length-set (omega arith)
-
-add-result : tie.Need-add-result
-add-result c = search needs
 
 same-length : tie.Need-same-length
 same-length c =
@@ -60,14 +42,14 @@ pub put-number-spec : {M : Type 1} → statement M
 put-number-spec =
     tie.close
     (tie.spec
-    digit-count-requires
+    (let a : tie.Need-digit-count-requires = λ c κs. search needs in a)
     returns
-    add-start
-    sub-if2
+    (let a : tie.Need-add-start = λ c. search needs in a)
+    (let a : tie.Need-sub-if2 = λ c. search needs in a)
     returns-2
-    slice-write-out
-    add-write-digits
+    (let a : tie.Need-slice-write-out = λ c. search needs in a)
+    (let a : tie.Need-add-write-digits = λ c. search needs in a)
     write-digits-requires
-    add-result
+    (let a : tie.Need-add-result = λ c. search needs in a)
     same-length
     returns-3)

@@ -21,12 +21,6 @@ sub-i c =
     let b = back-more (a .out .now) (a .at) (a .end) (a .x) (c .before .before .pre .1) (l .out) (l .i) (l .rest) (l .inv) (omega arith) in
     omega (arith, b .0)
 
-cast-out : tie.Need-cast-out Inv-loop μ-loop
-cast-out c = omega arith
-
-add-out : tie.Need-add-out Inv-loop μ-loop
-add-out c = omega arith
-
 slice-write-out : tie.Need-slice-write-out Inv-loop μ-loop
 slice-write-out c =
     let l = c .before .loop in
@@ -36,20 +30,11 @@ slice-write-out c =
     let e = l .inv .ends in
     omega (arith, b .0)
 
-loop-less : tie.Need-loop-less Inv-loop μ-loop
-loop-less c = omega arith
-
 loop-again : tie.Need-loop-again Inv-loop μ-loop
 loop-again c =
     let l = c .before .loop in
     let a = c .before .before .args in
     back-more (a .out .now) (a .at) (a .end) (a .x) (c .before .before .pre .1) (l .out) (l .i) (l .rest) (l .inv) (omega arith) .1
-
-cast-out-2 : tie.Need-cast-out-2 Inv-loop μ-loop
-cast-out-2 c = omega arith
-
-add-out-2 : tie.Need-add-out-2 Inv-loop μ-loop
-add-out-2 c = omega arith
 
 slice-write-out-2 : tie.Need-slice-write-out-2 Inv-loop μ-loop
 slice-write-out-2 c =
@@ -77,13 +62,13 @@ write-digits-spec =
     μ-loop
     loop-holds
     sub-i
-    cast-out
-    add-out
+    (let a : tie.Need-cast-out Inv-loop μ-loop = λ c. omega arith in a)
+    (let a : tie.Need-add-out Inv-loop μ-loop = λ c. omega arith in a)
     slice-write-out
-    loop-less
+    (let a : tie.Need-loop-less Inv-loop μ-loop = λ c. omega arith in a)
     loop-again
-    cast-out-2
-    add-out-2
+    (let a : tie.Need-cast-out-2 Inv-loop μ-loop = λ c. omega arith in a)
+    (let a : tie.Need-add-out-2 Inv-loop μ-loop = λ c. omega arith in a)
     slice-write-out-2
     same-length
     returns)

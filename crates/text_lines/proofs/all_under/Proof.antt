@@ -14,30 +14,12 @@ Inv-loop line from bound at₀ at = (at ≤ length line) × (allUnder bound (val
 abbrev μ-loop : tie.MeasureT-loop
 μ-loop line from bound at₀ at = length line - at
 
-loop-holds : tie.Need-loop-holds Inv-loop μ-loop
-loop-holds c = search needs
-
-add-value-at : tie.Need-add-value-at Inv-loop μ-loop
-add-value-at c = omega arith
-
-value-at-requires : tie.Need-value-at-requires Inv-loop μ-loop
-value-at-requires c κs = omega arith
-
 returns : tie.Need-returns Inv-loop μ-loop
 returns c =
     let s = c .before .before .before in
     let a = s .before .before .args in
     let e = c .before .value-at .ensures in
     cc (under-stop (a .line .now) (s .loop .at) (omega arith) (a .bound) (omega arith))
-
-add-part-end : tie.Need-add-part-end Inv-loop μ-loop
-add-part-end c = omega arith
-
-part-end-requires : tie.Need-part-end-requires Inv-loop μ-loop
-part-end-requires c κs = omega arith
-
-loop-less : tie.Need-loop-less Inv-loop μ-loop
-loop-less c = omega arith
 
 loop-again : tie.Need-loop-again Inv-loop μ-loop
 loop-again c =
@@ -58,12 +40,12 @@ all-under-spec =
     (tie.spec
     Inv-loop
     μ-loop
-    loop-holds
-    add-value-at
-    value-at-requires
+    (let a : tie.Need-loop-holds Inv-loop μ-loop = λ c. search needs in a)
+    (let a : tie.Need-add-value-at Inv-loop μ-loop = λ c. omega arith in a)
+    (let a : tie.Need-value-at-requires Inv-loop μ-loop = λ c κs. omega arith in a)
     returns
-    add-part-end
-    part-end-requires
-    loop-less
+    (let a : tie.Need-add-part-end Inv-loop μ-loop = λ c. omega arith in a)
+    (let a : tie.Need-part-end-requires Inv-loop μ-loop = λ c κs. omega arith in a)
+    (let a : tie.Need-loop-less Inv-loop μ-loop = λ c. omega arith in a)
     loop-again
     returns-2)

@@ -1,24 +1,14 @@
-use mathlib.Core.Path.{sym, _∙_}
+use mathlib.Core.Bool.{false}
+use mathlib.Core.Path.{_≡_, sym, _∙_}
 use borrow.Author.Needs.{needs}
-use Rattle.text.specs.Records.{nameKind}
+use Rattle.text.specs.Fields.{same}
+use Rattle.text.specs.Records.{nameKind, shapeName, dataName}
 use Rattle.text_lines.proofs.name_kind.Statement.{statement}
 use Rattle.text_lines.proofs.name_kind.Tie as tie
-
-slice-aggregate-is-same : tie.Need-slice-aggregate-is-same
-slice-aggregate-is-same c = search needs
-
-is-same-requires : tie.Need-is-same-requires
-is-same-requires c κs = search needs
 
 returns : tie.Need-returns
 unfolding nameKind
 returns c = simp (sym (c .before .is-same .ensures) ∙ c .if1 .taken)
-
-slice-aggregate-is-same-2 : tie.Need-slice-aggregate-is-same-2
-slice-aggregate-is-same-2 c = search needs
-
-is-same-requires-2 : tie.Need-is-same-requires-2
-is-same-requires-2 c κs = search needs
 
 returns-2 : tie.Need-returns-2
 unfolding nameKind
@@ -26,47 +16,29 @@ returns-2 c =
     let o = c .before .before .before in
     simp (sym (o .before .is-same .ensures) ∙ o .if1 .left, sym (c .before .is-same2 .ensures) ∙ c .if2 .taken)
 
-slice-aggregate-is-same-3 : tie.Need-slice-aggregate-is-same-3
-slice-aggregate-is-same-3 c = search needs
-
-is-same-requires-3 : tie.Need-is-same-requires-3
-is-same-requires-3 c κs = search needs
+others : (k : tie.Else2) → let n = k .before .before .before .before .before .before .before .args .name .now in
+    (same n shapeName ≡ false) × (same n dataName ≡ false)
+others k = let o = k .before .before .before in (sym (o .before .is-same .ensures) ∙ o .if1 .left, sym (k .before .is-same2 .ensures) ∙ k .if2 .left)
 
 returns-3 : tie.Need-returns-3
 unfolding nameKind
-returns-3 c =
-    let t = c .before .before .before in
-    let o = t .before .before .before in
-    simp (
-      sym (o .before .is-same .ensures) ∙ o .if1 .left,
-      sym (t .before .is-same2 .ensures) ∙ t .if2 .left,
-      sym (c .before .is-same3 .ensures)
-          ∙ c .if3 .taken,
-    )
+returns-3 c = let o = others (c .before .before .before) in simp (o .0, o .1, sym (c .before .is-same3 .ensures) ∙ c .if3 .taken)
 
 returns-4 : tie.Need-returns-4
 unfolding nameKind
-returns-4 c =
-    let t = c .before .before .before in
-    let o = t .before .before .before in
-    simp (
-      sym (o .before .is-same .ensures) ∙ o .if1 .left,
-      sym (t .before .is-same2 .ensures) ∙ t .if2 .left,
-      sym (c .before .is-same3 .ensures)
-          ∙ c .if3 .left,
-    )
+returns-4 c = let o = others (c .before .before .before) in simp (o .0, o .1, sym (c .before .is-same3 .ensures) ∙ c .if3 .left)
 
 pub name-kind-spec : {M : Type 1} → statement M
 name-kind-spec =
     tie.close
     (tie.spec
-    slice-aggregate-is-same
-    is-same-requires
+    (let a : tie.Need-slice-aggregate-is-same = λ c. search needs in a)
+    (let a : tie.Need-is-same-requires = λ c κs. search needs in a)
     returns
-    slice-aggregate-is-same-2
-    is-same-requires-2
+    (let a : tie.Need-slice-aggregate-is-same-2 = λ c. search needs in a)
+    (let a : tie.Need-is-same-requires-2 = λ c κs. search needs in a)
     returns-2
-    slice-aggregate-is-same-3
-    is-same-requires-3
+    (let a : tie.Need-slice-aggregate-is-same-3 = λ c. search needs in a)
+    (let a : tie.Need-is-same-requires-3 = λ c κs. search needs in a)
     returns-3
     returns-4)

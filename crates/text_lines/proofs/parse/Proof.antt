@@ -11,22 +11,10 @@ use Rattle.text_lines.proofs.parse.Tie as tie
 returns : tie.Need-returns
 returns c = (sym (kind-long (c .before .before .args .line .now) (omega arith)), λ n. absurd (n refl))
 
-part-end-requires : tie.Need-part-end-requires
-part-end-requires c κs = search needs
-
 slice-aggregate-name-kind : tie.Need-slice-aggregate-name-kind
 slice-aggregate-name-kind c =
     let f = c .before in
     sym (length-take-le (f .part-end .result) (f .before .before .before .args .line .now) (omega arith))
-
-name-kind-requires : tie.Need-name-kind-requires
-name-kind-requires c κs = search needs
-
-bound-of-requires : tie.Need-bound-of-requires
-bound-of-requires c κs = search needs
-
-all-under-requires : tie.Need-all-under-requires
-all-under-requires c κs = search needs
 
 returns-2 : tie.Need-returns-2
 returns-2 c =
@@ -37,17 +25,8 @@ returns-2 c =
     let line = f .before .before .before .args .line .now in
     (kind-over line (omega arith) (f .part-end .result) (f .part-end .ensures .0) (n .name-kind .result) (n .name-kind .ensures) (cc), λ n. absurd (n refl))
 
-slice-aggregate-write-values : tie.Need-slice-aggregate-write-values
-slice-aggregate-write-values c = search needs
-
-slice-aggregate-write-values-2 : tie.Need-slice-aggregate-write-values-2
-slice-aggregate-write-values-2 c = search needs
-
 write-values-requires : tie.Need-write-values-requires
 write-values-requires c κs = (omega arith, (omega arith, omega arith))
-
-kind-with-requires : tie.Need-kind-with-requires
-kind-with-requires c κs = search needs
 
 returns-3 : tie.Need-returns-3
 returns-3 c =
@@ -67,14 +46,14 @@ parse-spec =
     tie.close
     (tie.spec
     returns
-    part-end-requires
+    (let a : tie.Need-part-end-requires = λ c κs. search needs in a)
     slice-aggregate-name-kind
-    name-kind-requires
-    bound-of-requires
-    all-under-requires
+    (let a : tie.Need-name-kind-requires = λ c κs. search needs in a)
+    (let a : tie.Need-bound-of-requires = λ c κs. search needs in a)
+    (let a : tie.Need-all-under-requires = λ c κs. search needs in a)
     returns-2
-    slice-aggregate-write-values
-    slice-aggregate-write-values-2
+    (let a : tie.Need-slice-aggregate-write-values = λ c. search needs in a)
+    (let a : tie.Need-slice-aggregate-write-values-2 = λ c. search needs in a)
     write-values-requires
-    kind-with-requires
+    (let a : tie.Need-kind-with-requires = λ c κs. search needs in a)
     returns-3)

@@ -1,69 +1,42 @@
-use native.Mathlib.Omega.{arith}
+use Rattle.text_lines.specs.WordLine.{contradictoryWordLine}
 use lib.ListN.{length-set}
 use borrow.Author.Needs.{needs}
-use Rattle.text_lines.proofs.Steps.{nine-feed, nine-done}
+use Rattle.text_lines.proofs.Steps.{Fed, nine-fed}
 use Rattle.text_lines.proofs.put_nine.Statement.{statement}
 use Rattle.text_lines.proofs.put_nine.Tie as tie
 
-slice-aggregate-put-text : tie.Need-slice-aggregate-put-text
-slice-aggregate-put-text c = search needs
-
-put-text-requires : tie.Need-put-text-requires
-put-text-requires c κs = search needs
-
-put-number-requires : tie.Need-put-number-requires
-put-number-requires c κs = search needs
-
-put-number-requires-2 : tie.Need-put-number-requires-2
-put-number-requires-2 c κs = search needs
+fed : (k : tie.After-put-number2) → let a = k .before .before .before .before .before .before .before .before .before .before .before .before .args in
+    Fed (a .out .now) (k .put-number2 .last .0) (contradictoryWordLine (a .word) (a .group)) (k .put-number2 .result)
+fed k =
+    let s = k .before .before .before .before in
+    let f = s .before .before .before .before in
+    let t = f .before .before .before .before in
+    let p = f .put-text in
+    let q = s .put-number in
+    let r = k .put-number2 in
+    nine-fed (t .args .out .now) (p .last .0) (q .last .0) (r .last .0) (p .result) (q .result) (r .result) (t .args .word) (t .args .group) (t .pre)
+    (p .ensures .0) (p .ensures .1) (q .ensures .0) (q .ensures .1) (r .ensures .0) (r .ensures .1)
 
 slice-write-out : tie.Need-slice-write-out
-slice-write-out c =
-    let n = c .before .before .put-number2 in
-    let s = c .before .before .before .before .before .before .put-number in
-    let f = c .before .before .before .before .before .before .before .before .before .before .put-text in
-    let t = c .before .before .before .before .before .before .before .before .before .before .before .before .before .before in
-    nine-feed (t .args .out .now) (f .last .0) (s .last .0) (n .last .0) (f .result) (s .result) (n .result) (t .args .word) (t .args .group) (t .pre)
-    (f .ensures .0) (f .ensures .1) (s .ensures .0) (s .ensures .1) (n .ensures .0) (n .ensures .1) .0
+slice-write-out c = fed (c .before .before) .room
 
 add-result : tie.Need-add-result
-add-result c =
-    let n = c .before .before .put-number2 in
-    let s = c .before .before .before .before .before .before .put-number in
-    let f = c .before .before .before .before .before .before .before .before .before .before .put-text in
-    let t = c .before .before .before .before .before .before .before .before .before .before .before .before .before .before in
-    let r = nine-done (t .args .out .now) (f .last .0) (s .last .0) (n .last .0) (f .result) (s .result) (n .result) (t .args .word) (t .args .group) (t .pre)
-    (f .ensures .0) (f .ensures .1) (s .ensures .0) (s .ensures .1) (n .ensures .0) (n .ensures .1) .1 in
-    search needs
+add-result c = let f = fed (c .before .before) in search needs
 
 same-length : tie.Need-same-length
-same-length c =
-    let n = c .before .before .put-number2 in
-    let s = c .before .before .before .before .before .before .put-number in
-    let f = c .before .before .before .before .before .before .before .before .before .before .put-text in
-    let t = c .before .before .before .before .before .before .before .before .before .before .before .before .before .before in
-    simp length-set (nine-feed (t .args .out .now) (f .last .0) (s .last .0) (n .last .0) (f .result) (s .result) (n .result) (t .args .word) (t .args .group)
-    (t .pre)
-    (f .ensures .0) (f .ensures .1) (s .ensures .0) (s .ensures .1) (n .ensures .0) (n .ensures .1) .1)
+same-length c = simp length-set (fed (c .before .before) .same)
 
 returns : tie.Need-returns
-returns c =
-    let n = c .before .before .put-number2 in
-    let s = c .before .before .before .before .before .before .put-number in
-    let f = c .before .before .before .before .before .before .before .before .before .before .put-text in
-    let t = c .before .before .before .before .before .before .before .before .before .before .before .before .before .before in
-    let r = nine-done (t .args .out .now) (f .last .0) (s .last .0) (n .last .0) (f .result) (s .result) (n .result) (t .args .word) (t .args .group) (t .pre)
-    (f .ensures .0) (f .ensures .1) (s .ensures .0) (s .ensures .1) (n .ensures .0) (n .ensures .1) in
-    (r .0, (r .1, r .2))
+returns c = let f = fed (c .before .before) in (f .size, (f .most, f .holds))
 
 pub put-nine-spec : {M : Type 1} → statement M
 put-nine-spec =
     tie.close
     (tie.spec
-    slice-aggregate-put-text
-    put-text-requires
-    put-number-requires
-    put-number-requires-2
+    (let a : tie.Need-slice-aggregate-put-text = λ c. search needs in a)
+    (let a : tie.Need-put-text-requires = λ c κs. search needs in a)
+    (let a : tie.Need-put-number-requires = λ c κs. search needs in a)
+    (let a : tie.Need-put-number-requires-2 = λ c κs. search needs in a)
     slice-write-out
     add-result
     same-length

@@ -22,20 +22,8 @@ loop-holds : tie.Need-loop-holds Inv-loop μ-loop
 unfolding cellsOf
 loop-holds c = (omega arith, refl, omega arith, sym (written-nothing _ _))
 
-shared-slice-read-put-number : tie.Need-shared-slice-read-put-number Inv-loop μ-loop
-shared-slice-read-put-number c = omega arith
-
 cast-put-number : tie.Need-cast-put-number Inv-loop μ-loop
 cast-put-number c = omega (arith, c .shared-slice-known2 .given (c .before .before .before .loop .i))
-
-put-number-requires : tie.Need-put-number-requires Inv-loop μ-loop
-put-number-requires c κs = search needs
-
-add-i : tie.Need-add-i Inv-loop μ-loop
-add-i c = omega arith
-
-loop-less : tie.Need-loop-less Inv-loop μ-loop
-loop-less c = omega arith
 
 loop-again : tie.Need-loop-again Inv-loop μ-loop
 loop-again c =
@@ -46,9 +34,6 @@ loop-again c =
     let s = numbers-step (a .out .now) (l .out) (p .last .0) (a .numbers .now) (a .at) (l .next) (l .i) (omega arith) (omega arith) (omega arith) (l .inv .2)
     (l .inv .3) (p .result) (p .ensures .0) (p .ensures .1) in
     (omega arith, s .2, s .0, s .1)
-
-same-length : tie.Need-same-length Inv-loop μ-loop
-same-length c = omega arith
 
 returns : tie.Need-returns Inv-loop μ-loop
 returns c =
@@ -65,11 +50,11 @@ put-numbers-spec =
     Inv-loop
     μ-loop
     loop-holds
-    shared-slice-read-put-number
+    (let a : tie.Need-shared-slice-read-put-number Inv-loop μ-loop = λ c. omega arith in a)
     cast-put-number
-    put-number-requires
-    add-i
-    loop-less
+    (let a : tie.Need-put-number-requires Inv-loop μ-loop = λ c κs. search needs in a)
+    (let a : tie.Need-add-i Inv-loop μ-loop = λ c. omega arith in a)
+    (let a : tie.Need-loop-less Inv-loop μ-loop = λ c. omega arith in a)
     loop-again
-    same-length
+    (let a : tie.Need-same-length Inv-loop μ-loop = λ c. omega arith in a)
     returns)

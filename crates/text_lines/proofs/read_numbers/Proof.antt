@@ -3,6 +3,7 @@ use mathlib.Core.Bool.{Bool, true, false, _&&_}
 use Prim.Native.Nat.{ℕ}
 use native.Mathlib.Omega.{arith}
 use lib.Seq.{length-take-le}
+use Rattle.text_lines.specs.Numbers.{isNumbers}
 use borrow.Author.Needs.{needs}
 use Rattle.text_lines.proofs.LineKinds.{numbers-read, holds-numbers, numbers-long}
 use Rattle.text_lines.proofs.read_numbers.Statement.{statement}
@@ -20,63 +21,46 @@ first-fails a b e = rw e
 returns : tie.Need-returns
 returns c = let a = c .before .before .before .args in (numbers-long (a .name .now) (a .line .now) (omega arith), λ e. never e)
 
-part-end-requires : tie.Need-part-end-requires
-part-end-requires c κs = search needs
-
 slice-aggregate-is-same : tie.Need-slice-aggregate-is-same
 slice-aggregate-is-same c =
     let f = c .before in
     sym (length-take-le (f .part-end .result) (f .before .before .before .before .args .line .now) (omega arith))
 
-is-same-requires : tie.Need-is-same-requires
-is-same-requires c κs = search needs
-
-all-under-requires : tie.Need-all-under-requires
-all-under-requires c κs = search needs
-
-slice-aggregate-write-values : tie.Need-slice-aggregate-write-values
-slice-aggregate-write-values c = search needs
-
-slice-aggregate-write-values-2 : tie.Need-slice-aggregate-write-values-2
-slice-aggregate-write-values-2 c = search needs
-
-write-values-requires : tie.Need-write-values-requires
-write-values-requires c κs = search needs
+-- whether the line is read, by its two tests
+tested : (k : tie.After-marks2) → let u = k .before .before .before .before .before in
+    let a = u .before .before .before .before .before .before .before .args in
+    (u .before .is-same .result && u .all-under .result) ≡ isNumbers (a .name .now) (a .line .now)
+tested k =
+    let u = k .before .before .before .before .before in
+    let f = u .before .before .before in
+    let a = f .before .before .before .before .args in
+    numbers-read (a .line .now) (omega arith) (f .part-end .result) (f .part-end .ensures .0) (a .name .now) _ _ (u .before .is-same .ensures)
+    (u .all-under .ensures)
 
 returns-2 : tie.Need-returns-2
 returns-2 c =
     let w = c .before .before .before in
-    let u = w .before .before .before in
-    let n = u .before in
-    let f = n .before .before in
+    let f = w .before .before .before .before .before .before in
     let a = f .before .before .before .before .args in
-    let e = numbers-read (a .line .now) (omega arith) (f .part-end .result) (f .part-end .ensures .0) (a .name .now) _ _ (n .is-same .ensures)
-    (u .all-under .ensures) in
-    let v = w .write-values .ensures in
-    (both-hold _ _ (c .if2 .taken) ∙ e, λ _. holds-numbers (a .line .now) (omega arith) (f .part-end .result) (f .part-end .ensures .0) _ (v .0) (v .1 .0))
+    let v = w .write-values .ensures in (
+      both-hold _ _ (c .if2 .taken) ∙ tested (c .before),
+      λ _. holds-numbers (a .line .now) (omega arith) (f .part-end .result) (f .part-end .ensures .0) _ (v .0) (v .1 .0),
+    )
 
 returns-3 : tie.Need-returns-3
-returns-3 c =
-    let w = c .before .before .before in
-    let u = w .before .before .before in
-    let n = u .before in
-    let f = n .before .before in
-    let a = f .before .before .before .before .args in
-    let e = numbers-read (a .line .now) (omega arith) (f .part-end .result) (f .part-end .ensures .0) (a .name .now) _ _ (n .is-same .ensures)
-    (u .all-under .ensures) in
-    (first-fails _ _ (c .if2 .left) ∙ e, λ z. never (sym (c .if2 .left) ∙ z))
+returns-3 c = (first-fails _ _ (c .if2 .left) ∙ tested (c .before), λ z. never (sym (c .if2 .left) ∙ z))
 
 pub read-numbers-spec : {M : Type 1} → statement M
 read-numbers-spec =
     tie.close
     (tie.spec
     returns
-    part-end-requires
+    (let a : tie.Need-part-end-requires = λ c κs. search needs in a)
     slice-aggregate-is-same
-    is-same-requires
-    all-under-requires
-    slice-aggregate-write-values
-    slice-aggregate-write-values-2
-    write-values-requires
+    (let a : tie.Need-is-same-requires = λ c κs. search needs in a)
+    (let a : tie.Need-all-under-requires = λ c κs. search needs in a)
+    (let a : tie.Need-slice-aggregate-write-values = λ c. search needs in a)
+    (let a : tie.Need-slice-aggregate-write-values-2 = λ c. search needs in a)
+    (let a : tie.Need-write-values-requires = λ c κs. search needs in a)
     returns-2
     returns-3)

@@ -20,39 +20,6 @@ Inv-loop line from bytes₀ marks₀ count₀ at₀ bytes marks count at =
 abbrev μ-loop : tie.MeasureT-loop
 μ-loop line from bytes₀ marks₀ count₀ at₀ bytes marks count at = length line - at
 
-loop-holds : tie.Need-loop-holds Inv-loop μ-loop
-loop-holds c = search needs
-
-add-value-at : tie.Need-add-value-at Inv-loop μ-loop
-add-value-at c = omega arith
-
-value-at-requires : tie.Need-value-at-requires Inv-loop μ-loop
-value-at-requires c κs = omega arith
-
-cast-bytes : tie.Need-cast-bytes Inv-loop μ-loop
-cast-bytes c = search needs
-
-slice-write-bytes : tie.Need-slice-write-bytes Inv-loop μ-loop
-slice-write-bytes c = omega arith
-
-cast-marks : tie.Need-cast-marks Inv-loop μ-loop
-cast-marks c = search needs
-
-slice-write-marks : tie.Need-slice-write-marks Inv-loop μ-loop
-slice-write-marks c = omega arith
-
-add-count : tie.Need-add-count Inv-loop μ-loop
-add-count c = omega arith
-
-add-part-end : tie.Need-add-part-end Inv-loop μ-loop
-add-part-end c = omega arith
-
-part-end-requires : tie.Need-part-end-requires Inv-loop μ-loop
-part-end-requires c κs = omega arith
-
-loop-less : tie.Need-loop-less Inv-loop μ-loop
-loop-less c = omega arith
-
 loop-again : tie.Need-loop-again Inv-loop μ-loop
 loop-again c =
     let s = c .before .before .before in
@@ -66,12 +33,6 @@ loop-again c =
       cc (write-more line (s .loop .at) (omega arith) (λ v. v % 256) (s .loop .bytes) (s .loop .count)),
       cc (write-more line (s .loop .at) (omega arith) (λ v. v / 256) (s .loop .marks) (s .loop .count)),
     )
-
-same-length : tie.Need-same-length Inv-loop μ-loop
-same-length c = search needs
-
-same-length-2 : tie.Need-same-length-2 Inv-loop μ-loop
-same-length-2 c = search needs
 
 returns : tie.Need-returns Inv-loop μ-loop
 returns c =
@@ -91,18 +52,18 @@ write-values-spec =
     (tie.spec
     Inv-loop
     μ-loop
-    loop-holds
-    add-value-at
-    value-at-requires
-    cast-bytes
-    slice-write-bytes
-    cast-marks
-    slice-write-marks
-    add-count
-    add-part-end
-    part-end-requires
-    loop-less
+    (let a : tie.Need-loop-holds Inv-loop μ-loop = λ c. search needs in a)
+    (let a : tie.Need-add-value-at Inv-loop μ-loop = λ c. omega arith in a)
+    (let a : tie.Need-value-at-requires Inv-loop μ-loop = λ c κs. omega arith in a)
+    (let a : tie.Need-cast-bytes Inv-loop μ-loop = λ c. search needs in a)
+    (let a : tie.Need-slice-write-bytes Inv-loop μ-loop = λ c. omega arith in a)
+    (let a : tie.Need-cast-marks Inv-loop μ-loop = λ c. search needs in a)
+    (let a : tie.Need-slice-write-marks Inv-loop μ-loop = λ c. omega arith in a)
+    (let a : tie.Need-add-count Inv-loop μ-loop = λ c. omega arith in a)
+    (let a : tie.Need-add-part-end Inv-loop μ-loop = λ c. omega arith in a)
+    (let a : tie.Need-part-end-requires Inv-loop μ-loop = λ c κs. omega arith in a)
+    (let a : tie.Need-loop-less Inv-loop μ-loop = λ c. omega arith in a)
     loop-again
-    same-length
-    same-length-2
+    (let a : tie.Need-same-length Inv-loop μ-loop = λ c. search needs in a)
+    (let a : tie.Need-same-length-2 Inv-loop μ-loop = λ c. search needs in a)
     returns)

@@ -5,18 +5,6 @@ use borrow.Author.Needs.{needs}
 use Rattle.text_session.proofs.answer_data.Statement.{statement}
 use Rattle.text_session.proofs.answer_data.Tie as tie
 
-describe-requires : tie.Need-describe-requires
-describe-requires c κs = search needs
-
-enum-known-r : tie.Need-enum-known-r
-enum-known-r c = search needs
-
-refuse-requires : tie.Need-refuse-requires
-refuse-requires c κs = search needs
-
-enum-known-n : tie.Need-enum-known-n
-enum-known-n c = search needs
-
 array-borrow-prefix-word : tie.Need-array-borrow-prefix-word
 array-borrow-prefix-word c =
     let s = c .before .before .before in
@@ -35,19 +23,16 @@ returns c =
     let s = c .before .before .before .before in
     data-unshaped _ _ _ _ _ _ (sym (s .describe .ensures .0) ∙ c .before .before .r .given .1) (c .refuse .ensures)
 
-returns-2 : tie.Need-returns-2
-returns-2 c = search needs
-
 pub answer-data-spec : {M : Type 1} → statement M
 answer-data-spec =
     tie.close
     (tie.spec
-    describe-requires
-    enum-known-r
-    refuse-requires
-    enum-known-n
+    (let a : tie.Need-describe-requires = λ c κs. search needs in a)
+    (let a : tie.Need-enum-known-r = λ c. search needs in a)
+    (let a : tie.Need-refuse-requires = λ c κs. search needs in a)
+    (let a : tie.Need-enum-known-n = λ c. search needs in a)
     array-borrow-prefix-word
     slice-aggregate-encode-in
     encode-in-requires
     returns
-    returns-2)
+    (let a : tie.Need-returns-2 = λ c. search needs in a))

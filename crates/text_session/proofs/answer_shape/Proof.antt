@@ -5,18 +5,6 @@ use borrow.Author.Needs.{needs}
 use Rattle.text_session.proofs.answer_shape.Statement.{statement}
 use Rattle.text_session.proofs.answer_shape.Tie as tie
 
-describe-requires : tie.Need-describe-requires
-describe-requires c κs = search needs
-
-enum-known-number : tie.Need-enum-known-number
-enum-known-number c = search needs
-
-refuse-requires : tie.Need-refuse-requires
-refuse-requires c κs = search needs
-
-enum-known-n : tie.Need-enum-known-n
-enum-known-n c = search needs
-
 reply-figures-requires : tie.Need-reply-figures-requires
 reply-figures-requires c κs =
     let s = c .before .before .before in
@@ -38,10 +26,10 @@ pub answer-shape-spec : {M : Type 1} → statement M
 answer-shape-spec =
     tie.close
     (tie.spec
-    describe-requires
-    enum-known-number
-    refuse-requires
-    enum-known-n
+    (let a : tie.Need-describe-requires = λ c κs. search needs in a)
+    (let a : tie.Need-enum-known-number = λ c. search needs in a)
+    (let a : tie.Need-refuse-requires = λ c κs. search needs in a)
+    (let a : tie.Need-enum-known-n = λ c. search needs in a)
     reply-figures-requires
     returns
     returns-2)

@@ -5,18 +5,6 @@ use borrow.Author.Needs.{needs}
 use Rattle.text_session.proofs.encode_in.Statement.{statement}
 use Rattle.text_session.proofs.encode_in.Tie as tie
 
-encode-requires : tie.Need-encode-requires
-encode-requires c κs = search needs
-
-enum-known-r : tie.Need-enum-known-r
-enum-known-r c = search needs
-
-refuse-requires : tie.Need-refuse-requires
-refuse-requires c κs = search needs
-
-enum-told : tie.Need-enum-told
-enum-told c = search needs
-
 reply-word-requires : tie.Need-reply-word-requires
 reply-word-requires c κs =
     let s = c .before .before .before .before .before in
@@ -25,17 +13,11 @@ reply-word-requires c κs =
     (sym (s .encode .ensures .0) ∙ c .before .enum-told .given .1) in
     omega arith
 
-same-length : tie.Need-same-length
-same-length c = search needs
-
 returns : tie.Need-returns
 returns c =
     let s = c .before .before .before .before .before .before in
     data-refused _ _ _ _ _ _ (c .before .before .before .before .before .before .before .before .before .before .pre) _
     (sym (s .encode .ensures .0) ∙ c .before .before .r .given .1) (c .refuse .ensures)
-
-same-length-2 : tie.Need-same-length-2
-same-length-2 c = search needs
 
 returns-2 : tie.Need-returns-2
 returns-2 c =
@@ -47,12 +29,12 @@ pub encode-in-spec : {M : Type 1} → statement M
 encode-in-spec =
     tie.close
     (tie.spec
-    encode-requires
-    enum-known-r
-    refuse-requires
-    enum-told
+    (let a : tie.Need-encode-requires = λ c κs. search needs in a)
+    (let a : tie.Need-enum-known-r = λ c. search needs in a)
+    (let a : tie.Need-refuse-requires = λ c κs. search needs in a)
+    (let a : tie.Need-enum-told = λ c. search needs in a)
     reply-word-requires
-    same-length
+    (let a : tie.Need-same-length = λ c. search needs in a)
     returns
-    same-length-2
+    (let a : tie.Need-same-length-2 = λ c. search needs in a)
     returns-2)

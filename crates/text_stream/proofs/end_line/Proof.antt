@@ -11,9 +11,6 @@ use Rattle.text_stream.proofs.end_line.Tie as tie
 slice-aggregate-answer : tie.Need-slice-aggregate-answer
 slice-aggregate-answer c = sym (length-take-le _ _ (c .before .before .before .pre .0))
 
-answer-requires : tie.Need-answer-requires
-answer-requires c κs = search needs
-
 array-share-prefix-bytes : tie.Need-array-share-prefix-bytes
 array-share-prefix-bytes c = reply-room _ _ (c .before .before .answer .ensures)
 
@@ -28,12 +25,6 @@ put-requires c κs =
     let f = reply-fits (a .args .line .now) (a .args .at) (r .result) (r .ensures) (a .pre .0) in
     omega arith
 
-add-t16 : tie.Need-add-t16
-add-t16 c = search needs
-
-same-length : tie.Need-same-length
-same-length c = search needs
-
 returns : tie.Need-returns
 returns c =
     let a = c .before .before .before .before .before .before .before .before .before .before in
@@ -46,10 +37,10 @@ end-line-spec =
     tie.close
     (tie.spec
     slice-aggregate-answer
-    answer-requires
+    (let a : tie.Need-answer-requires = λ c κs. search needs in a)
     array-share-prefix-bytes
     slice-aggregate-put
     put-requires
-    add-t16
-    same-length
+    (let a : tie.Need-add-t16 = λ c. search needs in a)
+    (let a : tie.Need-same-length = λ c. search needs in a)
     returns)

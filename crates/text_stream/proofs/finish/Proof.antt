@@ -8,12 +8,12 @@ use borrow.Author.Needs.{needs}
 use Rattle.text_stream.proofs.finish.Statement.{statement}
 use Rattle.text_stream.proofs.finish.Tie as tie
 
-least-requires : tie.Need-least-requires
-least-requires c κs = search needs
+smaller-requires : tie.Need-smaller-requires
+smaller-requires c κs = search needs
 
 returns : tie.Need-returns
 returns c =
-    let e = closing-none (c .before .before .args .state) (c .before .least .result) (c .before .least .ensures .2) (omega arith) in
+    let e = closing-none (c .before .before .args .state) (c .before .smaller .result) (c .before .smaller .ensures) (omega arith) in
     rw e (refl, sym (written-nothing _ 0))
 
 slice-aggregate-end-line : tie.Need-slice-aggregate-end-line
@@ -23,20 +23,20 @@ end-line-requires : tie.Need-end-line-requires
 end-line-requires c κs =
     let o = c .end-line-arg .given .0 .1 in
     let w = slice-aggregate-end-line (c .before) in
-    let l = c .before .before .before .before .least .ensures in
+    let l = c .before .before .before .before .smaller .ensures in
     (omega arith, omega arith)
 
 returns-2 : tie.Need-returns-2
 returns-2 c =
     let s = c .before .before .before .before .before .before .args .state in
-    let l = c .before .before .before .before .before .least in
+    let l = c .before .before .before .before .before .smaller in
     let e = c .end-line .ensures in
     let w = slice-aggregate-end-line (c .before .before) in
     let a : Place = record { length = l .result; used = 0; m = s .m; w = s .w; c = s .c } in
-    let k = closing-some s a (l .ensures .2) refl refl refl (omega arith) (λ z. omega arith) in
+    let k = closing-some s a (l .ensures) refl refl refl (omega arith) (λ z. omega arith) in
     rw k (ap (λ (p : Place). p .used) (e .0) ∙ zero-add _, e .1)
 
 pub finish-spec : {M : Type 1} → statement M
 finish-spec =
     tie.close
-    (tie.spec least-requires returns slice-aggregate-end-line end-line-requires returns-2)
+    (tie.spec smaller-requires returns slice-aggregate-end-line end-line-requires returns-2)

@@ -6,11 +6,11 @@ use borrow.Author.Needs.{needs}
 use Rattle.text_stream.proofs.take.Statement.{statement}
 use Rattle.text_stream.proofs.take.Tie as tie
 
-least-requires : tie.Need-least-requires
-least-requires c κs = search needs
+smaller-requires : tie.Need-smaller-requires
+smaller-requires c κs = search needs
 
-least-requires-2 : tie.Need-least-requires-2
-least-requires-2 c κs = search needs
+smaller-requires-2 : tie.Need-smaller-requires-2
+smaller-requires-2 c κs = search needs
 
 slice-aggregate-take-all : tie.Need-slice-aggregate-take-all
 slice-aggregate-take-all c = search needs
@@ -25,16 +25,16 @@ take-all-requires c κs =
 returns : tie.Need-returns
 returns c =
     let s = c .before .before .before .before .before .before .before .before .args in
-    let l = c .before .before .before .before .before .least2 in
-    let n = c .before .before .before .before .before .before .least in
+    let l = c .before .before .before .before .before .smaller2 in
+    let n = c .before .before .before .before .before .before .smaller in
     let w = slice-aggregate-take-all (c .before .before .before .before) in
     let i = c .before .before .before .take-all-arg .given .0 in
     let f : Place = record { length = l .result; used = 0; m = s .state .m; w = s .state .w; c = s .state .c } in
-    let t = took (s .state) f (l .ensures .2) refl refl refl (omega arith)
-    (s .input .now) (s .count) (n .result) (omega arith) (n .ensures .2) _ _ _ _ (c .before .take-all .ensures) in
+    let t = took (s .state) f (l .ensures) refl refl refl (omega arith)
+    (s .input .now) (s .count) (n .result) (omega arith) (n .ensures) _ _ _ _ (c .before .take-all .ensures) in
     (t .0, (t .1, (t .2, t .3)))
 
 pub take-spec : {M : Type 1} → statement M
 take-spec =
     tie.close
-    (tie.spec least-requires least-requires-2 slice-aggregate-take-all take-all-requires returns)
+    (tie.spec smaller-requires smaller-requires-2 slice-aggregate-take-all take-all-requires returns)

@@ -20,21 +20,12 @@ loop-holds c =
     let s = c .before .before .before in
     (omega arith, s .pre .0 .0, refl, midway-first _ (s .args .line .now) (s .args .first) _ (s .pre .0 .0) (s .pre .0 .1) (s .pre .0 .2))
 
-shared-slice-read-take-byte : tie.Need-shared-slice-read-take-byte Inv-loop μ-loop
-shared-slice-read-take-byte c = omega arith
-
 take-byte-requires : tie.Need-take-byte-requires Inv-loop μ-loop
 take-byte-requires c κs =
     let s = c .before .before .before .before .before .before .before .before in
     let l = c .before .before .before .before .loop in
     let k = midway-room (s .args .bytes .now) _ _ (s .args .out .now) (l .line) (l .at) (l .out) (l .i) (l .inv .3) (omega arith) (omega arith) in
     ((omega arith, k .0), k .1)
-
-add-i : tie.Need-add-i Inv-loop μ-loop
-add-i c = omega arith
-
-loop-less : tie.Need-loop-less Inv-loop μ-loop
-loop-less c = omega arith
 
 loop-again : tie.Need-loop-again Inv-loop μ-loop
 loop-again c =
@@ -46,12 +37,6 @@ loop-again c =
       omega arith,
       midway-more (s .args .bytes .now) _ _ (s .args .out .now) (l .line) (l .at) (l .out) (l .i) (l .inv .3) (omega arith) (omega arith) _ _ _ (t .ensures),
     )
-
-same-length : tie.Need-same-length Inv-loop μ-loop
-same-length c = omega arith
-
-same-length-2 : tie.Need-same-length-2 Inv-loop μ-loop
-same-length-2 c = omega arith
 
 returns : tie.Need-returns Inv-loop μ-loop
 returns c =
@@ -66,11 +51,11 @@ take-all-spec =
     Inv-loop
     μ-loop
     loop-holds
-    shared-slice-read-take-byte
+    (let a : tie.Need-shared-slice-read-take-byte Inv-loop μ-loop = λ c. omega arith in a)
     take-byte-requires
-    add-i
-    loop-less
+    (let a : tie.Need-add-i Inv-loop μ-loop = λ c. omega arith in a)
+    (let a : tie.Need-loop-less Inv-loop μ-loop = λ c. omega arith in a)
     loop-again
-    same-length
-    same-length-2
+    (let a : tie.Need-same-length Inv-loop μ-loop = λ c. omega arith in a)
+    (let a : tie.Need-same-length-2 Inv-loop μ-loop = λ c. omega arith in a)
     returns)

@@ -24,51 +24,6 @@ abbrev μ-loop : tie.MeasureT-loop
 loop-holds : tie.Need-loop-holds Inv-loop μ-loop
 loop-holds c = (omega arith, refl, refl, λ k l. absurd (omega arith), λ k l. refl, λ k l. absurd (omega arith), λ k l. refl)
 
-mul-x : tie.Need-mul-x Inv-loop μ-loop
-mul-x c = omega arith
-
-slice-read-x : tie.Need-slice-read-x Inv-loop μ-loop
-slice-read-x c = omega arith
-
-mul-x-2 : tie.Need-mul-x-2 Inv-loop μ-loop
-mul-x-2 c = omega arith
-
-shared-slice-read-x : tie.Need-shared-slice-read-x Inv-loop μ-loop
-shared-slice-read-x c = omega arith
-
-mul-x-3 : tie.Need-mul-x-3 Inv-loop μ-loop
-mul-x-3 c = omega arith
-
-slice-write-x : tie.Need-slice-write-x Inv-loop μ-loop
-slice-write-x c = omega arith
-
-mul-double : tie.Need-mul-double Inv-loop μ-loop
-mul-double c = omega arith
-
-slice-read-double : tie.Need-slice-read-double Inv-loop μ-loop
-slice-read-double c = omega arith
-
-double-requires : tie.Need-double-requires Inv-loop μ-loop
-double-requires c κs = search needs
-
-mul-y : tie.Need-mul-y Inv-loop μ-loop
-mul-y c = omega arith
-
-shared-slice-read-y : tie.Need-shared-slice-read-y Inv-loop μ-loop
-shared-slice-read-y c = omega arith
-
-mul-y-2 : tie.Need-mul-y-2 Inv-loop μ-loop
-mul-y-2 c = omega arith
-
-slice-write-y : tie.Need-slice-write-y Inv-loop μ-loop
-slice-write-y c = omega arith
-
-add-i : tie.Need-add-i Inv-loop μ-loop
-add-i c = omega arith
-
-loop-less : tie.Need-loop-less Inv-loop μ-loop
-loop-less c = omega arith
-
 loop-again : tie.Need-loop-again Inv-loop μ-loop
 loop-again c =
     let s = c .before .before .before .before .before .before in
@@ -89,12 +44,6 @@ loop-again c =
       rest-set (λ k. getD (a .y .now) k 0) y i _ 0 (s .loop .inv .6),
     )
 
-same-length : tie.Need-same-length Inv-loop μ-loop
-same-length c = omega arith
-
-same-length-2 : tie.Need-same-length-2 Inv-loop μ-loop
-same-length-2 c = omega arith
-
 returns : tie.Need-returns Inv-loop μ-loop
 returns c =
     let s = c .before in
@@ -110,22 +59,22 @@ fold-spec =
     Inv-loop
     μ-loop
     loop-holds
-    mul-x
-    slice-read-x
-    mul-x-2
-    shared-slice-read-x
-    mul-x-3
-    slice-write-x
-    mul-double
-    slice-read-double
-    double-requires
-    mul-y
-    shared-slice-read-y
-    mul-y-2
-    slice-write-y
-    add-i
-    loop-less
+    (let a : tie.Need-mul-x Inv-loop μ-loop = λ c. omega arith in a)
+    (let a : tie.Need-slice-read-x Inv-loop μ-loop = λ c. omega arith in a)
+    (let a : tie.Need-mul-x-2 Inv-loop μ-loop = λ c. omega arith in a)
+    (let a : tie.Need-shared-slice-read-x Inv-loop μ-loop = λ c. omega arith in a)
+    (let a : tie.Need-mul-x-3 Inv-loop μ-loop = λ c. omega arith in a)
+    (let a : tie.Need-slice-write-x Inv-loop μ-loop = λ c. omega arith in a)
+    (let a : tie.Need-mul-double Inv-loop μ-loop = λ c. omega arith in a)
+    (let a : tie.Need-slice-read-double Inv-loop μ-loop = λ c. omega arith in a)
+    (let a : tie.Need-double-requires Inv-loop μ-loop = λ c κs. search needs in a)
+    (let a : tie.Need-mul-y Inv-loop μ-loop = λ c. omega arith in a)
+    (let a : tie.Need-shared-slice-read-y Inv-loop μ-loop = λ c. omega arith in a)
+    (let a : tie.Need-mul-y-2 Inv-loop μ-loop = λ c. omega arith in a)
+    (let a : tie.Need-slice-write-y Inv-loop μ-loop = λ c. omega arith in a)
+    (let a : tie.Need-add-i Inv-loop μ-loop = λ c. omega arith in a)
+    (let a : tie.Need-loop-less Inv-loop μ-loop = λ c. omega arith in a)
     loop-again
-    same-length
-    same-length-2
+    (let a : tie.Need-same-length Inv-loop μ-loop = λ c. omega arith in a)
+    (let a : tie.Need-same-length-2 Inv-loop μ-loop = λ c. omega arith in a)
     returns)

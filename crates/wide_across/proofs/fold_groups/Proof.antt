@@ -45,9 +45,6 @@ loop-holds c =
           (rows-none wide-sound (a .w) (a .word .now) (a .m) (a .x .now) (a .y .now) (zeros (a .w) (s .pre .1 .1 .0)) (zeros (a .w) (s .pre .1 .1 .1))),
     )
 
-sub-g : tie.Need-sub-g Inv-loop μ-loop
-sub-g c = omega arith
-
 mul-start : tie.Need-mul-start Inv-loop μ-loop
 mul-start c = let s = c .before in omega (arith, next-end (s .loop .inv .0) (s .loop .g) (c .loop-test .taken) (s .loop .inv .1))
 
@@ -60,12 +57,6 @@ mul-fold c =
     let L = s .loop .inv .0 in
     omega (arith, next-end L (s .loop .g) (c .loop-test .taken) (s .loop .inv .1), L .size, L .good .fits)
 
-sub-fold : tie.Need-sub-fold Inv-loop μ-loop
-sub-fold c = search needs
-
-part-fold-start : tie.Need-part-fold-start Inv-loop μ-loop
-part-fold-start c = search needs
-
 part-fold-end : tie.Need-part-fold-end Inv-loop μ-loop
 part-fold-end c = let s = c .before in omega (arith, next-end (s .loop .inv .0) (s .loop .g) (c .loop-test .taken) (s .loop .inv .1))
 
@@ -74,9 +65,6 @@ fold-requires c κs =
     let s = c .before .before .before .before in
     let e = part-length (s .loop .inv .0) (s .loop .g - 1) (omega arith) refl in
     (s .loop .inv .2 ∙ sym e, s .loop .inv .3 ∙ sym e)
-
-loop-less : tie.Need-loop-less Inv-loop μ-loop
-loop-less c = omega arith
 
 loop-again : tie.Need-loop-again Inv-loop μ-loop
 loop-again c =
@@ -133,15 +121,15 @@ fold-groups-spec =
     Inv-loop
     μ-loop
     loop-holds
-    sub-g
+    (let a : tie.Need-sub-g Inv-loop μ-loop = λ c. omega arith in a)
     mul-start
     add-end
     mul-fold
-    sub-fold
-    part-fold-start
+    (let a : tie.Need-sub-fold Inv-loop μ-loop = λ c. search needs in a)
+    (let a : tie.Need-part-fold-start Inv-loop μ-loop = λ c. search needs in a)
     part-fold-end
     fold-requires
-    loop-less
+    (let a : tie.Need-loop-less Inv-loop μ-loop = λ c. omega arith in a)
     loop-again
     same-length
     same-length-2

@@ -18,33 +18,6 @@ use borrow.Author.Needs.{needs}
 use Rattle.wide_across.proofs.folded_sums.Statement.{statement}
 use Rattle.wide_across.proofs.folded_sums.Tie as tie
 
-fold-groups-requires : tie.Need-fold-groups-requires
-fold-groups-requires c κs = search needs
-
-add-power-sums : tie.Need-add-power-sums
-add-power-sums c = search needs
-
-power-sums-requires : tie.Need-power-sums-requires
-power-sums-requires c κs = search needs
-
-add-power-sums-2 : tie.Need-add-power-sums-2
-add-power-sums-2 c = search needs
-
-power-sums-requires-2 : tie.Need-power-sums-requires-2
-power-sums-requires-2 c κs = search needs
-
-first-of-requires : tie.Need-first-of-requires
-first-of-requires c κs = search needs
-
-second-of-requires : tie.Need-second-of-requires
-second-of-requires c κs = search needs
-
-same-length : tie.Need-same-length
-same-length c = search needs
-
-same-length-2 : tie.Need-same-length-2
-same-length-2 c = search needs
-
 -- the power sums of the two rows give the sums across
 from-rows : (m w c : ℕ) (word x y p q : List ℕ) (f s : ℕ) → w ≤ 256 → HornerRows wideEdition w word 0 m x y → length x ≡ w → length y ≡ w
     → PowerSums x (c + 2) p → PowerSums y (c + 2) q → f ≡ getD p c 0 ⊕ product 16 69643 2 (getD p (c + 1) 0)
@@ -75,13 +48,13 @@ pub folded-sums-spec : {M : Type 1} → statement M
 folded-sums-spec =
     tie.close
     (tie.spec
-    fold-groups-requires
-    add-power-sums
-    power-sums-requires
-    add-power-sums-2
-    power-sums-requires-2
-    first-of-requires
-    second-of-requires
-    same-length
-    same-length-2
+    (let a : tie.Need-fold-groups-requires = λ c κs. search needs in a)
+    (let a : tie.Need-add-power-sums = λ c. search needs in a)
+    (let a : tie.Need-power-sums-requires = λ c κs. search needs in a)
+    (let a : tie.Need-add-power-sums-2 = λ c. search needs in a)
+    (let a : tie.Need-power-sums-requires-2 = λ c κs. search needs in a)
+    (let a : tie.Need-first-of-requires = λ c κs. search needs in a)
+    (let a : tie.Need-second-of-requires = λ c κs. search needs in a)
+    (let a : tie.Need-same-length = λ c. search needs in a)
+    (let a : tie.Need-same-length-2 = λ c. search needs in a)
     returns)

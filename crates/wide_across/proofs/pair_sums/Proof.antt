@@ -19,30 +19,6 @@ abbrev μ-loop : tie.MeasureT-loop
 loop-holds : tie.Need-loop-holds Inv-loop μ-loop
 loop-holds c = (omega arith, sym (sum-none _), sym (sum-none _))
 
-mul-j : tie.Need-mul-j Inv-loop μ-loop
-mul-j c = omega arith
-
-mul-first : tie.Need-mul-first Inv-loop μ-loop
-mul-first c = omega arith
-
-shared-slice-read-first : tie.Need-shared-slice-read-first Inv-loop μ-loop
-shared-slice-read-first c = omega arith
-
-add-second : tie.Need-add-second Inv-loop μ-loop
-add-second c = omega arith
-
-mul-second : tie.Need-mul-second Inv-loop μ-loop
-mul-second c = omega arith
-
-shared-slice-read-second : tie.Need-shared-slice-read-second Inv-loop μ-loop
-shared-slice-read-second c = omega arith
-
-add-i : tie.Need-add-i Inv-loop μ-loop
-add-i c = omega arith
-
-loop-less : tie.Need-loop-less Inv-loop μ-loop
-loop-less c = omega arith
-
 loop-again : tie.Need-loop-again Inv-loop μ-loop
 loop-again c =
     let s = c .before .before .before in
@@ -68,13 +44,13 @@ pair-sums-spec =
     Inv-loop
     μ-loop
     loop-holds
-    mul-j
-    mul-first
-    shared-slice-read-first
-    add-second
-    mul-second
-    shared-slice-read-second
-    add-i
-    loop-less
+    (let a : tie.Need-mul-j Inv-loop μ-loop = λ c. omega arith in a)
+    (let a : tie.Need-mul-first Inv-loop μ-loop = λ c. omega arith in a)
+    (let a : tie.Need-shared-slice-read-first Inv-loop μ-loop = λ c. omega arith in a)
+    (let a : tie.Need-add-second Inv-loop μ-loop = λ c. omega arith in a)
+    (let a : tie.Need-mul-second Inv-loop μ-loop = λ c. omega arith in a)
+    (let a : tie.Need-shared-slice-read-second Inv-loop μ-loop = λ c. omega arith in a)
+    (let a : tie.Need-add-i Inv-loop μ-loop = λ c. omega arith in a)
+    (let a : tie.Need-loop-less Inv-loop μ-loop = λ c. omega arith in a)
     loop-again
     returns)

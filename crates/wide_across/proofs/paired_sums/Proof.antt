@@ -10,9 +10,6 @@ use Rattle.wide_across.specs.PairsLaws.{part-size, coefficients-of, firs
 use Rattle.wide_across.proofs.paired_sums.Statement.{statement}
 use Rattle.wide_across.proofs.paired_sums.Tie as tie
 
-add-n : tie.Need-add-n
-add-n c = search needs
-
 -- the numbers of w pairs, in steps of eight
 room : (w : ℕ) → w ≤ 16 → (2 * w ≤ (w + 3) / 4 * 8) × ((w + 3) / 4 * 8 ≤ 32)
 room w l = (omega arith, omega arith)
@@ -45,48 +42,12 @@ whole t =
     let r = room (length (s .args .x .now)) (s .pre .1 .0) in
     whole-size (p .pairs .ensures) ((length (s .args .x .now) + 3) / 4 * 8) (r .0) (r .1) (multiplied t)
 
-mul-n : tie.Need-mul-n
-mul-n c = search needs
-
-coefficients-requires : tie.Need-coefficients-requires
-coefficients-requires c κs = search needs
-
-sub-a : tie.Need-sub-a
-sub-a c = search needs
-
-mul-a : tie.Need-mul-a
-mul-a c = search needs
-
-add-e : tie.Need-add-e
-add-e c = search needs
-
-pairs-requires : tie.Need-pairs-requires
-pairs-requires c κs = search needs
-
-array-borrow-prefix-z : tie.Need-array-borrow-prefix-z
-array-borrow-prefix-z c = search needs
-
 slice-aggregate-multiply : tie.Need-slice-aggregate-multiply
 slice-aggregate-multiply c =
     let a = c .before .before .before .before .before in
     let n : ℕ = (length (a .args .x .now) + 3) / 4 * 8 in
     sym (length-take-le n (c .before .pairs .result) (subst (λ k. n ≤ k) (sym (c .before .pairs .ensures .size))
     (room (length (a .args .x .now)) (a .pre .1 .0) .1)))
-
-mul-multiply : tie.Need-mul-multiply
-mul-multiply c = search needs
-
-sub-multiply : tie.Need-sub-multiply
-sub-multiply c = search needs
-
-part-multiply-start : tie.Need-part-multiply-start
-part-multiply-start c = search needs
-
-part-multiply-end : tie.Need-part-multiply-end
-part-multiply-end c = search needs
-
-multiply-requires : tie.Need-multiply-requires
-multiply-requires c κs = search needs
 
 slice-aggregate-pair-sums : tie.Need-slice-aggregate-pair-sums
 slice-aggregate-pair-sums c = sym (whole (c .before .before))
@@ -115,20 +76,20 @@ pub paired-sums-spec : {M : Type 1} → statement M
 paired-sums-spec =
     tie.close
     (tie.spec
-    add-n
-    mul-n
-    coefficients-requires
-    sub-a
-    mul-a
-    add-e
-    pairs-requires
-    array-borrow-prefix-z
+    (let a : tie.Need-add-n = λ c. search needs in a)
+    (let a : tie.Need-mul-n = λ c. search needs in a)
+    (let a : tie.Need-coefficients-requires = λ c κs. search needs in a)
+    (let a : tie.Need-sub-a = λ c. search needs in a)
+    (let a : tie.Need-mul-a = λ c. search needs in a)
+    (let a : tie.Need-add-e = λ c. search needs in a)
+    (let a : tie.Need-pairs-requires = λ c κs. search needs in a)
+    (let a : tie.Need-array-borrow-prefix-z = λ c. search needs in a)
     slice-aggregate-multiply
-    mul-multiply
-    sub-multiply
-    part-multiply-start
-    part-multiply-end
-    multiply-requires
+    (let a : tie.Need-mul-multiply = λ c. search needs in a)
+    (let a : tie.Need-sub-multiply = λ c. search needs in a)
+    (let a : tie.Need-part-multiply-start = λ c. search needs in a)
+    (let a : tie.Need-part-multiply-end = λ c. search needs in a)
+    (let a : tie.Need-multiply-requires = λ c κs. search needs in a)
     slice-aggregate-pair-sums
     pair-sums-requires
     returns)

@@ -36,42 +36,6 @@ second-more {f} z i a b l e h k m = elim (ℕ-discrete k i) [
 loop-holds : tie.Need-loop-holds Inv-loop μ-loop
 loop-holds c = (refl, omega arith, λ k l. absurd (omega arith), λ k l. absurd (omega arith))
 
-mul-j : tie.Need-mul-j Inv-loop μ-loop
-mul-j c = omega arith
-
-mul-z : tie.Need-mul-z Inv-loop μ-loop
-mul-z c = omega arith
-
-shared-slice-read-z : tie.Need-shared-slice-read-z Inv-loop μ-loop
-shared-slice-read-z c = omega arith
-
-mul-z-2 : tie.Need-mul-z-2 Inv-loop μ-loop
-mul-z-2 c = omega arith
-
-array-write-z : tie.Need-array-write-z Inv-loop μ-loop
-array-write-z c = omega arith
-
-mul-z-3 : tie.Need-mul-z-3 Inv-loop μ-loop
-mul-z-3 c = omega arith
-
-shared-slice-read-z-2 : tie.Need-shared-slice-read-z-2 Inv-loop μ-loop
-shared-slice-read-z-2 c = omega arith
-
-add-z : tie.Need-add-z Inv-loop μ-loop
-add-z c = omega arith
-
-mul-z-4 : tie.Need-mul-z-4 Inv-loop μ-loop
-mul-z-4 c = omega arith
-
-array-write-z-2 : tie.Need-array-write-z-2 Inv-loop μ-loop
-array-write-z-2 c = omega arith
-
-add-i : tie.Need-add-i Inv-loop μ-loop
-add-i c = omega arith
-
-loop-less : tie.Need-loop-less Inv-loop μ-loop
-loop-less c = omega arith
-
 loop-again : tie.Need-loop-again Inv-loop μ-loop
 loop-again c =
     let s = c .before .before .before in
@@ -100,17 +64,17 @@ pairs-spec =
     Inv-loop
     μ-loop
     loop-holds
-    mul-j
-    mul-z
-    shared-slice-read-z
-    mul-z-2
-    array-write-z
-    mul-z-3
-    shared-slice-read-z-2
-    add-z
-    mul-z-4
-    array-write-z-2
-    add-i
-    loop-less
+    (let a : tie.Need-mul-j Inv-loop μ-loop = λ c. omega arith in a)
+    (let a : tie.Need-mul-z Inv-loop μ-loop = λ c. omega arith in a)
+    (let a : tie.Need-shared-slice-read-z Inv-loop μ-loop = λ c. omega arith in a)
+    (let a : tie.Need-mul-z-2 Inv-loop μ-loop = λ c. omega arith in a)
+    (let a : tie.Need-array-write-z Inv-loop μ-loop = λ c. omega arith in a)
+    (let a : tie.Need-mul-z-3 Inv-loop μ-loop = λ c. omega arith in a)
+    (let a : tie.Need-shared-slice-read-z-2 Inv-loop μ-loop = λ c. omega arith in a)
+    (let a : tie.Need-add-z Inv-loop μ-loop = λ c. omega arith in a)
+    (let a : tie.Need-mul-z-4 Inv-loop μ-loop = λ c. omega arith in a)
+    (let a : tie.Need-array-write-z-2 Inv-loop μ-loop = λ c. omega arith in a)
+    (let a : tie.Need-add-i Inv-loop μ-loop = λ c. omega arith in a)
+    (let a : tie.Need-loop-less Inv-loop μ-loop = λ c. omega arith in a)
     loop-again
     returns)

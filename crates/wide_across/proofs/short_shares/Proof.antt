@@ -11,36 +11,6 @@ use borrow.Author.Needs.{needs}
 use Rattle.wide_across.proofs.short_shares.Statement.{statement}
 use Rattle.wide_across.proofs.short_shares.Tie as tie
 
-coefficients-requires : tie.Need-coefficients-requires
-coefficients-requires c κs = search needs
-
-sub-a : tie.Need-sub-a
-sub-a c = search needs
-
-mul-a : tie.Need-mul-a
-mul-a c = search needs
-
-add-e : tie.Need-add-e
-add-e c = search needs
-
-mul-sparse-sums : tie.Need-mul-sparse-sums
-mul-sparse-sums c = search needs
-
-sub-sparse-sums : tie.Need-sub-sparse-sums
-sub-sparse-sums c = search needs
-
-part-sparse-sums-start : tie.Need-part-sparse-sums-start
-part-sparse-sums-start c = search needs
-
-part-sparse-sums-end : tie.Need-part-sparse-sums-end
-part-sparse-sums-end c = search needs
-
-sparse-sums-requires : tie.Need-sparse-sums-requires
-sparse-sums-requires c κs = search needs
-
-doubled-requires : tie.Need-doubled-requires
-doubled-requires c κs = search needs
-
 returns : tie.Need-returns
 returns c =
     let p = c .before in
@@ -61,14 +31,14 @@ pub short-shares-spec : {M : Type 1} → statement M
 short-shares-spec =
     tie.close
     (tie.spec
-    coefficients-requires
-    sub-a
-    mul-a
-    add-e
-    mul-sparse-sums
-    sub-sparse-sums
-    part-sparse-sums-start
-    part-sparse-sums-end
-    sparse-sums-requires
-    doubled-requires
+    (let a : tie.Need-coefficients-requires = λ c κs. search needs in a)
+    (let a : tie.Need-sub-a = λ c. search needs in a)
+    (let a : tie.Need-mul-a = λ c. search needs in a)
+    (let a : tie.Need-add-e = λ c. search needs in a)
+    (let a : tie.Need-mul-sparse-sums = λ c. search needs in a)
+    (let a : tie.Need-sub-sparse-sums = λ c. search needs in a)
+    (let a : tie.Need-part-sparse-sums-start = λ c. search needs in a)
+    (let a : tie.Need-part-sparse-sums-end = λ c. search needs in a)
+    (let a : tie.Need-sparse-sums-requires = λ c κs. search needs in a)
+    (let a : tie.Need-doubled-requires = λ c κs. search needs in a)
     returns)

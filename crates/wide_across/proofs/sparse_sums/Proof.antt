@@ -36,42 +36,6 @@ none part j b e = sym (ap (λ v. product 16 69643 v b) e ∙ zero-product 16 696
 loop-holds : tie.Need-loop-holds Inv-loop μ-loop
 loop-holds c = (omega arith, sym (sum-none _), sym (sum-none _))
 
-mul-v : tie.Need-mul-v Inv-loop μ-loop
-mul-v c = omega arith
-
-shared-slice-read-v : tie.Need-shared-slice-read-v Inv-loop μ-loop
-shared-slice-read-v c = omega arith
-
-mul-i : tie.Need-mul-i Inv-loop μ-loop
-mul-i c = omega arith
-
-mul-multiple : tie.Need-mul-multiple Inv-loop μ-loop
-mul-multiple c = omega arith
-
-shared-slice-read-multiple : tie.Need-shared-slice-read-multiple Inv-loop μ-loop
-shared-slice-read-multiple c = omega arith
-
-multiple-requires : tie.Need-multiple-requires Inv-loop μ-loop
-multiple-requires c κs = search needs
-
-add-multiple : tie.Need-add-multiple Inv-loop μ-loop
-add-multiple c = omega arith
-
-mul-multiple-2 : tie.Need-mul-multiple-2 Inv-loop μ-loop
-mul-multiple-2 c = omega arith
-
-shared-slice-read-multiple-2 : tie.Need-shared-slice-read-multiple-2 Inv-loop μ-loop
-shared-slice-read-multiple-2 c = omega arith
-
-multiple-requires-2 : tie.Need-multiple-requires-2 Inv-loop μ-loop
-multiple-requires-2 c κs = search needs
-
-add-j : tie.Need-add-j Inv-loop μ-loop
-add-j c = omega arith
-
-loop-less : tie.Need-loop-less Inv-loop μ-loop
-loop-less c = omega arith
-
 loop-again : tie.Need-loop-again Inv-loop μ-loop
 loop-again c =
     let s = c .before .before .before in
@@ -109,17 +73,17 @@ sparse-sums-spec =
     Inv-loop
     μ-loop
     loop-holds
-    mul-v
-    shared-slice-read-v
-    mul-i
-    mul-multiple
-    shared-slice-read-multiple
-    multiple-requires
-    add-multiple
-    mul-multiple-2
-    shared-slice-read-multiple-2
-    multiple-requires-2
-    add-j
-    loop-less
+    (let a : tie.Need-mul-v Inv-loop μ-loop = λ c. omega arith in a)
+    (let a : tie.Need-shared-slice-read-v Inv-loop μ-loop = λ c. omega arith in a)
+    (let a : tie.Need-mul-i Inv-loop μ-loop = λ c. omega arith in a)
+    (let a : tie.Need-mul-multiple Inv-loop μ-loop = λ c. omega arith in a)
+    (let a : tie.Need-shared-slice-read-multiple Inv-loop μ-loop = λ c. omega arith in a)
+    (let a : tie.Need-multiple-requires Inv-loop μ-loop = λ c κs. search needs in a)
+    (let a : tie.Need-add-multiple Inv-loop μ-loop = λ c. omega arith in a)
+    (let a : tie.Need-mul-multiple-2 Inv-loop μ-loop = λ c. omega arith in a)
+    (let a : tie.Need-shared-slice-read-multiple-2 Inv-loop μ-loop = λ c. omega arith in a)
+    (let a : tie.Need-multiple-requires-2 Inv-loop μ-loop = λ c κs. search needs in a)
+    (let a : tie.Need-add-j Inv-loop μ-loop = λ c. omega arith in a)
+    (let a : tie.Need-loop-less Inv-loop μ-loop = λ c. omega arith in a)
     loop-again
     returns)

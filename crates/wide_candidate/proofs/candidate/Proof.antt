@@ -11,9 +11,6 @@ use Rattle.wide_shape.specs.Edition.{wideLimits}
 use Rattle.wide_candidate.proofs.candidate.Statement.{statement}
 use Rattle.wide_candidate.proofs.candidate.Tie as tie
 
-word-refusal-requires : tie.Need-word-refusal-requires
-word-refusal-requires c κs = search needs
-
 returns : tie.Need-returns
 returns c =
     let r = c .before in
@@ -35,9 +32,6 @@ returns-2 c = (λ _ e f _. absurd (c .if2 .taken (f ∙ sym e)), (λ _ e f _. ab
 returns-3 : tie.Need-returns-3
 returns-3 c = (λ _ e _ f. absurd (c .if3 .taken (f ∙ sym e)), (λ _ e _ f. absurd (c .if3 .taken (f ∙ sym e)), (refl, λ _. (refl, refl))))
 
-array-borrow-prefix-near : tie.Need-array-borrow-prefix-near
-array-borrow-prefix-near c = omega arith
-
 slice-aggregate-rebuild : tie.Need-slice-aggregate-rebuild
 slice-aggregate-rebuild c = simp length-take (omega arith)
 
@@ -45,9 +39,6 @@ rebuild-requires : tie.Need-rebuild-requires
 rebuild-requires c κs =
     let L = shaped (c .before .before .before .before .before) in
     (L .good, (L .size, (omega arith, (simp length-take (omega arith), omega arith))))
-
-same-length : tie.Need-same-length
-same-length c = search needs
 
 returns-4 : tie.Need-returns-4
 returns-4 c =
@@ -72,9 +63,6 @@ rebuild-requires-2 c κs =
     let l = places-most (L .good) in
     (L .good, (L .size, (omega arith, (simp length-take (omega arith), omega arith))))
 
-same-length-2 : tie.Need-same-length-2
-same-length-2 c = search needs
-
 returns-5 : tie.Need-returns-5
 returns-5 c =
     let L = shaped (c .before .before .before .before .before .before .before .before .before) in
@@ -84,17 +72,17 @@ pub candidate-spec : {M : Type 1} → statement M
 candidate-spec =
     tie.close
     (tie.spec
-    word-refusal-requires
+    (let a : tie.Need-word-refusal-requires = λ c κs. search needs in a)
     returns
     returns-2
     returns-3
-    array-borrow-prefix-near
+    (let a : tie.Need-array-borrow-prefix-near = λ c. omega arith in a)
     slice-aggregate-rebuild
     rebuild-requires
-    same-length
+    (let a : tie.Need-same-length = λ c. search needs in a)
     returns-4
     array-borrow-prefix-bound
     slice-aggregate-rebuild-2
     rebuild-requires-2
-    same-length-2
+    (let a : tie.Need-same-length-2 = λ c. search needs in a)
     returns-5)

@@ -19,19 +19,19 @@ use Rattle.wide_candidate.proofs.mend.Statement.{statement}
 use Rattle.wide_candidate.proofs.mend.Tie as tie
 
 -- what is asked with the free places f and two rows of n zeros
-asked : (m w c n : ℕ) (f : Free) {s : Sums} (word : List ℕ) {marks bound : List ℕ} → GoodIn wideLimits m w c → length word ≡ m * w
-    → length marks ≡ m * w → BoundAll m w c marks bound → FreePlaces marks bound (f .count) (f .first) (f .second) → 0 < f .count
-    → s ≡ wideAcross m w c word → w ≤ n
+asked : {m w c : ℕ} (n : ℕ) (f : Free) {s : Sums} (word : List ℕ) {marks bound : List ℕ}
+    → GoodIn wideLimits m w c × ((length word ≡ m * w) × ((length marks ≡ m * w) × BoundAll m w c marks bound))
+    → FreePlaces marks bound (f .count) (f .first) (f .second) → 0 < f .count → s ≡ wideAcross m w c word → w ≤ n
     → GoodIn wideLimits m w c × ((length word ≡ m * w) × (OneOrTwo m w c f bound × ((s ≡ wideAcross m w c word)
     × ((take {A = ℕ} w (replicate n 0) ≡ replicate w 0) × (take {A = ℕ} w (replicate n 0) ≡ replicate w 0)))))
-asked m w c n f word {bound = bound} good size long K P some e l = (good, (size, (free, (e, (zeros w n l, zeros w n l)))))
+asked {m} {w} {c} n f word {bound = bound} L P some e l = (L .0, (L .1 .0, (free, (e, (zeros w n l, zeros w n l)))))
   where
     free : OneOrTwo m w c f bound
     free = record {
       some = some;
       most = P .most;
-      less = λ i h. subst (λ k. freeAt (f .first) (f .second) i < k) long (P .less i h);
-      few = few-at (let h = good .wide in omega arith) K P long;
+      less = λ i h. subst (λ k. freeAt (f .first) (f .second) i < k) (L .1 .1 .0) (P .less i h);
+      few = few-at (let h = L .0 .wide in omega arith) (L .1 .1 .1) P (L .1 .1 .0);
       apart = λ k e. let z = P .apart 0 1 (omega arith) (omega arith) e in omega arith;
     }
 
@@ -43,30 +43,17 @@ mended {x = suc zero} P some one two = MendedIn.one P (one refl)
 mended {x = suc (suc zero)} P some one two = MendedIn.two P (two refl)
 mended {x = suc (suc (suc x))} P some one two = let k = P .most in absurd (omega arith)
 
-free-places-requires : tie.Need-free-places-requires
-free-places-requires c κs = search needs
-
 across-requires : tie.Need-across-requires
-across-requires c κs = search needs
-
-same-length : tie.Need-same-length
-same-length c = search needs
+across-requires c κs = let s = c .before .before .before .before .before in record { good = s .pre .0; size = s .pre .1 .0 }
 
 returns : tie.Need-returns
 returns c =
     let x = c .before .before in
     let f = x .before .before in
-    let s = f .before .before .before .before in
-    (MendedIn.none (rw (c .if1 .taken) at (f .free-places .ensures .0)) refl, x .across .ensures .0 (s .pre .0) (s .pre .1 .0))
-
-array-borrow-prefix-near : tie.Need-array-borrow-prefix-near
-array-borrow-prefix-near c = search needs
+    (MendedIn.none (rw (c .if1 .taken) at (f .free-places .ensures .0)) refl, x .across .ensures)
 
 slice-aggregate-mend-free : tie.Need-slice-aggregate-mend-free
 slice-aggregate-mend-free c = simp (length-take, length-replicate) (omega arith)
-
-array-borrow-prefix-far : tie.Need-array-borrow-prefix-far
-array-borrow-prefix-far c = search needs
 
 slice-aggregate-mend-free-2 : tie.Need-slice-aggregate-mend-free-2
 slice-aggregate-mend-free-2 c = simp (length-take, length-replicate) (omega arith)
@@ -76,12 +63,7 @@ mend-free-requires c κs =
     let x = c .before .before .before .before .before .before in
     let f = x .before .before in
     let s = f .before .before .before .before in
-    let a = s .args in
-    asked (a .m) (a .w) (a .c) 16 (f .free-places .result) (a .word .now) (s .pre .0) (s .pre .1 .0) (s .pre .1 .1 .0) (s .pre .1 .1 .1)
-    (f .free-places .ensures .0) (omega arith) (x .across .ensures .0 (s .pre .0) (s .pre .1 .0)) (omega arith)
-
-same-length-2 : tie.Need-same-length-2
-same-length-2 c = search needs
+    asked 16 (f .free-places .result) (s .args .word .now) (s .pre) (f .free-places .ensures .0) (omega arith) (x .across .ensures) (omega arith)
 
 returns-2 : tie.Need-returns-2
 returns-2 c =
@@ -89,16 +71,10 @@ returns-2 c =
     let f = g .before .before .before .before .before .before .before .before .before in
     (mended (f .free-places .ensures .0) (omega arith) (g .mend-free .ensures .0) (g .mend-free .ensures .1 .0), g .mend-free .ensures .1 .1)
 
-array-borrow-prefix-h : tie.Need-array-borrow-prefix-h
-array-borrow-prefix-h c = search needs
-
 slice-aggregate-mend-free-3 : tie.Need-slice-aggregate-mend-free-3
 slice-aggregate-mend-free-3 c =
     let s = c .before .before .before .before .before .before .before .before .before .before .before in
     simp (length-take, length-replicate) (omega (arith, s .pre .0 .narrow))
-
-array-borrow-prefix-k : tie.Need-array-borrow-prefix-k
-array-borrow-prefix-k c = search needs
 
 slice-aggregate-mend-free-4 : tie.Need-slice-aggregate-mend-free-4
 slice-aggregate-mend-free-4 c =
@@ -110,12 +86,7 @@ mend-free-requires-2 c κs =
     let x = c .before .before .before .before .before .before in
     let f = x .before .before in
     let s = f .before .before .before .before in
-    let a = s .args in
-    asked (a .m) (a .w) (a .c) 256 (f .free-places .result) (a .word .now) (s .pre .0) (s .pre .1 .0) (s .pre .1 .1 .0) (s .pre .1 .1 .1)
-    (f .free-places .ensures .0) (omega arith) (x .across .ensures .0 (s .pre .0) (s .pre .1 .0)) (s .pre .0 .narrow)
-
-same-length-3 : tie.Need-same-length-3
-same-length-3 c = search needs
+    asked 256 (f .free-places .result) (s .args .word .now) (s .pre) (f .free-places .ensures .0) (omega arith) (x .across .ensures) (s .pre .0 .narrow)
 
 returns-3 : tie.Need-returns-3
 returns-3 c =
@@ -127,21 +98,21 @@ pub mend-spec : {M : Type 1} → statement M
 mend-spec =
     tie.close
     (tie.spec
-    free-places-requires
+    (let a : tie.Need-free-places-requires = λ c κs. search needs in a)
     across-requires
-    same-length
+    (let a : tie.Need-same-length = λ c. search needs in a)
     returns
-    array-borrow-prefix-near
+    (let a : tie.Need-array-borrow-prefix-near = λ c. search needs in a)
     slice-aggregate-mend-free
-    array-borrow-prefix-far
+    (let a : tie.Need-array-borrow-prefix-far = λ c. search needs in a)
     slice-aggregate-mend-free-2
     mend-free-requires
-    same-length-2
+    (let a : tie.Need-same-length-2 = λ c. search needs in a)
     returns-2
-    array-borrow-prefix-h
+    (let a : tie.Need-array-borrow-prefix-h = λ c. search needs in a)
     slice-aggregate-mend-free-3
-    array-borrow-prefix-k
+    (let a : tie.Need-array-borrow-prefix-k = λ c. search needs in a)
     slice-aggregate-mend-free-4
     mend-free-requires-2
-    same-length-3
+    (let a : tie.Need-same-length-3 = λ c. search needs in a)
     returns-3)

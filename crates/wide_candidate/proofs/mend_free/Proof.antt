@@ -10,12 +10,6 @@ mend-one-requires c κs =
     let p = s .pre .1 .1 in
     (s .pre .0, (s .pre .1 .0, (p .0 .less 0 (p .0 .some), (p .0 .few 0 (p .0 .some), (p .1 .0, p .1 .1 .0)))))
 
-same-length : tie.Need-same-length
-same-length c = search needs
-
-same-length-2 : tie.Need-same-length-2
-same-length-2 c = search needs
-
 returns : tie.Need-returns
 returns c =
     let e = c .before .before .before .before .mend-one .ensures in
@@ -30,15 +24,6 @@ mend-two-requires c κs =
     let most = P .most in
     (s .pre .0, (s .pre .1 .0, ((P .less 0 (P .some), P .less 1 two, P .apart (omega arith)), (P .few 0 (P .some), (P .few 1 two, p .1)))))
 
-same-length-3 : tie.Need-same-length-3
-same-length-3 c = search needs
-
-same-length-4 : tie.Need-same-length-4
-same-length-4 c = search needs
-
-same-length-5 : tie.Need-same-length-5
-same-length-5 c = search needs
-
 returns-2 : tie.Need-returns-2
 returns-2 c =
     let e = c .before .before .before .before .before .before .mend-two .ensures in
@@ -49,11 +34,11 @@ mend-free-spec =
     tie.close
     (tie.spec
     mend-one-requires
-    same-length
-    same-length-2
+    (let a : tie.Need-same-length = λ c. search needs in a)
+    (let a : tie.Need-same-length-2 = λ c. search needs in a)
     returns
     mend-two-requires
-    same-length-3
-    same-length-4
-    same-length-5
+    (let a : tie.Need-same-length-3 = λ c. search needs in a)
+    (let a : tie.Need-same-length-4 = λ c. search needs in a)
+    (let a : tie.Need-same-length-5 = λ c. search needs in a)
     returns-2)

@@ -17,42 +17,6 @@ use borrow.Author.Needs.{needs}
 use Rattle.wide_candidate.proofs.two_unknowns.Statement.{statement}
 use Rattle.wide_candidate.proofs.two_unknowns.Tie as tie
 
-slice-aggregate-multiply : tie.Need-slice-aggregate-multiply
-slice-aggregate-multiply c = search needs
-
-slice-aggregate-multiply-2 : tie.Need-slice-aggregate-multiply-2
-slice-aggregate-multiply-2 c = search needs
-
-multiply-requires : tie.Need-multiply-requires
-multiply-requires c κs = search needs
-
-array-read-inverse : tie.Need-array-read-inverse
-array-read-inverse c = search needs
-
-array-read-inverse-2 : tie.Need-array-read-inverse-2
-array-read-inverse-2 c = search needs
-
-inverse-requires : tie.Need-inverse-requires
-inverse-requires c κs = search needs
-
-array-read-product : tie.Need-array-read-product
-array-read-product c = search needs
-
-array-read-product-2 : tie.Need-array-read-product-2
-array-read-product-2 c = search needs
-
-product-requires : tie.Need-product-requires
-product-requires c κs = search needs
-
-array-read-product-3 : tie.Need-array-read-product-3
-array-read-product-3 c = search needs
-
-array-read-product-4 : tie.Need-array-read-product-4
-array-read-product-4 c = search needs
-
-product-requires-2 : tie.Need-product-requires-2
-product-requires-2 c κs = search needs
-
 -- the sum of two of the products
 sum-of : {x y z : List ℕ} → EachTimes x y z → (i j : ℕ) → i < length x → j < length x
     → bitXor (getD z i 0) (getD z j 0) ≡ times wideEdition (getD x i 0) (getD y i 0) ⊕ times wideEdition (getD x j 0) (getD y j 0)
@@ -74,16 +38,16 @@ pub two-unknowns-spec : {M : Type 1} → statement M
 two-unknowns-spec =
     tie.close
     (tie.spec
-    slice-aggregate-multiply
-    slice-aggregate-multiply-2
-    multiply-requires
-    array-read-inverse
-    array-read-inverse-2
-    inverse-requires
-    array-read-product
-    array-read-product-2
-    product-requires
-    array-read-product-3
-    array-read-product-4
-    product-requires-2
+    (let a : tie.Need-slice-aggregate-multiply = λ c. search needs in a)
+    (let a : tie.Need-slice-aggregate-multiply-2 = λ c. search needs in a)
+    (let a : tie.Need-multiply-requires = λ c κs. search needs in a)
+    (let a : tie.Need-array-read-inverse = λ c. search needs in a)
+    (let a : tie.Need-array-read-inverse-2 = λ c. search needs in a)
+    (let a : tie.Need-inverse-requires = λ c κs. search needs in a)
+    (let a : tie.Need-array-read-product = λ c. search needs in a)
+    (let a : tie.Need-array-read-product-2 = λ c. search needs in a)
+    (let a : tie.Need-product-requires = λ c κs. search needs in a)
+    (let a : tie.Need-array-read-product-3 = λ c. search needs in a)
+    (let a : tie.Need-array-read-product-4 = λ c. search needs in a)
+    (let a : tie.Need-product-requires-2 = λ c κs. search needs in a)
     returns)

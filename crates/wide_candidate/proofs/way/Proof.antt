@@ -30,12 +30,6 @@ written d =
     (part-width (a .m) (a .w) (a .c) (a .p) (s .pre .0) (s .pre .1 .0) (a .bound .now) (s .pre .1 .1 .0))
     (rw (stretch-lent (a .w) _ (a .bound .now)) at (d .direction .ensures))
 
-div-g : tie.Need-div-g
-div-g c = search needs
-
-rem-j : tie.Need-rem-j
-rem-j c = search needs
-
 mul-a : tie.Need-mul-a
 mul-a c =
     let s = c .before .before in
@@ -49,12 +43,6 @@ add-e c =
     let a = s .args in
     let e = group-end (a .m) (a .w) (a .c) (a .p) (s .pre .0) (s .pre .1 .0) in
     omega arith
-
-sub-direction : tie.Need-sub-direction
-sub-direction c = search needs
-
-part-direction-start : tie.Need-part-direction-start
-part-direction-start c = search needs
 
 part-direction-end : tie.Need-part-direction-end
 part-direction-end c =
@@ -79,9 +67,6 @@ weights-requires c κs =
     let a = s .args in
     (s .pre .0, (group-lt (a .m) (a .w) (a .c) (a .p) (s .pre .0) (s .pre .1 .0), written d .size))
 
-same-length : tie.Need-same-length
-same-length c = search needs
-
 returns : tie.Need-returns
 returns c = (written (c .before .before .before .before), c .weights .ensures)
 
@@ -89,14 +74,14 @@ pub way-spec : {M : Type 1} → statement M
 way-spec =
     tie.close
     (tie.spec
-    div-g
-    rem-j
+    (let a : tie.Need-div-g = λ c. search needs in a)
+    (let a : tie.Need-rem-j = λ c. search needs in a)
     mul-a
     add-e
-    sub-direction
-    part-direction-start
+    (let a : tie.Need-sub-direction = λ c. search needs in a)
+    (let a : tie.Need-part-direction-start = λ c. search needs in a)
     part-direction-end
     direction-requires
     weights-requires
-    same-length
+    (let a : tie.Need-same-length = λ c. search needs in a)
     returns)

@@ -12,27 +12,6 @@ use Rattle.wide_field.specs.SixteenfoldLaws.{digits-four}
 use Rattle.wide_field.proofs.shifted_product.Statement.{statement}
 use Rattle.wide_field.proofs.shifted_product.Tie as tie
 
-four-bits-requires : tie.Need-four-bits-requires
-four-bits-requires c κs = search needs
-
-sixteenfold-requires : tie.Need-sixteenfold-requires
-sixteenfold-requires c κs = search needs
-
-four-bits-requires-2 : tie.Need-four-bits-requires-2
-four-bits-requires-2 c κs = search needs
-
-sixteenfold-requires-2 : tie.Need-sixteenfold-requires-2
-sixteenfold-requires-2 c κs = search needs
-
-four-bits-requires-3 : tie.Need-four-bits-requires-3
-four-bits-requires-3 c κs = search needs
-
-sixteenfold-requires-3 : tie.Need-sixteenfold-requires-3
-sixteenfold-requires-3 c κs = search needs
-
-four-bits-requires-4 : tie.Need-four-bits-requires-4
-four-bits-requires-4 c κs = search needs
-
 -- four bits more
 step : (a b : ℕ) {p x r : ℕ} → a < 65536 → b < 65536 → p ≡ product 16 69643 a (b / 16) → x ≡ sixteenfold p → r ≡ x ⊕ product 16 69643 a (b % 16)
     → r ≡ product 16 69643 a b
@@ -63,11 +42,11 @@ pub shifted-product-spec : {M : Type 1} → statement M
 shifted-product-spec =
     tie.close
     (tie.spec
-    four-bits-requires
-    sixteenfold-requires
-    four-bits-requires-2
-    sixteenfold-requires-2
-    four-bits-requires-3
-    sixteenfold-requires-3
-    four-bits-requires-4
+    (let a : tie.Need-four-bits-requires = λ c κs. search needs in a)
+    (let a : tie.Need-sixteenfold-requires = λ c κs. search needs in a)
+    (let a : tie.Need-four-bits-requires-2 = λ c κs. search needs in a)
+    (let a : tie.Need-sixteenfold-requires-2 = λ c κs. search needs in a)
+    (let a : tie.Need-four-bits-requires-3 = λ c κs. search needs in a)
+    (let a : tie.Need-sixteenfold-requires-3 = λ c κs. search needs in a)
+    (let a : tie.Need-four-bits-requires-4 = λ c κs. search needs in a)
     returns)

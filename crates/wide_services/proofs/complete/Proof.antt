@@ -6,22 +6,13 @@ use Rattle.wide_services.proofs.complete.Statement.{statement}
 use Rattle.wide_services.proofs.complete.Tie as tie
 use Rattle.code.specs.LimitsLaws.{places-most}
 
-array-borrow-prefix-near : tie.Need-array-borrow-prefix-near
-array-borrow-prefix-near c = search needs
-
 slice-aggregate-fill-checks : tie.Need-slice-aggregate-fill-checks
 slice-aggregate-fill-checks c = simp (length-take, length-replicate) (omega arith)
 
 fill-checks-requires : tie.Need-fill-checks-requires
 fill-checks-requires c κs =
     let s = c .before .before .before .before in
-    (s .pre .0, sym (slice-aggregate-fill-checks c) ∙ s .pre .1)
-
-same-length : tie.Need-same-length
-same-length c = search needs
-
-returns : tie.Need-returns
-returns c = search needs
+    (s .pre .0, (s .pre .1, sym (slice-aggregate-fill-checks c) ∙ s .pre .1))
 
 array-borrow-prefix-marks : tie.Need-array-borrow-prefix-marks
 array-borrow-prefix-marks c =
@@ -36,25 +27,19 @@ slice-aggregate-fill-checks-2 c =
 fill-checks-requires-2 : tie.Need-fill-checks-requires-2
 fill-checks-requires-2 c κs =
     let s = c .before .before .before .before in
-    (s .pre .0, sym (slice-aggregate-fill-checks-2 c) ∙ s .pre .1)
-
-same-length-2 : tie.Need-same-length-2
-same-length-2 c = search needs
-
-returns-2 : tie.Need-returns-2
-returns-2 c = search needs
+    (s .pre .0, (s .pre .1, sym (slice-aggregate-fill-checks-2 c) ∙ s .pre .1))
 
 pub complete-spec : {M : Type 1} → statement M
 complete-spec =
     tie.close
     (tie.spec
-    array-borrow-prefix-near
+    (let a : tie.Need-array-borrow-prefix-near = λ c. search needs in a)
     slice-aggregate-fill-checks
     fill-checks-requires
-    same-length
-    returns
+    (let a : tie.Need-same-length = λ c. search needs in a)
+    (let a : tie.Need-returns = λ c. search needs in a)
     array-borrow-prefix-marks
     slice-aggregate-fill-checks-2
     fill-checks-requires-2
-    same-length-2
-    returns-2)
+    (let a : tie.Need-same-length-2 = λ c. search needs in a)
+    (let a : tie.Need-returns-2 = λ c. search needs in a))

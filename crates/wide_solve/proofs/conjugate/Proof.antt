@@ -23,23 +23,8 @@ Inv-loop a row sum₀ rest₀ i₀ sum rest i = (i ≤ 16) × (length row ≡ 16
 abbrev μ-loop : tie.MeasureT-loop
 μ-loop a row sum₀ rest₀ i₀ sum rest i = 16 - i
 
-conjugates-requires : tie.Need-conjugates-requires Inv-loop μ-loop
-conjugates-requires c κs = search needs
-
 loop-holds : tie.Need-loop-holds Inv-loop μ-loop
 loop-holds c = (omega arith, ap length (c .conjugates .ensures) ∙ row-size, ⊕-zero-l _)
-
-mul-sum : tie.Need-mul-sum Inv-loop μ-loop
-mul-sum c = omega arith
-
-array-read-sum : tie.Need-array-read-sum Inv-loop μ-loop
-array-read-sum c = omega arith
-
-add-i : tie.Need-add-i Inv-loop μ-loop
-add-i c = omega arith
-
-loop-less : tie.Need-loop-less Inv-loop μ-loop
-loop-less c = omega arith
 
 loop-again : tie.Need-loop-again Inv-loop μ-loop
 loop-again c =
@@ -72,11 +57,11 @@ conjugate-spec =
     (tie.spec
     Inv-loop
     μ-loop
-    conjugates-requires
+    (let a : tie.Need-conjugates-requires Inv-loop μ-loop = λ c κs. search needs in a)
     loop-holds
-    mul-sum
-    array-read-sum
-    add-i
-    loop-less
+    (let a : tie.Need-mul-sum Inv-loop μ-loop = λ c. omega arith in a)
+    (let a : tie.Need-array-read-sum Inv-loop μ-loop = λ c. omega arith in a)
+    (let a : tie.Need-add-i Inv-loop μ-loop = λ c. omega arith in a)
+    (let a : tie.Need-loop-less Inv-loop μ-loop = λ c. omega arith in a)
     loop-again
     returns)

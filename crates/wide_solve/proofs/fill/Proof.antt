@@ -3,9 +3,9 @@ use Prim.Native.Nat.{ℕ, zero, suc, _≤_, _<_}
 use native.Mathlib.Omega.{arith}
 use lib.ListN.{length, getD, replicate}
 use Rattle.wide_shape.specs.Edition.{wideEdition}
-use Rattle.code_engine.specs.FilledLaws.{unchanged, filled-by}
+use Rattle.code_engine.specs.FilledLaws.{unchanged, no-erasures, filled-by}
 use Rattle.wide_solve.specs.Column.{columnOf}
-use Rattle.wide_solve.specs.ColumnLaws.{column-at, filled-none}
+use Rattle.wide_solve.specs.ColumnLaws.{column-at}
 use Rattle.wide_solve.specs.OneLaws.{filled-one}
 use Rattle.wide_solve.specs.SolvedLaws.{locators-differ, solved-by}
 use borrow.Author.Needs.{needs}
@@ -26,32 +26,17 @@ zeros (suc (suc zero)) = refl
 zeros (suc (suc (suc zero))) = refl
 zeros (suc (suc (suc (suc i)))) = refl
 
-returns : tie.Need-returns
-returns c = search needs
-
-returns-2 : tie.Need-returns-2
-returns-2 c = search needs
-
-find-requires : tie.Need-find-requires
-find-requires c κs = search needs
-
 returns-3 : tie.Need-returns-3
 returns-3 c = let f = c .before .find in unchanged wideEdition _ _ (f .result .count) (f .ensures .all) (c .if3 .taken)
 
 returns-4 : tie.Need-returns-4
-returns-4 c = let f = c .before .before .find in filled-none wideEdition _ _ (f .result .count) (f .ensures .all) (c .if4 .taken)
-
-array-read-p : tie.Need-array-read-p
-array-read-p c = search needs
+returns-4 c = let f = c .before .before .find in no-erasures wideEdition _ _ (f .result .count) (f .ensures .all) (c .if4 .taken)
 
 fill-one-requires : tie.Need-fill-one-requires
 fill-one-requires c κs =
     let f = c .before .before .before .before .before in
     let b = f .find .ensures .few (omega arith) .inside 0 (omega arith) in
     omega arith
-
-same-length : tie.Need-same-length
-same-length c = search needs
 
 returns-5 : tie.Need-returns-5
 returns-5 c =
@@ -65,22 +50,10 @@ place-requires : tie.Need-place-requires
 place-requires c κs =
     (omega arith, λ i l. let b = c .before .before .before .before .before .find .ensures .few (omega arith) .inside i (omega arith) in omega arith)
 
-power-sums-requires : tie.Need-power-sums-requires
-power-sums-requires c κs = search needs
-
-locators-of-requires : tie.Need-locators-of-requires
-locators-of-requires c κs = search needs
-
-symbols-requires : tie.Need-symbols-requires
-symbols-requires c κs = search needs
-
 place-requires-2 : tie.Need-place-requires-2
 place-requires-2 c κs =
     let f = c .before .before .before .before .before .before .before .before .before .before .before .before .before in
     (omega arith, λ i l. let b = f .find .ensures .few (omega arith) .inside i (omega arith) in omega arith)
-
-same-length-2 : tie.Need-same-length-2
-same-length-2 c = search needs
 
 returns-6 : tie.Need-returns-6
 returns-6 c =
@@ -108,19 +81,19 @@ pub fill-spec : {M : Type 1} → statement M
 fill-spec =
     tie.close
     (tie.spec
-    returns
-    returns-2
-    find-requires
+    (let a : tie.Need-returns = λ c. search needs in a)
+    (let a : tie.Need-returns-2 = λ c. search needs in a)
+    (let a : tie.Need-find-requires = λ c κs. search needs in a)
     returns-3
     returns-4
-    array-read-p
+    (let a : tie.Need-array-read-p = λ c. search needs in a)
     fill-one-requires
-    same-length
+    (let a : tie.Need-same-length = λ c. search needs in a)
     returns-5
     place-requires
-    power-sums-requires
-    locators-of-requires
-    symbols-requires
+    (let a : tie.Need-power-sums-requires = λ c κs. search needs in a)
+    (let a : tie.Need-locators-of-requires = λ c κs. search needs in a)
+    (let a : tie.Need-symbols-requires = λ c κs. search needs in a)
     place-requires-2
-    same-length-2
+    (let a : tie.Need-same-length-2 = λ c. search needs in a)
     returns-6)

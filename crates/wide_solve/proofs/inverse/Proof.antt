@@ -11,21 +11,6 @@ use Rattle.wide_solve.proofs.conjugate.Reads as conjugate-reads
 use Rattle.wide_solve.proofs.inverses.Reads as inverses-reads
 use Rattle.wide_solve.proofs.quotient.Reads as quotient-reads
 
-conjugate-requires : tie.Need-conjugate-requires
-conjugate-requires c κs = search needs
-
-product-requires : tie.Need-product-requires
-product-requires c κs = search needs
-
-inverses-requires : tie.Need-inverses-requires
-inverses-requires c κs = search needs
-
-slice-aggregate-quotient : tie.Need-slice-aggregate-quotient
-slice-aggregate-quotient c = search needs
-
-quotient-requires : tie.Need-quotient-requires
-quotient-requires c κs = search needs
-
 returns : tie.Need-returns
 returns c =
     let s = c .before .before .before .before .before in
@@ -36,9 +21,9 @@ pub inverse-spec : {M : Type 1} → statement M
 inverse-spec =
     tie.close
     (tie.spec
-    conjugate-requires
-    product-requires
-    inverses-requires
-    slice-aggregate-quotient
-    quotient-requires
+    (let a : tie.Need-conjugate-requires = λ c κs. search needs in a)
+    (let a : tie.Need-product-requires = λ c κs. search needs in a)
+    (let a : tie.Need-inverses-requires = λ c κs. search needs in a)
+    (let a : tie.Need-slice-aggregate-quotient = λ c. search needs in a)
+    (let a : tie.Need-quotient-requires = λ c κs. search needs in a)
     returns)

@@ -16,12 +16,6 @@ use Rattle.wide_solve.proofs.inverses.Reads as inverses-reads
 use Rattle.wide_solve.proofs.three.Reads as three-reads
 use Rattle.wide_solve.proofs.two.Reads as two-reads
 
-returns : tie.Need-returns
-returns c = search needs
-
-array-read-t10 : tie.Need-array-read-t10
-array-read-t10 c = search needs
-
 returns-2 : tie.Need-returns-2
 returns-2 c =
     let a = c .before .before .args in (
@@ -32,60 +26,36 @@ returns-2 c =
       λ h. absurd (omega arith),
     )
 
-inverses-requires : tie.Need-inverses-requires
-inverses-requires c κs = search needs
-
-slice-aggregate-two : tie.Need-slice-aggregate-two
-slice-aggregate-two c = search needs
-
-two-requires : tie.Need-two-requires
-two-requires c κs = search needs
-
 returns-3 : tie.Need-returns-3
 returns-3 c =
     let i = c .before .before in
     (λ _ d. let e = i .if3 .taken in rw e (c .two .ensures (rw e at d)), λ h. absurd (omega arith))
-
-slice-aggregate-three : tie.Need-slice-aggregate-three
-slice-aggregate-three c = search needs
-
-three-requires : tie.Need-three-requires
-three-requires c κs = search needs
 
 returns-4 : tie.Need-returns-4
 returns-4 c =
     let i = c .before .before in
     (λ _ d. let e = i .if4 .taken in rw e (c .three .ensures (rw e at d)), λ h. absurd (omega arith))
 
-slice-aggregate-four : tie.Need-slice-aggregate-four
-slice-aggregate-four c = search needs
-
-four-requires : tie.Need-four-requires
-four-requires c κs = search needs
-
 returns-5 : tie.Need-returns-5
 returns-5 c =
     let i = c .before .before in
     (λ _ d. let e = i .if5 .taken in rw e (c .four .ensures (rw e at d)), λ h. absurd (omega arith))
 
-returns-6 : tie.Need-returns-6
-returns-6 c = search needs
-
 pub symbols-spec : {M : Type 1} → statement M
 symbols-spec =
     tie.close
     (tie.spec
-    returns
-    array-read-t10
+    (let a : tie.Need-returns = λ c. search needs in a)
+    (let a : tie.Need-array-read-t10 = λ c. search needs in a)
     returns-2
-    inverses-requires
-    slice-aggregate-two
-    two-requires
+    (let a : tie.Need-inverses-requires = λ c κs. search needs in a)
+    (let a : tie.Need-slice-aggregate-two = λ c. search needs in a)
+    (let a : tie.Need-two-requires = λ c κs. search needs in a)
     returns-3
-    slice-aggregate-three
-    three-requires
+    (let a : tie.Need-slice-aggregate-three = λ c. search needs in a)
+    (let a : tie.Need-three-requires = λ c κs. search needs in a)
     returns-4
-    slice-aggregate-four
-    four-requires
+    (let a : tie.Need-slice-aggregate-four = λ c. search needs in a)
+    (let a : tie.Need-four-requires = λ c κs. search needs in a)
     returns-5
-    returns-6)
+    (let a : tie.Need-returns-6 = λ c. search needs in a))

@@ -16,24 +16,6 @@ use Rattle.wide_solve.proofs.two.Lts as lts
 use Rattle.wide_field.proofs.product.Reads as product-reads
 use Rattle.wide_solve.proofs.quotient.Reads as quotient-reads
 
-array-read-y : tie.Need-array-read-y
-array-read-y c = search needs
-
-array-read-first : tie.Need-array-read-first
-array-read-first c = search needs
-
-array-read-a : tie.Need-array-read-a
-array-read-a c = search needs
-
-product-requires : tie.Need-product-requires
-product-requires c κs = search needs
-
-array-read-quotient : tie.Need-array-read-quotient
-array-read-quotient c = search needs
-
-quotient-requires : tie.Need-quotient-requires
-quotient-requires c κs = search needs
-
 returns : tie.Need-returns
 unfolding _⊕_
 returns c = λ d.
@@ -47,10 +29,10 @@ pub two-spec : {M : Type 1} → statement M
 two-spec =
     tie.close
     (tie.spec
-    array-read-y
-    array-read-first
-    array-read-a
-    product-requires
-    array-read-quotient
-    quotient-requires
+    (let a : tie.Need-array-read-y = λ c. search needs in a)
+    (let a : tie.Need-array-read-first = λ c. search needs in a)
+    (let a : tie.Need-array-read-a = λ c. search needs in a)
+    (let a : tie.Need-product-requires = λ c κs. search needs in a)
+    (let a : tie.Need-array-read-quotient = λ c. search needs in a)
+    (let a : tie.Need-quotient-requires = λ c κs. search needs in a)
     returns)

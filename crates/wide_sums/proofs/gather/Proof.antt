@@ -20,12 +20,6 @@ Inv-loop x₀ row n sums₀ s e₀ x sums e =
 abbrev μ-loop : tie.MeasureT-loop
 μ-loop x₀ row n sums₀ s e₀ x sums e = n - e
 
-sum-requires : tie.Need-sum-requires Inv-loop μ-loop
-sum-requires c κs = search needs
-
-array-write-sums : tie.Need-array-write-sums Inv-loop μ-loop
-array-write-sums c = omega arith
-
 loop-holds : tie.Need-loop-holds Inv-loop μ-loop
 loop-holds c =
     let x : List ℕ = c .before .before .before .before .args .x .now in
@@ -36,24 +30,6 @@ loop-holds c =
       passed-set (λ k. localSum wideEdition (length x) x 0 k) (replicate 6 0) 0 _ (lit< tt) (c .sum .ensures ∙ raised-sum R)
           (λ k l. absurd (omega arith)),
     )
-
-multiply-requires : tie.Need-multiply-requires Inv-loop μ-loop
-multiply-requires c κs = search needs
-
-sum-requires-2 : tie.Need-sum-requires-2 Inv-loop μ-loop
-sum-requires-2 c κs = search needs
-
-mul-sums : tie.Need-mul-sums Inv-loop μ-loop
-mul-sums c = omega arith
-
-array-write-sums-2 : tie.Need-array-write-sums-2 Inv-loop μ-loop
-array-write-sums-2 c = omega arith
-
-add-e : tie.Need-add-e Inv-loop μ-loop
-add-e c = omega arith
-
-loop-less : tie.Need-loop-less Inv-loop μ-loop
-loop-less c = omega arith
 
 loop-again : tie.Need-loop-again Inv-loop μ-loop
 loop-again c =
@@ -84,15 +60,15 @@ gather-spec =
     (tie.spec
     Inv-loop
     μ-loop
-    sum-requires
-    array-write-sums
+    (let a : tie.Need-sum-requires Inv-loop μ-loop = λ c κs. search needs in a)
+    (let a : tie.Need-array-write-sums Inv-loop μ-loop = λ c. omega arith in a)
     loop-holds
-    multiply-requires
-    sum-requires-2
-    mul-sums
-    array-write-sums-2
-    add-e
-    loop-less
+    (let a : tie.Need-multiply-requires Inv-loop μ-loop = λ c κs. search needs in a)
+    (let a : tie.Need-sum-requires-2 Inv-loop μ-loop = λ c κs. search needs in a)
+    (let a : tie.Need-mul-sums Inv-loop μ-loop = λ c. omega arith in a)
+    (let a : tie.Need-array-write-sums-2 Inv-loop μ-loop = λ c. omega arith in a)
+    (let a : tie.Need-add-e Inv-loop μ-loop = λ c. omega arith in a)
+    (let a : tie.Need-loop-less Inv-loop μ-loop = λ c. omega arith in a)
     loop-again
     same-length
     returns)

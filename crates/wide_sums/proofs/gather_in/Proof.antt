@@ -11,15 +11,6 @@ use borrow.Author.Needs.{needs}
 use Rattle.wide_sums.proofs.gather_in.Statement.{statement}
 use Rattle.wide_sums.proofs.gather_in.Tie as tie
 
-locators-requires : tie.Need-locators-requires
-locators-requires c κs = search needs
-
-copy-requires : tie.Need-copy-requires
-copy-requires c κs = search needs
-
-array-share-prefix-row : tie.Need-array-share-prefix-row
-array-share-prefix-row c = search needs
-
 -- the front of the row is as long as the part
 row-front : (part row : List ℕ) → row ≡ locatorRow → length part ≤ 256 → length (take (length part) row) ≡ length part
 row-front part row e narrow = length-take-le (length part) row (subst (λ n. length part ≤ n) (sym (ap length e ∙ row-length)) narrow)
@@ -48,9 +39,6 @@ gather-requires c κs =
       ),
     )
 
-same-length : tie.Need-same-length
-same-length c = search needs
-
 returns : tie.Need-returns
 returns c =
     let r = c .before .before .before in
@@ -61,10 +49,10 @@ pub gather-in-spec : {M : Type 1} → statement M
 gather-in-spec =
     tie.close
     (tie.spec
-    locators-requires
-    copy-requires
-    array-share-prefix-row
+    (let a : tie.Need-locators-requires = λ c κs. search needs in a)
+    (let a : tie.Need-copy-requires = λ c κs. search needs in a)
+    (let a : tie.Need-array-share-prefix-row = λ c. search needs in a)
     slice-aggregate-gather
     gather-requires
-    same-length
+    (let a : tie.Need-same-length = λ c. search needs in a)
     returns)

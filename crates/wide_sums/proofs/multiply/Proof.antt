@@ -25,33 +25,6 @@ returns c = (λ e. absurd (c .if1 .taken e), (refl, λ _. refl))
 loop-holds : tie.Need-loop-holds Inv-loop μ-loop
 loop-holds c = (omega arith, omega arith, refl, λ k l. absurd (omega arith), λ k l. refl)
 
-mul-shifted-product : tie.Need-mul-shifted-product Inv-loop μ-loop
-mul-shifted-product c = omega arith
-
-slice-read-shifted-product : tie.Need-slice-read-shifted-product Inv-loop μ-loop
-slice-read-shifted-product c = omega arith
-
-mul-shifted-product-2 : tie.Need-mul-shifted-product-2 Inv-loop μ-loop
-mul-shifted-product-2 c = omega arith
-
-shared-slice-read-shifted-product : tie.Need-shared-slice-read-shifted-product Inv-loop μ-loop
-shared-slice-read-shifted-product c = omega arith
-
-shifted-product-requires : tie.Need-shifted-product-requires Inv-loop μ-loop
-shifted-product-requires c κs = search needs
-
-mul-x : tie.Need-mul-x Inv-loop μ-loop
-mul-x c = omega arith
-
-slice-write-x : tie.Need-slice-write-x Inv-loop μ-loop
-slice-write-x c = omega arith
-
-add-i : tie.Need-add-i Inv-loop μ-loop
-add-i c = omega arith
-
-loop-less : tie.Need-loop-less Inv-loop μ-loop
-loop-less c = omega arith
-
 loop-again : tie.Need-loop-again Inv-loop μ-loop
 loop-again c =
     let s = c .before .before .before .before in
@@ -67,9 +40,6 @@ loop-again c =
       rest-set (λ k. getD x₀ k 0) x i _ 0 (s .loop .inv .4),
     )
 
-same-length : tie.Need-same-length Inv-loop μ-loop
-same-length c = omega arith
-
 returns-2 : tie.Need-returns-2 Inv-loop μ-loop
 returns-2 c =
     let s = c .before in
@@ -83,15 +53,15 @@ multiply-spec =
     μ-loop
     returns
     loop-holds
-    mul-shifted-product
-    slice-read-shifted-product
-    mul-shifted-product-2
-    shared-slice-read-shifted-product
-    shifted-product-requires
-    mul-x
-    slice-write-x
-    add-i
-    loop-less
+    (let a : tie.Need-mul-shifted-product Inv-loop μ-loop = λ c. omega arith in a)
+    (let a : tie.Need-slice-read-shifted-product Inv-loop μ-loop = λ c. omega arith in a)
+    (let a : tie.Need-mul-shifted-product-2 Inv-loop μ-loop = λ c. omega arith in a)
+    (let a : tie.Need-shared-slice-read-shifted-product Inv-loop μ-loop = λ c. omega arith in a)
+    (let a : tie.Need-shifted-product-requires Inv-loop μ-loop = λ c κs. search needs in a)
+    (let a : tie.Need-mul-x Inv-loop μ-loop = λ c. omega arith in a)
+    (let a : tie.Need-slice-write-x Inv-loop μ-loop = λ c. omega arith in a)
+    (let a : tie.Need-add-i Inv-loop μ-loop = λ c. omega arith in a)
+    (let a : tie.Need-loop-less Inv-loop μ-loop = λ c. omega arith in a)
     loop-again
-    same-length
+    (let a : tie.Need-same-length Inv-loop μ-loop = λ c. omega arith in a)
     returns-2)

@@ -7,18 +7,6 @@ use borrow.Author.Needs.{needs}
 use Rattle.wide_sums.proofs.short_sums.Statement.{statement}
 use Rattle.wide_sums.proofs.short_sums.Tie as tie
 
-padded-requires : tie.Need-padded-requires
-padded-requires c κs = search needs
-
-short-locators-requires : tie.Need-short-locators-requires
-short-locators-requires c κs = search needs
-
-slice-aggregate-gather : tie.Need-slice-aggregate-gather
-slice-aggregate-gather c = search needs
-
-slice-aggregate-gather-2 : tie.Need-slice-aggregate-gather-2
-slice-aggregate-gather-2 c = search needs
-
 gather-requires : tie.Need-gather-requires
 gather-requires c κs =
     let r = c .before .before .short-locators .ensures in
@@ -35,9 +23,9 @@ pub short-sums-spec : {M : Type 1} → statement M
 short-sums-spec =
     tie.close
     (tie.spec
-    padded-requires
-    short-locators-requires
-    slice-aggregate-gather
-    slice-aggregate-gather-2
+    (let a : tie.Need-padded-requires = λ c κs. search needs in a)
+    (let a : tie.Need-short-locators-requires = λ c κs. search needs in a)
+    (let a : tie.Need-slice-aggregate-gather = λ c. search needs in a)
+    (let a : tie.Need-slice-aggregate-gather-2 = λ c. search needs in a)
     gather-requires
     returns)

@@ -29,9 +29,6 @@ returns-4 c = simp (
       (c .if4 .taken),
 )
 
-add-if5 : tie.Need-add-if5
-add-if5 c = search needs
-
 returns-5 : tie.Need-returns-5
 unfolding madeOf shapeRefusalIn
 returns-5 c = simp (
@@ -54,18 +51,6 @@ returns-6 c = simp (
   le-ltb _ _ (c .before .if5 .left),
   lt-ltb _ _ (c .if6 .taken),
 )
-
-cast-t7 : tie.Need-cast-t7
-cast-t7 c = search needs
-
-cast-t8 : tie.Need-cast-t8
-cast-t8 c = search needs
-
-cast-t9 : tie.Need-cast-t9
-cast-t9 c = search needs
-
-k-requires : tie.Need-k-requires
-k-requires c κs = search needs
 
 returns-7 : tie.Need-returns-7
 unfolding madeOf shapeRefusalIn
@@ -107,12 +92,12 @@ new-spec =
     returns-2
     returns-3
     returns-4
-    add-if5
+    (let a : tie.Need-add-if5 = λ c. search needs in a)
     returns-5
     returns-6
-    cast-t7
-    cast-t8
-    cast-t9
-    k-requires
+    (let a : tie.Need-cast-t7 = λ c. search needs in a)
+    (let a : tie.Need-cast-t8 = λ c. search needs in a)
+    (let a : tie.Need-cast-t9 = λ c. search needs in a)
+    (let a : tie.Need-k-requires = λ c κs. search needs in a)
     returns-7
     returns-8)

@@ -37,9 +37,6 @@ returns-4 c = simp (
       (c .if4 .taken),
 )
 
-add-if5 : tie.Need-add-if5
-add-if5 c = search needs
-
 returns-5 : tie.Need-returns-5
 unfolding shapeRefusalIn
 returns-5 c = simp (
@@ -62,9 +59,6 @@ returns-6 c = simp (
   le-ltb _ _ (c .before .if5 .left),
   lt-ltb _ _ (c .if6 .taken),
 )
-
-sub-if7 : tie.Need-sub-if7
-sub-if7 c = search needs
 
 mul-if7 : tie.Need-mul-if7
 mul-if7 c =
@@ -133,10 +127,10 @@ refusal-spec =
     returns-2
     returns-3
     returns-4
-    add-if5
+    (let a : tie.Need-add-if5 = λ c. search needs in a)
     returns-5
     returns-6
-    sub-if7
+    (let a : tie.Need-sub-if7 = λ c. search needs in a)
     mul-if7
     returns-7
     mul-if8
