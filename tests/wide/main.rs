@@ -10,7 +10,6 @@ struct Answer {
     group: u8,
 }
 
-#[link(name = "axlebloom", kind = "static")]
 extern "C" {
     fn axlebloom_wide_describe(m: usize, w: usize, c: usize) -> u8;
     fn axlebloom_wide_encode(m: usize, w: usize, c: usize, data: *const u16, k: usize, word: *mut u16, n: usize) -> u8;
@@ -112,12 +111,16 @@ fn random_words(f: &Field, s: Shape, r: &mut Random, rounds: usize) {
     }
 }
 
-/// A good shape, mostly a small one.
+/// A good shape: mostly a small one; three in 800 of any size, and one in 800 of the widest groups.
 fn good_shape(r: &mut Random) -> Shape {
     loop {
-        let (groups, room) = if r.below(200) == 0 { (255, 250) } else { (6, 8) };
-        let c = 1 + r.below(4) as usize;
-        let s = Shape { m: 1 + r.below(groups) as usize, w: c + 2 + r.below(room) as usize, c };
+        let c = 1 + r.below(4);
+        let (m, w) = match r.below(800) {
+            0 => (1 + r.below(16), 256),
+            1..=3 => (1 + r.below(255), c + 2 + r.below(255 - c)),
+            _ => (1 + r.below(6), c + 2 + r.below(8)),
+        };
+        let s = Shape { m: m as usize, w: w as usize, c: c as usize };
         if second::refusal(s.m, s.w, s.c) == 0 {
             return s;
         }
