@@ -12,7 +12,9 @@
  *
  *     cc program.c $(pkg-config --cflags --libs axlebloom)
  *
- * The library is for x86-64 Linux and calls only memcpy and memset. This header works in C99 and
+ * The library is for x86-64 Linux and calls only memcpy and memset. The folder
+ * glibc-hwcaps/x86-64-v3 beside it has the same library for processors of that level (AVX2), which
+ * glibc's loader takes by itself, and never on other processors. This header works in C99 and
  * later, and in C++11 and later; size_t must have 64 bits.
  *
  * A FIRST PROGRAM. Two bytes of data become a word of six; three of the six are lost and recovered.
@@ -103,9 +105,9 @@ extern "C" {
  * is added, and PATCH in all other cases. */
 #define AXLEBLOOM_VERSION_MAJOR 1
 #define AXLEBLOOM_VERSION_MINOR 1
-#define AXLEBLOOM_VERSION_PATCH 0
-#define AXLEBLOOM_VERSION 10100 /* 10000*major + 100*minor + patch */
-#define AXLEBLOOM_VERSION_TEXT "1.1.0"
+#define AXLEBLOOM_VERSION_PATCH 1
+#define AXLEBLOOM_VERSION 10101 /* 10000*major + 100*minor + patch */
+#define AXLEBLOOM_VERSION_TEXT "1.1.1"
 
 /* The layouts of the two records that a program may save. Save this number with the record, and
  * lend a saved record only if the number is still the same: a record with another layout is not

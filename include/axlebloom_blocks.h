@@ -31,7 +31,7 @@ extern "C" {
 
 /* The version of this header, as 10000*major + 100*minor + patch, and a function that returns the
  * version of the library itself. The two libraries of one release have the same version. */
-#define AXLEBLOOM_BLOCKS_VERSION 10100
+#define AXLEBLOOM_BLOCKS_VERSION 10101
 uint32_t axlebloom_blocks_version(void);
 
 /* The largest total length of all blocks, in bytes. */
@@ -62,7 +62,7 @@ struct axlebloom_rebuild_answer {
  *   1 to 4  the shape is not good
  *   5       there are not n marks
  *   6       a mark is neither 0 nor 1
- *   27      see above
+ *   27      the blocks are not n*length bytes, or length is 0, or n*length is above 65536
  *   8       too much is lost: the present blocks do not determine the words; bring back more of them
  *   9       the present bytes of some word fit no codeword: at least one byte at position x of a
  *           present block is wrong, or the marks or the shape are; more blocks do not help

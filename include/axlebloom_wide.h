@@ -40,7 +40,8 @@ extern "C" {
 #define AXLEBLOOM_WIDE_MAX_WIDTH 256         /* w is c+2 to this */
 #define AXLEBLOOM_WIDE_MAX_PLACES 4096       /* the largest n */
 
-/* The refusal that only this edition returns. The limits behind 1 to 3 are those above. */
+/* The refusal that only this edition returns: 26, after 4 and before all other numbers. 1 to 3 take
+ * the limits above. */
 enum axlebloom_wide_number {
   AXLEBLOOM_WIDE_PLACES = 26 /* the shape has more than 4096 places */
 };
@@ -107,9 +108,9 @@ uint8_t axlebloom_wide_judge(size_t m, size_t w, size_t c, const uint8_t *marks,
  *   word   word_length symbols, which must be n; the lost symbols of group g are written
  *   marks  marks_length bytes, which must be n; those of group g are cleared
  *
- * Returns 8 if more than c places of the group are lost; recover may still succeed. A group that has
- * lost exactly c places has no check to spare: a wrong present symbol goes unnoticed, and the symbols
- * written are computed from it.
+ * Returns 8 if more than c places of the group are lost; recover may still succeed. A group with no
+ * lost places is still tested (9). A group that has lost exactly c places has no check to spare: a
+ * wrong present symbol goes unnoticed, and the symbols written are computed from it.
  *
  * Refused with 1 to 4, 26, 5 to 9, in that order. */
 struct axlebloom_answer axlebloom_wide_repair(size_t m, size_t w, size_t c, size_t g, uint16_t *word,
@@ -121,6 +122,10 @@ struct axlebloom_answer axlebloom_wide_repair(size_t m, size_t w, size_t c, size
  *
  *   word   word_length symbols, which must be n; the lost symbols are written
  *   marks  marks_length bytes, which must be n; all are cleared
+ *
+ * Returns 8 exactly if axlebloom_wide_judge does with these marks: the present places do not
+ * determine the word; bring back more of them. Otherwise it returns 9 exactly if no codeword fits the
+ * present symbols.
  *
  * Refused with 1 to 4, 26, 5, 6, 8 or 9, in that order. */
 struct axlebloom_answer axlebloom_wide_recover(size_t m, size_t w, size_t c, uint16_t *word,
