@@ -1,4 +1,7 @@
 // What services answer: done with figures, or the number of a refusal. Both editions answer in these types.
+
+#![tactic(auto)]
+
 ghost use Rattle.std.specs.Prelude.{◌≡◌};
 ghost use Rattle.code.specs.Refusals.{◌or_else◌};
 ghost use Rattle.code.specs.Limits.{retired_refusal};

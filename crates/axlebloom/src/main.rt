@@ -1,4 +1,7 @@
 // The program: standard input answered on standard output. `text_stream` defines what is written; this file only reads and writes.
+
+#![tactic(auto)]
+
 use libc::STDERR_FILENO;
 use program_io::Request;
 use text_stream::State;

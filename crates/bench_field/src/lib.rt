@@ -1,4 +1,7 @@
 // Powers and logarithms as two big tables with one rule, products through them, and the loops that bench/field times. No service reads them.
+
+#![tactic(auto)]
+
 ghost use Rattle.std.specs.Prelude.{◌<◌, ◌≡◌};
 ghost use Rattle.binary_field.specs.Product.{product};
 ghost use Rattle.bench_field.specs.Tables.{powers, logs, through_tables};

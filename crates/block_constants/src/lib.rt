@@ -1,5 +1,8 @@
 // The constants of a rebuild: the equations of a group reduced at its lost places, and the rows for the one or two lost places that the
 // equations across are needed for.
+
+#![tactic(auto)]
+
 ghost use Rattle.std.specs.Prelude.{◌≡◌, ℕ, ◌≤◌, ◌<◌, length, get_or};
 ghost use Rattle.binary_field.specs.Xor.{◌⊕◌};
 ghost use Rattle.byte_edition.specs.Edition.{byte_edition};

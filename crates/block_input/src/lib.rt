@@ -1,4 +1,7 @@
 // The input of the program that rebuilds blocks: three lines, then the blocks.
+
+#![tactic(auto)]
+
 ghost use Rattle.std.specs.Prelude.{◌≡◌, true, false, cond, ◌||◌, ◌+◌, ◌≤◌, ◌<◌, ltb, length, take, drop};
 ghost use Rattle.text.specs.Records.{line_bytes};
 ghost use Rattle.text_lines.specs.Holds.{HoldsLine};

@@ -1,4 +1,7 @@
 // Block rebuild: n blocks of equal length laid end to end, of which byte x of every block makes word x.
+
+#![tactic(auto)]
+
 ghost use Rattle.std.specs.Prelude.{◌≡◌, ◌*◌, ◌≤◌, ◌<◌, length};
 ghost use Rattle.answers.specs.Answers.{mending_at};
 ghost use Rattle.code.specs.Limits.{place_count};

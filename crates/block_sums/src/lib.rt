@@ -1,5 +1,8 @@
 // Sums of blocks times constants. A strip of 96 bytes of four blocks has sixteen sums, which make a table; every bit of a row of constants takes one
 // of them, from the highest bit down, and what stands is doubled between. No step depends on a constant's value but for the place that it reads.
+
+#![tactic(auto)]
+
 ghost use Rattle.std.specs.Prelude.{◌≡◌, true, false, List, ℕ, ◌+◌, ◌*◌, ◌/◌, ◌%◌, ◌≤◌, ◌<◌, min, length, get_or};
 ghost use Rattle.code.specs.Stretch.{stretch};
 ghost use Rattle.block_sums.specs.Sums.{Named, ZeroUntil, Aimed, SumsWritten, StripSums, ZeroStrip, StripWritten};

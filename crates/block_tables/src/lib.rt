@@ -1,5 +1,8 @@
 // Tables of the sums of four blocks, and the selectors: numbers that say which of these sums a row of constants takes for each of its bits. The
 // tables are definitions and laws alone; the selectors are worked here.
+
+#![tactic(auto)]
+
 ghost use Rattle.std.specs.Prelude.{◌≡◌, ℕ, ◌*◌, ◌%◌, ◌≤◌, ◌<◌, length, get_or, replicate};
 ghost use Rattle.block_tables.specs.Table.{spaced, halves, selector, selector_at, Selectors};
 

@@ -1,4 +1,7 @@
 // Whole buffers copied and cleared, and the smaller of two lengths.
+
+#![tactic(auto)]
+
 ghost use Rattle.std.specs.Prelude.{◌≡◌, true, false, min, length, replicate};
 
 // Copies one buffer over another of the same length; one of another length is left as it is.

@@ -1,4 +1,7 @@
 // The edition of bytes: its rows of coefficients as constants, and inner products with them.
+
+#![tactic(auto)]
+
 ghost use Rattle.std.specs.Prelude.{◌≡◌, min, length, get_or};
 ghost use Rattle.binary_field.specs.Sum.{inner_product};
 ghost use Rattle.byte_edition.specs.Rows.{power_rows, first_rows, second_rows, no_row};

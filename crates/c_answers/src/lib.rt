@@ -1,4 +1,7 @@
 // What an answer gives to C: its number, its figures, and the group that a 9 carries. Both editions use it.
+
+#![tactic(auto)]
+
 ghost use Rattle.std.specs.Prelude.{◌≡◌, get_or};
 ghost use Rattle.answers.specs.Answers.{answer_number};
 ghost use Rattle.c_answers.specs.Mends.{mending_mended};

@@ -1,4 +1,7 @@
 // Block rebuild and its version, as C calls them.
+
+#![tactic(auto)]
+
 ghost use Rattle.std.specs.Prelude.{◌≡◌};
 ghost use Rattle.block_rebuild.specs.Rebuild.{rebuild_of};
 ghost use Rattle.c_blocks.specs.RebuildAnswer.{outcome_answer, rebuilt_answer};

@@ -1,4 +1,7 @@
 // Lookup, Put, Remove and Compact of named shapes as C calls them.
+
+#![tactic(auto)]
+
 ghost use Rattle.std.specs.Prelude.{◌≡◌};
 ghost use Rattle.catalogue_calls.specs.Calls.{lookup_refusal, lookup_figures, looked_number, looked_figures, put_refusal, put_figures, put_buffer};
 ghost use Rattle.catalogue_calls.specs.Calls.{remove_refusal, remove_figures, remove_buffer, changed_number, changed_figures};

@@ -1,4 +1,7 @@
 // The desk as C calls it: each call gives its number back, 0 for done, and Serve the group that a 9 carries.
+
+#![tactic(auto)]
+
 ghost use Rattle.std.specs.Prelude.{◌≡◌};
 ghost use Rattle.desk_record.specs.Desks.{fresh_desk};
 ghost use Rattle.desk_open.specs.Open.{open_of, opened_number};

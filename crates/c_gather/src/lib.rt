@@ -1,5 +1,8 @@
 // The gather as C calls it: a lent record, numbers and lent bytes, each with its length, and the number given back, 0 for done; from Finish with
 // the group that a 9 carries.
+
+#![tactic(auto)]
+
 ghost use Rattle.std.specs.Prelude.{◌≡◌};
 ghost use Rattle.gather_record.specs.Record.{begin_of};
 ghost use Rattle.gather_take.specs.Take.{take_of};

@@ -1,4 +1,7 @@
 // The services, Edit, and the version and texts of the library, as C calls them.
+
+#![tactic(auto)]
+
 ghost use Rattle.std.specs.Prelude.{◌≡◌, length, get_or};
 ghost use Rattle.shape.specs.Shapes.{byte_limits};
 ghost use Rattle.code.specs.Limits.{shape_refusal_in, buffer_refusal_in};

@@ -1,5 +1,8 @@
 // The services of the sixteen-bit edition as C calls them: numbers, lent symbols and marks, each with its length, and the number given back, 0
 // for done; with the group that a 9 carries, where a service gives one.
+
+#![tactic(auto)]
+
 ghost use Rattle.std.specs.Prelude.{◌≡◌, length, get_or};
 ghost use Rattle.code.specs.Limits.{shape_refusal_in, buffer_refusal_in};
 ghost use Rattle.code_services.specs.Check.{checked_in};

@@ -1,4 +1,7 @@
 // The candidate for a word with lost places: where the excess is at most two, what any codeword that agrees with the present bytes must be.
+
+#![tactic(auto)]
+
 ghost use Rattle.std.specs.Prelude.{◌≡◌, false, ℕ, ◌*◌, ◌/◌, ◌%◌, ◌≤◌, ◌<◌, length, take};
 ghost use Rattle.shape.specs.Shapes.{byte_limits};
 ghost use Rattle.code.specs.Marks.{lost, lost_in};

@@ -1,4 +1,7 @@
 // Named shapes with revisions: Lookup, Put and Remove in a text at the start of a lent buffer.
+
+#![tactic(auto)]
+
 ghost use Rattle.std.specs.Prelude.{◌≡◌, true, cond, eqb};
 ghost use Rattle.catalogue_text.specs.Names.{good_name};
 ghost use Rattle.catalogue_scan.specs.Places.{FoundIn};

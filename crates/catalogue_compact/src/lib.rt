@@ -1,4 +1,7 @@
 // Compaction: the lines of names that are gone leave the text, and the first line keeps the largest revision that left.
+
+#![tactic(auto)]
+
 ghost use Rattle.std.specs.Prelude.{◌≡◌, cond, ◌+◌, ◌-◌, ◌≤◌, max, eqb, length, take, drop};
 ghost use Rattle.text.specs.Written.{written};
 ghost use Rattle.catalogue_text.specs.Catalogue.{Catalogue, lines_of};

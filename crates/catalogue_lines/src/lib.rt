@@ -1,4 +1,7 @@
 // A line of a catalogue's text, read, and put into the text in place.
+
+#![tactic(auto)]
+
 ghost use Rattle.std.specs.Prelude.{◌≡◌, ◌≤◌, ◌+◌, ◌-◌, ◌<◌, length, take, drop, [], ◌∷◌, ◌++◌};
 ghost use Rattle.catalogue_text.specs.Names.{name_byte, good_name, before};
 ghost use Rattle.catalogue_lines.specs.Reading.{read_line, field_after, line_if, gone_after, gone_if, unread};

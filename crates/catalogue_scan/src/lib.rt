@@ -1,4 +1,7 @@
 // A catalogue's text scanned for a name.
+
+#![tactic(auto)]
+
 ghost use Rattle.std.specs.Prelude.{◌≡◌, ◌≤◌, length};
 ghost use Rattle.catalogue_scan.specs.Places.{place_at, place_next, right_line, larger_gone, read_head, scanned_from, scanned_of, scanned_in};
 

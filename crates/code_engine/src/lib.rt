@@ -1,1 +1,3 @@
 // What an engine of the code may rely on, in every edition: definitions and laws alone.
+
+#![tactic(auto)]

@@ -1,4 +1,7 @@
 // The services Lose and Find, by value: a place of an open job is lost, or found again.
+
+#![tactic(auto)]
+
 ghost use Rattle.std.specs.Prelude.{◌≡◌, true, ◌*◌, ◌<◌, ltb};
 ghost use Rattle.counting.specs.Count.{one};
 ghost use Rattle.desk_job.specs.Jobs.{is_sound_job};

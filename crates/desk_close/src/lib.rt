@@ -1,4 +1,7 @@
 // The services Read and Close, by value.
+
+#![tactic(auto)]
+
 ghost use Rattle.desk_record.specs.Calls.{ChangeGives};
 ghost use Rattle.desk_close.specs.Read.{read_of, ReadGives};
 ghost use Rattle.desk_close.specs.Close.{close_of};

@@ -1,4 +1,7 @@
 // A job of a desk, its figures worked from its marks, and whether it is sound.
+
+#![tactic(auto)]
+
 ghost use Rattle.std.specs.Prelude.{◌≡◌, true, ◌*◌, eqb, length, get_or, replicate};
 ghost use Rattle.counting.specs.Test.{all_below};
 ghost use Rattle.shape.specs.Shapes.{byte_limits};

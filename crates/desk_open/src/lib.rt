@@ -1,4 +1,7 @@
 // The service Open, by value.
+
+#![tactic(auto)]
+
 ghost use Rattle.std.specs.Prelude.{◌≡◌, ◌++◌, ◌-◌, ◌≤◌, length, replicate};
 ghost use Rattle.desk_open.specs.Open.{free_slot, open_number, open_of, OpenGives};
 

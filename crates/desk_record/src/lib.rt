@@ -1,4 +1,7 @@
 // The record of a desk of eight recovery jobs: Fresh, whether a desk is sound, and whether a handle is open.
+
+#![tactic(auto)]
+
 ghost use Rattle.std.specs.Prelude.{◌≡◌, cond, not, ◌&&◌, ◌<◌, eqb, get_or};
 ghost use Rattle.counting.specs.Test.{any_below};
 ghost use Rattle.desk_job.specs.Jobs.{is_taken};

@@ -1,5 +1,8 @@
 // A desk in use: handles that are open, closed or never issued, a full desk, the ends of its counts, losses that change while a job is open, and
 // records that are not sound.
+
+#![tactic(auto)]
+
 use desk_job::Job;
 use desk_record::Desk;
 use libc::STDOUT_FILENO;

@@ -1,4 +1,7 @@
 // The service Edit: one data byte of a codeword changed, with the checks that hang on it, and nothing else.
+
+#![tactic(auto)]
+
 mod rows;
 
 ghost use Rattle.std.specs.Prelude.{◌≡◌, ◌+◌, ◌-◌, ◌*◌, ◌≤◌, ◌<◌, T, length};

@@ -1,4 +1,7 @@
 // The service Encode.
+
+#![tactic(auto)]
+
 ghost use Rattle.std.specs.Prelude.{◌≡◌, length};
 ghost use Rattle.shape.specs.Shapes.{byte_limits};
 ghost use Rattle.answers.specs.Answers.{answer_number};

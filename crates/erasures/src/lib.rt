@@ -1,4 +1,7 @@
 // The lost places of a word: in each group the first c are bound for the group's own equations, the others are free.
+
+#![tactic(auto)]
+
 ghost use Rattle.std.specs.Prelude.{◌≡◌, true, false, ℕ, ◌/◌, ◌<◌, length, get_or};
 ghost use Rattle.code_engine.specs.Positions.{FoundLost};
 ghost use Rattle.code_engine.specs.Bound.{free, bound_of};

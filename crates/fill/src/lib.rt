@@ -1,4 +1,7 @@
 // Fills the lost places of one group from its local equations; if t places are lost, the first t equations are used.
+
+#![tactic(auto)]
+
 ghost use Rattle.std.specs.Prelude.{◌≡◌, ◌≤◌, ◌<◌, length};
 ghost use Rattle.byte_edition.specs.Edition.{byte_edition};
 ghost use Rattle.code_engine.specs.Positions.{Inside, FoundLost};

@@ -1,4 +1,7 @@
 // The service Finish, by value.
+
+#![tactic(auto)]
+
 ghost use Rattle.std.specs.Prelude.{◌≡◌, length};
 ghost use Rattle.answers.specs.Answers.{mending_at};
 ghost use Rattle.code.specs.Refusals.{unless_refused};

@@ -1,4 +1,7 @@
 // The record of a gather: a word that comes in stretches. Its refusals, and the service Begin.
+
+#![tactic(auto)]
+
 ghost use Rattle.std.specs.Prelude.{◌≡◌};
 ghost use Rattle.gather_record.specs.Record.{gather_refusal, begin_of, GatherGives};
 

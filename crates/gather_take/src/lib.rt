@@ -1,4 +1,7 @@
 // The service Take, by value.
+
+#![tactic(auto)]
+
 ghost use Rattle.std.specs.Prelude.{◌≡◌, length};
 ghost use Rattle.answers.specs.Answers.{answer_at};
 ghost use Rattle.gather_record.specs.Record.{GatherGives};

@@ -1,4 +1,7 @@
 // The field of bytes: doubling, the product by shifts, inverses, powers and the locators.
+
+#![tactic(auto)]
+
 pub mod locators;
 mod rows;
 

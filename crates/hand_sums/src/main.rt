@@ -1,5 +1,8 @@
 // The hand sums, by the code: products and an inverse, the locators, the figures of shapes, and words that are checked, judged, encoded,
 // recovered and repaired.
+
+#![tactic(auto)]
+
 use libc::STDOUT_FILENO;
 
 fn number(n: u64, end: &[u8]) {

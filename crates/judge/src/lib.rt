@@ -1,4 +1,7 @@
 // The service Judge.
+
+#![tactic(auto)]
+
 ghost use Rattle.std.specs.Prelude.{◌≡◌};
 ghost use Rattle.shape.specs.Shapes.{byte_limits};
 ghost use Rattle.answers.specs.Figures.{judged_number};

@@ -1,4 +1,7 @@
 // Marks of lost places: their refusal, the count of one group and the excess of a whole pattern.
+
+#![tactic(auto)]
+
 ghost use Rattle.std.specs.Prelude.{◌≡◌, not, ◌-◌, ◌*◌, ◌/◌, ◌≤◌, min, eqb, length};
 ghost use Rattle.shape.specs.Shapes.{byte_limits};
 ghost use Rattle.code.specs.Marks.{lost_in, excess};

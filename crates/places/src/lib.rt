@@ -1,4 +1,7 @@
 // Which places of a word carry data: taking the data out, putting it in, and marking the check places.
+
+#![tactic(auto)]
+
 ghost use Rattle.std.specs.Prelude.{◌≡◌, ◌++◌, ◌-◌, ◌≤◌, length, replicate};
 ghost use Rattle.shape.specs.Shapes.{byte_limits};
 ghost use Rattle.answers.specs.Answers.{answer_number};

@@ -1,4 +1,7 @@
 // The judge of the profile: up to c whole places j, the same in all groups, plus at most two lost places elsewhere.
+
+#![tactic(auto)]
+
 ghost use Rattle.std.specs.Prelude.{◌≡◌, [], ℕ, ◌+◌, ◌*◌, ◌≤◌, ◌<◌, length, get_or};
 ghost use Rattle.counting.specs.Sets.{sets_below, first_in};
 ghost use Rattle.profile.specs.Search.{lost_at, within, found_in, NoneSmaller, found_at};

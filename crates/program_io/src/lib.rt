@@ -1,5 +1,8 @@
 // Reading and writing for the programs, with waits and interruptions, and their first argument.
 // Left free here: what is read and what is written, since no contract can speak of files; each function is proved safe, and to end, given the contracts of the C library's functions.
+
+#![tactic(auto)]
+
 use libc::types::timespec;
 use libc::{STDIN_FILENO, STDOUT_FILENO};
 

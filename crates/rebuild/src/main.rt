@@ -1,4 +1,7 @@
 // The program: blocks from standard input, rebuilt, to standard output. `block_input` defines what is written; this file only reads and writes.
+
+#![tactic(auto)]
+
 ghost use Rattle.std.specs.Prelude.{◌≤◌, length};
 
 use block_input::Verdict;

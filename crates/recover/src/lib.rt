@@ -1,4 +1,7 @@
 // The service Recover.
+
+#![tactic(auto)]
+
 ghost use Rattle.std.specs.Prelude.{◌≡◌, true, false, ◌*◌, ◌≤◌, ◌<◌, length};
 ghost use Rattle.shape.specs.Shapes.{byte_limits};
 ghost use Rattle.answers.specs.Answers.{mending_number};

@@ -1,4 +1,7 @@
 // What the library says about itself: its version, the layout of its records, and its numbers in English.
+
+#![tactic(auto)]
+
 ghost use Rattle.std.specs.Prelude.{◌≡◌, ◌-◌, ◌≤◌, length, take, drop, get_or};
 ghost use Rattle.release.specs.Version.{library_version, desk_layout, gather_layout};
 ghost use Rattle.release.specs.Texts.{number_text, lent_text};

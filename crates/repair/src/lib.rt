@@ -1,4 +1,7 @@
 // The service Repair: one group, by its own equations.
+
+#![tactic(auto)]
+
 ghost use Rattle.std.specs.Prelude.{◌≡◌, ◌≤◌, ◌<◌, length};
 ghost use Rattle.byte_edition.specs.Edition.{byte_edition};
 ghost use Rattle.code.specs.Marks.{lost_in};

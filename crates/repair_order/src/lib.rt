@@ -1,4 +1,7 @@
 // Repairs of groups and then a recovery, which answers as it would at once.
+
+#![tactic(auto)]
+
 ghost use Rattle.std.specs.Prelude.{◌≡◌};
 ghost use Rattle.byte_edition.specs.Edition.{byte_edition};
 ghost use Rattle.code_services.specs.Answered.{AnswersBy};

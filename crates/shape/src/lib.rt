@@ -1,4 +1,7 @@
 // The shape of a word: how many groups, how wide each is, and how many local checks each has.
+
+#![tactic(auto)]
+
 ghost use Rattle.std.specs.Prelude.{◌≡◌};
 ghost use Rattle.code.specs.Refusals.{◌or_else◌};
 ghost use Rattle.code.specs.Limits.{place_count, data_count, sure_count, shape_refusal_in, retired_refusal, sale_refusal_in, word_refusal_in, buffer_refusal_in};

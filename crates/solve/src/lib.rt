@@ -1,6 +1,9 @@
 // Gauss-Jordan elimination over the field of bytes: up to four equations, with the right side in the fifth column; the columns after it are
 // there because a row of sixteen bytes is one step of the vector unit.
 // The rows come and go by value; between, they lie one after another in 64 lent bytes, so that each step changes them in place.
+
+#![tactic(auto)]
+
 ghost use Rattle.std.specs.Prelude.{◌≡◌, ◌≤◌, ◌<◌, min, length, set};
 ghost use Rattle.code_engine.specs.Elimination.{row, scaled, added, exchanged, normalized, cleared_row, cleared, pivot, eliminate_column, eliminated};
 ghost use Rattle.solve.specs.Flat.{rows_of};

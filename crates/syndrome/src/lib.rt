@@ -1,4 +1,7 @@
 // The sums of a word's equations (its syndromes), and whether they are all zero.
+
+#![tactic(auto)]
+
 ghost use Rattle.std.specs.Prelude.{◌≡◌, true, false, ℕ, ◌*◌, ◌≤◌, ◌<◌, length, get_or};
 ghost use Rattle.binary_field.specs.Xor.{◌⊕◌};
 ghost use Rattle.binary_field.specs.Product.{double};

@@ -1,4 +1,7 @@
 // Parts of a line between separators and decimals, read and put into a buffer.
+
+#![tactic(auto)]
+
 ghost use Rattle.std.specs.Prelude.{◌≡◌, ◌+◌, ◌≤◌, max, length, ◌∷◌};
 ghost use Rattle.text.specs.Decimal.{digits_after, number_of, digit_after};
 ghost use Rattle.text.specs.Fields.{same, end_of};

@@ -1,4 +1,7 @@
 // Lines printed and read.
+
+#![tactic(auto)]
+
 ghost use Rattle.std.specs.Prelude.{◌≡◌, [], map, ◌+◌, ◌*◌, ◌≤◌, ◌<◌, ◌%◌, ◌/◌, length, drop, true, cond, not, ◌||◌, eqb};
 ghost use Rattle.text.specs.Lines.{cells, line_of, ok_line, refused_line, contradictory_line, word_line};
 ghost use Rattle.text.specs.Written.{written};

@@ -1,4 +1,7 @@
 // One line and the shape in force into one output line and the next shape in force.
+
+#![tactic(auto)]
+
 ghost use Rattle.std.specs.Prelude.{◌≡◌, ◌≤◌, length};
 ghost use Rattle.code.specs.Limits.{place_count};
 ghost use Rattle.text.specs.Lines.{ok_line, word_line};

@@ -1,4 +1,7 @@
 // The session over text lines, as its input comes in parts.
+
+#![tactic(auto)]
+
 ghost use Rattle.std.specs.Prelude.{◌≡◌, ◌+◌, ◌*◌, ◌≤◌, min, length, take};
 ghost use Rattle.text.specs.Written.{written};
 ghost use Rattle.text_stream.specs.Points.{clear, after_bytes, adds, closing, kept_point};

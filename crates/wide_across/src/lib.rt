@@ -1,4 +1,7 @@
 // The sums of the two equations across of a sixteen-bit word, and whether all its equations are met.
+
+#![tactic(auto)]
+
 ghost use Rattle.std.specs.Prelude.{◌≡◌, false, ◌*◌, ◌+◌, ◌≤◌, ◌<◌, length, get_or, replicate};
 ghost use Rattle.binary_field.specs.Xor.{◌⊕◌};
 ghost use Rattle.binary_field.specs.Product.{product};

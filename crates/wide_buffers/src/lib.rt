@@ -1,4 +1,7 @@
 // Whole buffers of symbols copied and set.
+
+#![tactic(auto)]
+
 ghost use Rattle.std.specs.Prelude.{◌≡◌, length, replicate};
 
 // Copies one buffer over another of the same length; one of another length is left as it is.

@@ -1,4 +1,7 @@
 // The candidate for a word of the sixteen-bit edition with lost places: where the excess is at most two, what any codeword that agrees with the present symbols must be.
+
+#![tactic(auto)]
+
 ghost use Rattle.std.specs.Prelude.{◌≡◌, false, ℕ, ◌*◌, ◌/◌, ◌%◌, ◌≤◌, ◌<◌, length, replicate};
 ghost use Rattle.code.specs.Marks.{lost, lost_in};
 ghost use Rattle.code.specs.Limits.{GoodIn};

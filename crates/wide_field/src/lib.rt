@@ -1,4 +1,7 @@
 // The field of 65,536 elements: doubling, the product by integer products and by shifts, and the 256 locators.
+
+#![tactic(auto)]
+
 ghost use Rattle.std.specs.Prelude.{◌≡◌, ◌%◌, ◌<◌, ◌≤◌, length, get_or};
 ghost use Rattle.binary_field.specs.Xor.{◌⊕◌};
 ghost use Rattle.binary_field.specs.Product.{double, product};

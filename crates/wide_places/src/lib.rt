@@ -1,4 +1,7 @@
 // Which places of a word of the sixteen-bit edition carry data: taking the data out, putting it in, and marking the check places.
+
+#![tactic(auto)]
+
 ghost use Rattle.std.specs.Prelude.{◌≡◌, ◌++◌, ◌-◌, ◌≤◌, length, replicate};
 ghost use Rattle.code.specs.Limits.{place_count, data_count, GoodIn, buffer_refusal_in};
 ghost use Rattle.wide_shape.specs.Edition.{wide_limits};

@@ -1,4 +1,7 @@
 // The service Recover of the sixteen-bit edition.
+
+#![tactic(auto)]
+
 ghost use Rattle.std.specs.Prelude.{◌≡◌, true, false, ◌*◌, ◌≤◌, ◌<◌, length};
 ghost use Rattle.code.specs.Limits.{GoodIn};
 ghost use Rattle.wide_shape.specs.Edition.{wide_limits, wide_edition};

@@ -1,4 +1,7 @@
 // The services Repair, Check and Encode of the sixteen-bit edition, and a list of repairs before a recovery.
+
+#![tactic(auto)]
+
 ghost use Rattle.std.specs.Prelude.{◌≡◌, ◌≤◌, ◌<◌, length};
 ghost use Rattle.wide_shape.specs.Edition.{wide_edition, wide_limits};
 ghost use Rattle.answers.specs.Answers.{answer_number};

@@ -1,4 +1,7 @@
 // The sixteen-bit edition: the shape of a word and its refusals, Describe, and Judge.
+
+#![tactic(auto)]
+
 ghost use Rattle.std.specs.Prelude.{◌≡◌};
 ghost use Rattle.code.specs.Limits.{place_count, data_count, sure_count, shape_refusal_in, sale_refusal_in, word_refusal_in, buffer_refusal_in};
 ghost use Rattle.wide_shape.specs.Edition.{wide_limits};

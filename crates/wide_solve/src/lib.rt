@@ -1,4 +1,7 @@
 // The lost symbols of a group from its power sums, and one group filled.
+
+#![tactic(auto)]
+
 ghost use Rattle.std.specs.Prelude.{◌≡◌, ◌≤◌, ◌<◌, ℕ, get_or, replicate, length};
 ghost use Rattle.binary_field.specs.Product.{product};
 ghost use Rattle.binary_field.specs.Power.{power};

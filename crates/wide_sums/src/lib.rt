@@ -1,4 +1,7 @@
 // The power sums of a group's stretch, and whether its local equations are met.
+
+#![tactic(auto)]
+
 ghost use Rattle.std.specs.Prelude.{◌≡◌, false, ◌≤◌, ◌<◌, eqb, length, get_or, replicate};
 ghost use Rattle.counting.specs.Test.{all_below};
 ghost use Rattle.code_engine.specs.Padded.{Padded};

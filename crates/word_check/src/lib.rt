@@ -1,4 +1,7 @@
 // The service Check.
+
+#![tactic(auto)]
+
 ghost use Rattle.std.specs.Prelude.{◌≡◌, length};
 ghost use Rattle.shape.specs.Shapes.{byte_limits};
 ghost use Rattle.code.specs.Limits.{word_refusal_in};
