@@ -7,7 +7,7 @@ use Rattle.algebra.specs.Unique.{Layout, Meets}
 
 module _ {F : Field} {T : Tower F} {P : Type 0} (L : Layout F T P) where
   open F use {K, mul as ◌⊗◌, 𝟘, 𝟙, dec}
-  open L use {m, c, places, Group-of, locator, distinct, own}
+  open L use {m, c, places, group_of, locator, distinct, own}
 
   infixl 70 ◌⊗◌
   -- A nonzero word on the lost places that meets the local equations and the two across. Added to a word that meets them it gives

@@ -25,7 +25,7 @@ use Rattle.algebra.specs.Beyond.{Hidden}
 
 module _ {F : Field} {T : Tower F} {P : Type 0} (L : Layout F T P) where
   open F use {K, mul as ◌⊗◌, 𝟘, 𝟙, dec}
-  open L use {m, c, places, Group-of, locator, distinct, own}
+  open L use {m, c, places, group_of, locator, distinct, own}
 
   infixl 70 ◌⊗◌
   module _ (same : Discrete P) (lost : P → Bool) where
@@ -38,7 +38,7 @@ module _ {F : Field} {T : Tower F} {P : Type 0} (L : Layout F T P) where
 
     -- The local equation e of the group i, over the whole word.
     check : ℕ → ℕ → P → K
-    check i e p = choose (ℕ_discrete (Group-of p) i) (pow F (locator p) e) 𝟘
+    check i e p = choose (ℕ_discrete (group_of p) i) (pow F (locator p) e) 𝟘
 
     -- The equations for the group i of excess n: as many as it has places, less n.
     abbrev equations-at : ℕ → ℕ → List (P → K)
@@ -60,7 +60,7 @@ module _ {F : Field} {T : Tower F} {P : Type 0} (L : Layout F T P) where
 
     word-distinct : Distinct (λ p. p) word
     word-distinct =
-        distinct-flat places Group-of (below m) (below-distinct m)
+        distinct-flat places group_of (below m) (below-distinct m)
         (λ i h. (distinct-members locator (places i) (distinct i (below_less m i h)), own i (below_less m i h)))
 
     module _ (x : P → K) (meets : All (flat_map equations (below m)) (λ h. dot F word x h ≡ 𝟘)) (i : ℕ) (l : i < m) where

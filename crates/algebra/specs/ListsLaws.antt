@@ -114,6 +114,7 @@ module _ {A : Type 0} (s t : A → Bool) (more : (a : A) → s a ≡ true → t 
       go false false d e h = h
 
   pub filter-less : {a : A} (l : List A) → a ∈ l → s a ≡ false → t a ≡ true → length (filter s l) < length (filter t l)
+  filter-less {a = a} [] x3 d e = elim x3 [ ]
   filter-less {a} (b ∷ l) (here q) d e = rw (ap s (sym q) ∙ d, ap t (sym q) ∙ e) (let h = filter-le l in omega arith)
   filter-less {a} (b ∷ l) (there m) d e = go (s b) (t b) refl refl (filter-less l m d e)
     where
@@ -128,6 +129,7 @@ module _ {I P : Type 0} (f : I → List P) where
   -- The members of the lists of the members of l.
   pub in-flat : {i : I} {p : P} (l : List I) → i ∈ l → p ∈ f i → p ∈ flat_map f l
   unfolding flat_map
+  in-flat {i = i} {p = p} [] x'' k = elim x'' [ ]
   in-flat {i} {p} (j ∷ l) (here e) k = Memᴰ.append_left (flat_map f l) (rw e at k)
   in-flat (j ∷ l) (there h) k = Memᴰ.append_right (f j) (in-flat l h k)
 

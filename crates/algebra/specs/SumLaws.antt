@@ -43,6 +43,7 @@ module _ (F : Field) {A : Type 0} where
 
   -- Only one summand is not zero.
   pub sum-single : (ps : List A) → Distinct (λ p. p) ps → (f : A → K) {p : A} → p ∈ ps → All ps (λ q. ¬ (q ≡ p) → f q ≡ 𝟘) → sum F ps f ≡ f p
+  sum-single [] d f {p = p} x3 z = elim x3 [ ]
   sum-single (q ∷ ps) d f (here e) z =
       sum-cons q ps f ∙ ap₂ ◌⊕◌ (ap f (sym e)) (sum-zero ps f (λ r m. z r (there m) (λ k. d.0 r m (k ∙ e)))) ∙ add-zero F _
   sum-single (q ∷ ps) d f {p} (there m) z =

@@ -16,7 +16,7 @@ use Rattle.algebra.specs.Unique.{Layout, AllPlaces, word-dot, Meets, coeff₁, c
 module _ {F : Field} {T : Tower F} {P : Type 0} (L : Layout F T P) where
   open F use {K, add as ◌⊕◌, mul as ◌⊗◌, 𝟘}
   open T use {g}
-  open L use {m, c, places, Group-of, locator, few, distinct, small, own}
+  open L use {m, c, places, group_of, locator, few, distinct, small, own}
 
   infixl 65 ◌⊕◌
   infixl 70 ◌⊗◌

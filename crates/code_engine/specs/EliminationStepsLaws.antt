@@ -1,7 +1,7 @@
 -- Laws: What elimination keeps: that entries are small, where a linear function of the rows is 0, and the columns that are done.
 use Rattle.std.specs.Prelude.{◌≡◌, List, ◌↔◌, ℕ, suc, ◌^◌, ◌≤◌, ◌<◌, T, length, get_or}
 use Rattle.std.proofs.Common.{sym, ap, ◌∙◌, mod-eq_of_lt, arith, eq-eqb, ne_eqb}
-use Rattle.std.proofs.Math.Logic.{Iff·trans, Iff·rfl}
+use mathlib.Core.Logic.Iff
 use Rattle.std.proofs.Math.Decide.{ℕ_discrete}
 use Rattle.binary_field.specs.Xor.{◌⊕◌}
 use Rattle.binary_field.specs.XorLaws.{⊕-zero-r, ⊕-lt, ⊕-self}
@@ -162,8 +162,8 @@ module _ (k m : ℕ) (pos : 0 < k) (ts : List ℕ) (ok : T (is_field k m ts)) (M
     found-zero : (L : List ℕ → ℕ) → Linear k m L
         → Every (λ xs. L xs ≡ 0) M t ↔ Every (λ xs. L xs ≡ 0) (cleared k m (normalized k m (exchanged M j p) j) j t) t
     found-zero L l =
-        Iff·trans (exchanged-iff M t j p S.long hj hp (λ xs. L xs ≡ 0))
-        (Iff·trans (normalized-zero k m pos ts ok (exchanged M j p) t j exchanged-system hj nonzero L l)
+        Iff.trans (exchanged-iff M t j p S.long hj hp (λ xs. L xs ≡ 0))
+        (Iff.trans (normalized-zero k m pos ts ok (exchanged M j p) t j exchanged-system hj nonzero L l)
         (cleared-zero k m pos ts ok (normalized k m (exchanged M j p) j) t j unit-system hj L l))
 
     found-reduced : j ≤ p → Reduced M j t → Reduced (cleared k m (normalized k m (exchanged M j p) j) j t) (suc j) t
@@ -183,7 +183,7 @@ module _ (k m : ℕ) (pos : 0 < k) (ts : List ℕ) (ok : T (is_field k m ts)) (M
   pub column-zero : (L : List ℕ → ℕ) → Linear k m L → Every (λ xs. L xs ≡ 0) M t ↔ Every (λ xs. L xs ≡ 0) (eliminate_column k m M j t) t
   column-zero L l =
       column-cases M j k m t (λ A. Every (λ xs. L xs ≡ 0) M t ↔ Every (λ xs. L xs ≡ 0) A t) (omega arith)
-      (λ p _ hp ne. found-zero p hp ne L l) (λ _. Iff·rfl)
+      (λ p _ hp ne. found-zero p hp ne L l) (λ _. Iff.rfl)
 
   pub column-reduced : (((e : ℕ) → j ≤ e → e < t → entry M e j ≡ 0) → ⊥) → Reduced M j t → Reduced (eliminate_column k m M j t) (suc j) t
   column-reduced some r =

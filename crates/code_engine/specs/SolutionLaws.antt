@@ -2,7 +2,7 @@
 -- coefficients have a trivial kernel, column r of what is left is the only solution.
 use Rattle.std.specs.Prelude.{◌≡◌, List, ◌↔◌, T, get_or}
 use Rattle.std.proofs.Common.{sym, ap, ◌∙◌, arith}
-use Rattle.std.proofs.Math.Logic.{Iff·trans, Iff·rfl, Iff·symm}
+use mathlib.Core.Logic.Iff
 use Prim.Native.Nat.{ℕ, zero, suc, ◌^◌, ◌≤◌, ◌<◌}
 use Rattle.binary_field.specs.Xor.{◌⊕◌}
 use Rattle.binary_field.specs.XorLaws.{⊕-self, ⊕-cancel}
@@ -27,9 +27,9 @@ module _ (k m : ℕ) (pos : 0 < k) (ts : List ℕ) (ok : T (is_field k m ts)) (M
 
   to-zero : (L : List ℕ → ℕ) → Linear k m L → (n : ℕ) → n ≤ t → Every (λ xs. L xs ≡ 0) M t ↔ Every (λ xs. L xs ≡ 0) (eliminated_to k m M t n) t
   unfolding eliminated_to
-  to-zero L l zero h = Iff·rfl
+  to-zero L l zero h = Iff.rfl
   to-zero L l (suc n) h =
-      Iff·trans (to-zero L l n (omega arith)) (column-zero k m pos ts ok (eliminated_to k m M t n) t n (to-system n (omega arith)) (omega arith) L l)
+      Iff.trans (to-zero L l n (omega arith)) (column-zero k m pos ts ok (eliminated_to k m M t n) t n (to-system n (omega arith)) (omega arith) L l)
 
   to-reduced : TrivialKernel k m M t → (n : ℕ) → n ≤ t → Reduced (eliminated_to k m M t n) n t
   unfolding eliminated_to
@@ -52,8 +52,8 @@ module _ (k m : ℕ) (pos : 0 < k) (ts : List ℕ) (ok : T (is_field k m ts)) (M
   pub same-solutions : (r : ℕ) (x : ℕ → ℕ) → Solves k m M t r x ↔ Solves k m (eliminated k m M t) t r x
   unfolding eliminated
   same-solutions r x =
-      Iff·trans (solves-zero M r x)
-      (Iff·trans (to-zero _ (linear-sum k m _ _ (linear-dot k m t x) (linear-at k m r)) t (omega arith)) (Iff·symm (solves-zero (eliminated k m M t) r x)))
+      Iff.trans (solves-zero M r x)
+      (Iff.trans (to-zero _ (linear-sum k m _ _ (linear-dot k m t x) (linear-at k m r)) t (omega arith)) (Iff.symm (solves-zero (eliminated k m M t) r x)))
 
   module _ (trivial : TrivialKernel k m M t) where
     pub reduced : Reduced (eliminated k m M t) t t
