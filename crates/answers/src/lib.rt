@@ -7,14 +7,14 @@ ghost use Rattle.code.specs.Refusals.{◌or_else◌};
 ghost use Rattle.code.specs.Limits.{retired_refusal};
 
 // The answer of a service that has no figures: done, or the number of a refusal.
-#[derive(Drop)]
+#[derive(Clone, Copy)]
 pub enum Answer {
     Done,
     Refused(u8),
 }
 
 // The answer of a service that mends: done, contradictory with the number of a group, or the number of another refusal.
-#[derive(Drop)]
+#[derive(Clone, Copy)]
 pub enum Mending {
     Done,
     Contradictory(u8),
@@ -22,21 +22,21 @@ pub enum Mending {
 }
 
 // The figures of a good shape, or the number of a refusal.
-#[derive(Drop)]
+#[derive(Clone, Copy)]
 pub enum Described {
     Figures { n: usize, k: usize, sure: usize },
     Refused(u8),
 }
 
 // The present places determine the codeword, or the number of a refusal.
-#[derive(Drop)]
+#[derive(Clone, Copy)]
 pub enum Judged {
     Determined,
     Refused(u8),
 }
 
 // Whether the word is a codeword; if not, the group that contradicts; or the number of a refusal.
-#[derive(Drop)]
+#[derive(Clone, Copy)]
 pub enum Checked {
     Codeword,
     Other(u8),
@@ -45,7 +45,7 @@ pub enum Checked {
 
 // What the test of a word's equations finds: whether it is a codeword, and the lowest group whose local sums are not all zero, or m if there
 // is none.
-#[derive(Drop)]
+#[derive(Clone, Copy)]
 pub struct Tested {
     pub codeword: bool,
     pub group: usize,

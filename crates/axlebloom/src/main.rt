@@ -12,7 +12,7 @@ fn put(bytes: &[u8]) -> bool {
 }
 
 // The state of the session, and whether the run goes on.
-#[derive(Drop)]
+#[derive(Clone, Copy)]
 struct Run {
     state: State,
     on: bool,

@@ -15,7 +15,7 @@ use block_rebuild::Rebuilt;
 use text_lines::Line;
 
 // The shape of a shape line, and its refusal, 0 for none.
-#[derive(Drop)]
+#[derive(Clone, Copy)]
 pub struct ShapeLine {
     pub refusal: u8,
     pub m: usize,
@@ -24,7 +24,7 @@ pub struct ShapeLine {
 }
 
 // The marks of a marks line, and its refusal.
-#[derive(Drop)]
+#[derive(Clone, Copy)]
 pub struct MarksLine {
     pub refusal: u8,
     pub count: usize,
@@ -32,7 +32,7 @@ pub struct MarksLine {
 }
 
 // What the length line and what follows it give: the refusal, L, and where the blocks start.
-#[derive(Drop)]
+#[derive(Clone, Copy)]
 pub struct LengthPart {
     pub refusal: u8,
     pub size: usize,
@@ -40,7 +40,7 @@ pub struct LengthPart {
 }
 
 // The same from the marks line on, with the marks.
-#[derive(Drop)]
+#[derive(Clone, Copy)]
 pub struct MarksPart {
     pub refusal: u8,
     pub count: usize,
@@ -50,7 +50,7 @@ pub struct MarksPart {
 }
 
 // The three lines of an input, and where the blocks start.
-#[derive(Drop)]
+#[derive(Clone, Copy)]
 pub struct Head {
     pub refusal: u8,
     pub m: usize,
@@ -63,7 +63,7 @@ pub struct Head {
 }
 
 // What becomes of an input: its blocks are mended and stand from a place on, or the refusal.
-#[derive(Drop)]
+#[derive(Clone, Copy)]
 pub enum Verdict {
     Mended(usize),
     Contradictory { word: usize, group: u8 },

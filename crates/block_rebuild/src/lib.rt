@@ -15,7 +15,7 @@ ghost use Rattle.block_rebuild.specs.Steps.{Room};
 use answers::{Judged, Mending};
 
 // The answer of a rebuild: done, contradictory with the lowest word that contradicts and its group, or the number of another refusal.
-#[derive(Drop)]
+#[derive(Clone, Copy)]
 pub enum Rebuilt {
     Done,
     Contradictory { word: usize, group: u8 },

@@ -12,7 +12,7 @@ use answers::{Answer, Checked, Described, Judged, Mending};
 
 // What Check, Repair, Recover, Serve, Edit and a gather's Finish give to C: the number, 0 for done, and the group that a 9 carries; 0 with any other number.
 #[repr(C)]
-#[derive(Drop)]
+#[derive(Clone, Copy)]
 pub struct Mended {
     pub number: u8,
     pub group: u8,

@@ -11,7 +11,7 @@ use block_rebuild::Rebuilt;
 
 // What a rebuild gives to C: the number, 0 for done, and the word and the group that a 9 carries; 0 with any other number.
 #[repr(C)]
-#[derive(Drop)]
+#[derive(Clone, Copy)]
 pub struct RebuildAnswer {
     pub word: usize,
     pub number: u8,

@@ -13,7 +13,7 @@ use catalogue_compact::Compacted;
 
 // What Lookup gives to C: the number, 0 for done, and the shape and the revision; 0 on a refusal.
 #[repr(C)]
-#[derive(Drop)]
+#[derive(Clone, Copy)]
 pub struct LookupAnswer {
     pub number: u8,
     pub m: u8,
@@ -24,7 +24,7 @@ pub struct LookupAnswer {
 
 // What Put and Remove give to C: the number, 0 for done, the revision and the new text's length; 0 on a refusal.
 #[repr(C)]
-#[derive(Drop)]
+#[derive(Clone, Copy)]
 pub struct ChangeAnswer {
     pub number: u8,
     pub revision: u16,
@@ -33,7 +33,7 @@ pub struct ChangeAnswer {
 
 // What Compact gives to C: the number, 0 for done, and the text's length; 0 on a refusal.
 #[repr(C)]
-#[derive(Drop)]
+#[derive(Clone, Copy)]
 pub struct CompactAnswer {
     pub number: u8,
     pub size: usize,

@@ -135,7 +135,7 @@ pub extern "C" fn axlebloom_recover(
 
 // What the judge of the profile gives to C: the number, 0 for yes, and the set of place numbers that shows it; on a refusal all else is 0.
 #[repr(C)]
-#[derive(Drop)]
+#[derive(Clone, Copy)]
 pub struct ProfileAnswer {
     pub number: u8,
     pub count: u8,

@@ -87,7 +87,7 @@ fn add_multiple(u: u8, h: &[u8], part: &mut [u8])
 }
 
 // The unknowns of two free places.
-#[derive(Drop)]
+#[derive(Clone, Copy)]
 struct Unknowns {
     first: u8,
     second: u8,

@@ -11,14 +11,14 @@ ghost use Rattle.catalogue_calls.specs.Calls.{put_refusal, put_figures, put_buff
 use catalogue_scan::{Found, Scanned};
 
 // Revision and shape, or the number of a refusal.
-#[derive(Drop)]
+#[derive(Clone, Copy)]
 pub enum Looked {
     Found { revision: u16, m: u8, w: u8, c: u8 },
     Refused(u8),
 }
 
 // The new text's length and the name's revision, or the number of a refusal.
-#[derive(Drop)]
+#[derive(Clone, Copy)]
 pub enum Changed {
     Done { size: usize, revision: u16 },
     Refused(u8),

@@ -13,7 +13,7 @@ ghost use Rattle.catalogue_compact.specs.Compaction.{compact_refusal, compact_fi
 use catalogue_scan::{Found, Scanned};
 
 // The text's length, or the number of a refusal.
-#[derive(Drop)]
+#[derive(Clone, Copy)]
 pub enum Compacted {
     Done(usize),
     Refused(u8),

@@ -14,7 +14,7 @@ ghost use Rattle.catalogue_lines.specs.Splice.{SpliceFits, spliced_in, HoldsRow}
 use shape::{Made, Shape};
 
 // A line as it is read: the length of its name, 0 for a line that can't be read; its revision and its shape, zeros if the name is gone.
-#[derive(Drop)]
+#[derive(Clone, Copy)]
 pub struct Line {
     pub size: usize,
     pub revision: u16,
@@ -24,7 +24,7 @@ pub struct Line {
 }
 
 // A number, and the end of its field.
-#[derive(Drop)]
+#[derive(Clone, Copy)]
 struct Field {
     value: usize,
     end: usize,
@@ -186,7 +186,7 @@ pub fn read_line(line: &[u8]) -> Line
 }
 
 // A line with its line feed, at the start of a row of bytes with zeros after it.
-#[derive(Drop)]
+#[derive(Clone, Copy)]
 pub struct Row {
     pub bytes: [u8; 48],
     pub length: usize,

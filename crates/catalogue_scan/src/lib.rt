@@ -9,7 +9,7 @@ use catalogue_lines::Line;
 
 // Where the line of a name stands, from its first byte to past its line feed, with its revision and its shape, zeros for one that is gone; for a
 // name that isn't there the place where its line would stand, and zeros.
-#[derive(Drop)]
+#[derive(Clone, Copy)]
 pub struct Place {
     pub from: usize,
     pub to: usize,
@@ -20,7 +20,7 @@ pub struct Place {
 }
 
 // A first line: its length with its line feed, 0 for another line; its version and its floor.
-#[derive(Drop)]
+#[derive(Clone, Copy)]
 pub struct Head {
     pub size: usize,
     pub version: u8,
@@ -28,7 +28,7 @@ pub struct Head {
 }
 
 // Where the lines start, the floor, the largest revision of names that are gone, 0 if there are none, and the place of a name.
-#[derive(Drop)]
+#[derive(Clone, Copy)]
 pub struct Found {
     pub first: usize,
     pub floor: u16,
@@ -37,7 +37,7 @@ pub struct Found {
 }
 
 // What is found in a text of the form, or another text.
-#[derive(Drop)]
+#[derive(Clone, Copy)]
 pub enum Scanned {
     At(Found),
     Bad,

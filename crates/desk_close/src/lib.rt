@@ -10,7 +10,7 @@ use answers::Answer;
 use desk_record::{After, Desk};
 
 // The served count of a job, or the number of a refusal.
-#[derive(Drop)]
+#[derive(Clone, Copy)]
 pub enum Counted {
     Served(u32),
     Refused(u8),

@@ -16,7 +16,7 @@ use shape::Shape;
 // A slot of the desk: a shape, the marks of a loss pattern, how many words were served, and the handle. Taken is 1, or 0 for a free slot.
 // The figures of the marks stand beside them: each group's lost count, and the excess.
 #[repr(C)]
-#[derive(Drop)]
+#[derive(Clone, Copy)]
 pub struct Job {
     pub taken: u8,
     pub m: u8,
@@ -35,7 +35,7 @@ impl Job {
 }
 
 // The figures of a loss pattern: each group's lost count, 0 past the last group, and the excess.
-#[derive(Drop)]
+#[derive(Clone, Copy)]
 pub struct Figures {
     pub lost: [u8; Shape::MAX_GROUPS],
     pub excess: usize,

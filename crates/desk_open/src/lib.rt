@@ -10,14 +10,14 @@ use desk_record::Desk;
 use shape::Shape;
 
 // The handle of an opened job, or the number of a refusal.
-#[derive(Drop)]
+#[derive(Clone, Copy)]
 pub enum Opened {
     Handle(u64),
     Refused(u8),
 }
 
 // What Open answers, and the desk then.
-#[derive(Drop)]
+#[derive(Clone, Copy)]
 pub struct AfterOpen {
     pub desk: Desk,
     pub answer: Opened,

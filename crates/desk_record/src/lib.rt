@@ -13,7 +13,7 @@ use desk_job::Job;
 
 // Eight jobs in a fixed row, and the count t of handles issued.
 #[repr(C)]
-#[derive(Drop)]
+#[derive(Clone, Copy)]
 pub struct Desk {
     pub t: u64,
     pub jobs: [Job; 8],
@@ -25,7 +25,7 @@ impl Desk {
 }
 
 // What Close, Lose and Find answer, and the desk then.
-#[derive(Drop)]
+#[derive(Clone, Copy)]
 pub struct After {
     pub desk: Desk,
     pub answer: Answer,

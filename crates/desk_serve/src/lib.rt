@@ -13,7 +13,7 @@ use desk_job::Job;
 use desk_record::Desk;
 
 // What Serve answers, and the desk then.
-#[derive(Drop)]
+#[derive(Clone, Copy)]
 pub struct AfterServe {
     pub desk: Desk,
     pub answer: Mending,

@@ -11,7 +11,7 @@ ghost use Rattle.erasures.specs.FirstTwo.{first_two};
 ghost use Rattle.erasures.specs.FirstTwoLaws.{free_places};
 
 // The number of free places that were found, two at most, and where they are; a place that was not found is 0.
-#[derive(Drop)]
+#[derive(Clone, Copy)]
 pub struct Free {
     pub count: usize,
     pub first: usize,
@@ -182,7 +182,7 @@ pub fn find(marks: &[u8]) -> Erasures
 }
 
 // The positions of the first four lost places, in order, and how many places are lost.
-#[derive(Drop)]
+#[derive(Clone, Copy)]
 pub struct Erasures {
     pub at: [usize; 4],
     pub count: usize,

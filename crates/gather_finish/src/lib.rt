@@ -11,7 +11,7 @@ use answers::Mending;
 use gather_record::Gather;
 
 // What Finish answers, and the record then.
-#[derive(Drop)]
+#[derive(Clone, Copy)]
 pub struct AfterFinish {
     pub gather: Gather,
     pub answer: Mending,

@@ -10,7 +10,7 @@ use shape::Shape;
 
 // A shape, whether it is finished, 1 or 0, the bytes that came, and for each place 0 if it came and 1 if it did not.
 #[repr(C)]
-#[derive(Drop)]
+#[derive(Clone, Copy)]
 pub struct Gather {
     pub m: u8,
     pub w: u8,
@@ -21,7 +21,7 @@ pub struct Gather {
 }
 
 // What Begin and Take answer, and the record then.
-#[derive(Drop)]
+#[derive(Clone, Copy)]
 pub struct After {
     pub gather: Gather,
     pub answer: Answer,

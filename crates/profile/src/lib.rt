@@ -8,7 +8,7 @@ ghost use Rattle.profile.specs.Search.{lost_at, within, found_in, NoneSmaller, f
 ghost use Rattle.profile.specs.Profiled.{place_set_of, profiled_of, profiled_number, profiled_number_of, profiled_places, places_shown};
 
 // A set of at most four place numbers, ascending: how many, and each, 0 past the last.
-#[derive(Drop)]
+#[derive(Clone, Copy)]
 pub struct PlaceSet {
     pub count: u8,
     pub first: u8,
@@ -18,14 +18,14 @@ pub struct PlaceSet {
 }
 
 // Yes with the set, or the number of a refusal.
-#[derive(Drop)]
+#[derive(Clone, Copy)]
 pub enum Profiled {
     Places(PlaceSet),
     Refused(u8),
 }
 
 // What a search finds.
-#[derive(Drop)]
+#[derive(Clone, Copy)]
 enum Found {
     Set(PlaceSet),
     Nothing,

@@ -67,7 +67,7 @@ pub fn write_out(bytes: &[u8], failed: &[u8]) -> bool {
 }
 
 // What a program is asked for by the first word after its name, or that there is none.
-#[derive(Drop)]
+#[derive(Clone, Copy)]
 pub enum Request {
     Run,
     Help,

@@ -87,7 +87,7 @@ fn finish(input: &mut [u8]) {
 }
 
 // How many bytes of the input have come, whether more may come, and whether they are the whole input.
-#[derive(Drop)]
+#[derive(Clone, Copy)]
 struct Run {
     used: usize,
     more: bool,

@@ -11,7 +11,7 @@ ghost use Rattle.shape.specs.Shapes.{made_of, byte_limits};
 use answers::Described;
 
 // m groups of w places, with c local checks in each.
-#[derive(Drop)]
+#[derive(Clone, Copy)]
 pub struct Shape {
     pub m: u8,
     pub w: u8,
@@ -19,7 +19,7 @@ pub struct Shape {
 }
 
 // A good shape, or the number of a refusal.
-#[derive(Drop)]
+#[derive(Clone, Copy)]
 pub enum Made {
     Good(Shape),
     Refused(u8),

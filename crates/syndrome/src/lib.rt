@@ -16,7 +16,7 @@ ghost use Rattle.code_engine.specs.Tests.{not_tested, broken_group_in, tested_in
 use answers::Tested;
 
 // What the two equations across sum up to.
-#[derive(Drop)]
+#[derive(Clone, Copy)]
 pub struct Sums {
     pub first: u8,
     pub second: u8,
@@ -119,7 +119,7 @@ pub fn group_sums(part: &[u8], c: usize, g: usize) -> Sums
 }
 
 // Two rows of sixteen places: a sum of groups, and the same with a power of two before each.
-#[derive(Drop)]
+#[derive(Clone, Copy)]
 struct Rows {
     plain: [u8; 16],
     weighted: [u8; 16],

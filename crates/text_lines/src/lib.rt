@@ -14,7 +14,7 @@ ghost use Rattle.text_lines.specs.Held.{HoldsRecord};
 ghost use Rattle.text_lines.specs.Numbers.{is_numbers, HoldsNumbers};
 
 // An output line with its line feed, at the start of a row of bytes with zeros after it.
-#[derive(Drop)]
+#[derive(Clone, Copy)]
 pub struct Line {
     pub bytes: [u8; 1024],
     pub length: usize,
@@ -120,7 +120,7 @@ pub fn word(word: &[u8]) -> Line
     line_of(b"word", word)
 }
 
-#[derive(Drop)]
+#[derive(Clone, Copy)]
 pub struct Record {
     // 1 shape, 2 data, 3 word; 0 for a line that can't be read
     pub kind: u8,
@@ -131,7 +131,7 @@ pub struct Record {
 }
 
 // The numbers of a line of one name, or not read.
-#[derive(Drop)]
+#[derive(Clone, Copy)]
 pub struct Numbers {
     pub read: bool,
     // how many

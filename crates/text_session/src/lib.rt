@@ -12,7 +12,7 @@ use answers::{Answer, Described, Mending};
 use text_lines::Line;
 
 // An output line with its line feed, at the start of a row of bytes with zeros after it, and the shape then in force; m is 0 for no shape yet.
-#[derive(Drop)]
+#[derive(Clone, Copy)]
 pub struct Reply {
     pub bytes: [u8; 1024],
     pub length: usize,

@@ -10,7 +10,7 @@ ghost use Rattle.text_stream.specs.Places.{point_at, turn_on, ended_by, Taken, P
 
 // The line so far, of which 1,025 bytes are kept, and the shape in force; m is 0 for no shape yet. What stands past the length has no meaning.
 // A length above 1,025 means the same as 1,025; start and take give none.
-#[derive(Drop)]
+#[derive(Clone, Copy)]
 pub struct State {
     pub line: [u8; 1025],
     pub length: usize,
@@ -20,14 +20,14 @@ pub struct State {
 }
 
 // The state after some bytes, and how many bytes at the start of the output buffer they add to the output.
-#[derive(Drop)]
+#[derive(Clone, Copy)]
 pub struct Step {
     pub state: State,
     pub length: usize,
 }
 
 // How long the line is, how much of the output buffer is used, and the shape in force.
-#[derive(Drop)]
+#[derive(Clone, Copy)]
 struct Place {
     length: usize,
     used: usize,

@@ -20,7 +20,7 @@ use answers::Tested;
 use wide_shape::Shape;
 
 // What the two equations across sum up to.
-#[derive(Drop)]
+#[derive(Clone, Copy)]
 pub struct Sums {
     pub first: u16,
     pub second: u16,

@@ -82,7 +82,7 @@ fn add_multiple(u: u16, h: &[u16], part: &mut [u16])
 }
 
 // The unknowns of two free places.
-#[derive(Drop)]
+#[derive(Clone, Copy)]
 struct Unknowns {
     first: u16,
     second: u16,

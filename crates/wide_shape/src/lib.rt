@@ -14,7 +14,7 @@ ghost use Rattle.code_services.specs.Judge.{judged_in, judged_number_in};
 use answers::{Described, Judged};
 
 // m groups of w places, with c local checks in each. A width of 256 needs more than a byte.
-#[derive(Drop)]
+#[derive(Clone, Copy)]
 pub struct Shape {
     pub m: u16,
     pub w: u16,
@@ -22,7 +22,7 @@ pub struct Shape {
 }
 
 // A good shape, or the number of a refusal.
-#[derive(Drop)]
+#[derive(Clone, Copy)]
 pub enum Made {
     Good(Shape),
     Refused(u8),

@@ -1,0 +1,29 @@
+use Rattle.std.proofs.Common.{◌≡◌, sym, ap, ◌∙◌, ℕ, suc, ◌+◌, ◌-◌, ◌%◌, arith, ⊎_elim}
+use Rattle.binary_field.specs.Xor.{◌⊕◌}
+use Rattle.binary_field.specs.XorLaws.{⊕-zero-l, ⊕-zero-r, ⊕-bits}
+use Rattle.binary_field.specs.Product.{bit_sum, product}
+use Rattle.binary_field.specs.ProductLaws.{product-of, bits-set, bits-clear, bits_none}
+use Rattle.gf256.proofs.shifted_product.Goals as goal
+
+pub loop-i-init : goal.loop-i-init
+loop-i-init c = (omega arith, ⊕-zero-l _ ∙ sym (product-of 8 285 c.args.a c.args.b (omega arith) (omega arith)))
+
+pub loop-i-preserved : goal.loop-i-preserved
+loop-i-preserved c =
+    let l = c.loop-i in
+    let n : ℕ = 8 - (l.i + 1) in
+    let e : 8 - l.i ≡ suc n = omega arith in
+    let t : l.r ⊕ bit_sum 8 285 (suc n) l.x l.y ≡ product 8 285 c.args.a
+    c.args.b = rw (← e) l.invariant.1 in (
+      omega arith,
+      ⊎_elim
+          (λ w. cc (⊕-bits l.r l.x, bits-set 8 285 n l.r l.x l.y w.0.taken))
+          (λ w. let z : l.y % 2 ≡ 0 = omega (arith, w.0.left) in cc (bits-clear 8 285 n l.r l.x l.y z))
+          c.if-y-eq1.branch,
+    )
+
+pub returns : goal.returns
+returns c =
+    let l = c.loop-i in
+    let e : 8 - l.i ≡ 0 = omega arith in
+    sym (ap (λ s. l.r ⊕ s) (ap (λ n. bit_sum 8 285 n l.x l.y) e ∙ bits_none 8 285 l.x l.y) ∙ ⊕-zero-r l.r) ∙ l.invariant.1
