@@ -1,9 +1,10 @@
-use Rattle.std.proofs.Common.{◌≡◌, sym, ap, ◌∙◌, ℕ, suc, ◌+◌, ◌-◌, ◌%◌, arith, ⊎_elim}
+use Rattle.std.proofs.Common.{◌≡◌, sym, ap, ◌∙◌, ℕ, suc, ◌+◌, ◌-◌, ◌%◌, arith}
 use Rattle.binary_field.specs.Xor.{◌⊕◌}
 use Rattle.binary_field.specs.XorLaws.{⊕-zero-l, ⊕-zero-r, ⊕-bits}
 use Rattle.binary_field.specs.Product.{bit_sum, product}
 use Rattle.binary_field.specs.ProductLaws.{product-of, bits-set, bits-clear, bits_none}
 use Rattle.gf256.proofs.shifted_product.Goals as goal
+use Rattle.gf256.proofs.shifted_product.Goals.{then-y-eq1, else-y-eq1}
 
 pub loop-i-init : goal.loop-i-init
 loop-i-init c = (omega arith, ⊕-zero-l _ ∙ sym (product-of 8 285 c.args.a c.args.b (omega arith) (omega arith)))
@@ -16,10 +17,10 @@ loop-i-preserved c =
     let t : l.r ⊕ bit_sum 8 285 (suc n) l.x l.y ≡ product 8 285 c.args.a
     c.args.b = rw (← e) l.invariant.1 in (
       omega arith,
-      ⊎_elim
-          (λ w. cc (⊕-bits l.r l.x, bits-set 8 285 n l.r l.x l.y w.0.taken))
-          (λ w. let z : l.y % 2 ≡ 0 = omega (arith, w.0.left) in cc (bits-clear 8 285 n l.r l.x l.y z))
-          c.if-y-eq1.branch,
+      elim c.if-y-eq1.branch [
+        | then-y-eq1 w ↦ (cc (⊕-bits l.r l.x, bits-set 8 285 n l.r l.x l.y w.if-y-eq1.true))
+        | else-y-eq1 w ↦ (let z : l.y % 2 ≡ 0 = omega (arith, w.if-y-eq1.false) in cc (bits-clear 8 285 n l.r l.x l.y z))
+      ],
     )
 
 pub returns : goal.returns
