@@ -34,7 +34,7 @@ use Rattle.block_rebuild.specs.Columns.{block_word, blocks_of}
 use Rattle.block_rebuild.specs.ColumnsLaws.{word-length, word_at, word-of-blocks}
 use Rattle.block_rebuild.specs.Rebuild.{blocks_refusal, rebuild_refusal, refused_rebuild, contradictory_rebuild}
 use Rattle.block_rebuild.specs.Rebuild.{done_rebuild, word_outcome, contradicting_word, rebuilt_blocks, rebuild_of}
-use Rattle.block_rebuild.specs.RebuildLaws.{lent_of}
+use Rattle.block_rebuild.proofs.RebuildLaws.{lent_of}
 
 module _ (m w c size : ℕ) (blocks marks : List ℕ) where
   abbrev number : ℕ → ℕ

@@ -28,7 +28,7 @@ use Rattle.code.specs.Stretch.{stretch, with_stretch}
 use Rattle.code.specs.StretchLaws.{stretch-at, stretch-length, with-same, with-length, with-inside, with-before, with-after, stretch-below, stretch-sum}
 use Rattle.code.specs.StretchLaws.{stretch-count, place-cases, stretch-ext, stretch-with}
 use Rattle.code.specs.Contradiction.{is_broken, contradicting_group}
-use Rattle.code.specs.ContradictionLaws.{filling-sound, same-broken}
+use Rattle.code.proofs.ContradictionLaws.{filling-sound, same-broken}
 use Rattle.code.specs.Repair.{repaired, repaired_group, Satisfies}
 use Rattle.code.specs.RepairLaws.{only-filling}
 use Rattle.code.specs.RepairOrder.{Held, after_repair, after_repairs, Fits, SameRecovery}

@@ -24,7 +24,7 @@ use Rattle.block_rebuild.specs.Columns.{block_word}
 use Rattle.block_rebuild.specs.ColumnsLaws.{blocks-are, word-length, word_at, word-is}
 use Rattle.block_rebuild.specs.Rebuild.{rebuild_refusal, word_outcome, rebuilt_blocks, rebuild_of, contradictory_rebuild, done_rebuild}
 use Rattle.block_rebuild.specs.Steps.{Lent, Room}
-use Rattle.block_rebuild.specs.RebuildLaws.{lent_of, NoneBelow, rebuild-contradictory, rebuild-done}
+use Rattle.block_rebuild.proofs.RebuildLaws.{lent_of, NoneBelow, rebuild-contradictory, rebuild-done}
 
 module _ (m w c size : ℕ) (blocks marks : List ℕ) (none : rebuild_refusal m w c size (length blocks) marks ≡ 0)
     (small : (i : ℕ) → get_or blocks i 0 < 256) where

@@ -22,10 +22,10 @@ use Rattle.code_services.specs.Attempt.{AcceptedIn}
 use Rattle.block_rebuild.specs.Columns.{block_word}
 use Rattle.block_rebuild.specs.ColumnsLaws.{word-is}
 use Rattle.block_rebuild.specs.Rebuild.{blocks_refusal, rebuild_refusal, done_rebuild, word_outcome, rebuilt_blocks, rebuild_of}
-use Rattle.block_rebuild.specs.RebuildLaws.{blocks-fit}
+use Rattle.block_rebuild.proofs.RebuildLaws.{blocks-fit}
 use Rattle.block_rebuild.specs.Meaning.{as_rebuild}
-use Rattle.block_rebuild.specs.CasesLaws.{before, nine, done, ends, recovers, recovers-zero, judged-two, parts, rebuilt-at, rebuilt-size}
-use Rattle.block_rebuild.specs.CasesLaws as Cases
+use Rattle.block_rebuild.proofs.CasesLaws.{before, nine, done, ends, recovers, recovers-zero, judged-two, parts, rebuilt-at, rebuilt-size}
+use Rattle.block_rebuild.proofs.CasesLaws as Cases
 
 -- a word of n bytes is refused only by its shape and marks
 same-refusal : (m w c : ℕ) (word marks : List ℕ) → length word ≡ m * w → recover_refusal_in byte_limits m w c word marks ≡ marks_refusal_in byte_limits m w c marks

@@ -9,9 +9,9 @@ use Rattle.code_services.specs.Marks.{marks_refusal_in}
 use Rattle.code_services.specs.Judge.{judged_number_in}
 use Rattle.block_rebuild.specs.Columns.{block_word}
 use Rattle.block_rebuild.specs.Rebuild.{blocks_refusal, rebuild_refusal, word_outcome, rebuilt_blocks}
-use Rattle.block_rebuild.specs.RebuildLaws.{refusal-never-nine}
+use Rattle.block_rebuild.proofs.RebuildLaws.{refusal-never-nine}
 use Rattle.block_rebuild.specs.Meaning.{Rebuilds}
-use Rattle.block_rebuild.specs.CasesLaws.{before, nine, done, ends, word-zero, rebuilt-at, rebuilt-size}
+use Rattle.block_rebuild.proofs.CasesLaws.{before, nine, done, ends, word-zero, rebuilt-at, rebuilt-size}
 
 -- the call is not refused 1 to 6 or 27
 module _ (m w c size : ℕ) (blocks marks : List ℕ) (marked : marks_refusal_in byte_limits m w c marks ≡ 0)

@@ -20,9 +20,9 @@ use Rattle.code_services.specs.EncodeLaws.{checks-recovered, recovered-checks}
 use Rattle.code_services.specs.Encode.{encoded_in}
 use Rattle.block_rebuild.specs.Columns.{block_word}
 use Rattle.block_rebuild.specs.Rebuild.{rebuild_refusal, blocks_refusal, word_outcome}
-use Rattle.block_rebuild.specs.RebuildLaws.{blocks-fit}
+use Rattle.block_rebuild.proofs.RebuildLaws.{blocks-fit}
 use Rattle.block_rebuild.specs.Meaning.{Batch, BatchEncoded}
-use Rattle.block_rebuild.specs.CasesLaws.{before, nine, done, ends, rebuilt-at}
+use Rattle.block_rebuild.proofs.CasesLaws.{before, nine, done, ends, rebuilt-at}
 
 module _ (m w c size : ℕ) (blocks : List ℕ) (carried : ℕ → List ℕ) (B : Batch m w c size blocks carried) (most : place_count m w * size ≤ 65536) where
   abbrev marks : List ℕ
