@@ -9,14 +9,14 @@ unfolding cells_of
 loop-i-init c = (omega arith, refl, omega arith, sym (written-nothing _ _))
 
 pub overflow_cast-numbers : goal.overflow_cast-numbers
-overflow_cast-numbers c = omega (arith, c.shared_slice_known-in-loop-i-1.given c.loop-i.i)
+overflow_cast-numbers c = omega (arith, c.type_inv.numbers c.loop-i.i)
 
 pub loop-i-preserved : goal.loop-i-preserved
 loop-i-preserved c =
     let l = c.loop-i in
     let a = c.args in
     let p = c.put_number-next in
-    let d = c.shared_slice_known-in-loop-i-1.given l.i in
+    let d = c.type_inv.numbers l.i in
     let s = numbers-step a.out.now l.out p.new.out a.numbers.now a.at l.next l.i (omega arith) (omega arith) (omega arith) l.invariant.2
     l.invariant.3 p.result p.ensures.next p.ensures.out in
     (omega arith, s.2, s.0, s.1)
