@@ -13,10 +13,10 @@ pub bounds-out-end : goal.bounds-out-end
 bounds-out-end c =
     let p = c.put_text-end in
     let a = c.args in
-    (lent a.text.now a.out.now p.last.0 c.smaller-n.result p.result (omega arith) c.smaller-n.ensures p.ensures.next p.ensures.out).0
+    (lent a.text.now a.out.now p.new.out c.smaller-n.result p.result (omega arith) c.smaller-n.ensures p.ensures.next p.ensures.out).0
 
 pub returns : goal.returns
 returns c =
     let p = c.put_text-end in
     let a = c.args in
-    (lent a.text.now a.out.now p.last.0 c.smaller-n.result p.result (omega arith) c.smaller-n.ensures p.ensures.next p.ensures.out).1
+    (lent a.text.now a.out.now p.new.out c.smaller-n.result p.result (omega arith) c.smaller-n.ensures p.ensures.next p.ensures.out).1
