@@ -1,24 +1,12 @@
-use mathlib.Core.Path.{◌≡◌, refl, sym, ap, ◌∙◌, subst}
-use mathlib.Core.List.{List, ◌++◌}
-use Prim.Native.Nat.{ℕ, ◌+◌, ◌-◌, ◌≤◌, ◌<◌}
-use native.Mathlib.Omega.{arith}
+use Rattle.std.proofs.Common.{◌≡◌, sym, ap, ◌∙◌, subst, List, ◌++◌, ℕ, ◌+◌, ◌-◌, ◌≤◌, ◌<◌, arith, length, get_or, drop, replicate, length-take, length-append, length-drop, get_or-append-add, get_or-drop}
 use native.Mathlib.Decide.{dec_lt}
-use lib.ListN.{length, get_or, take, drop, replicate, length-take, length-append, length-drop, length-replicate, get_or-append, get_or-eq_default}
-use lib.Seq.{get_or-append-add, get_or-drop}
+use lib.ListN.{length-replicate, get_or-append, get_or-eq_default}
 use Rattle.code_engine.specs.Padded.{Padded}
 use Rattle.code_engine.specs.ListsLaws.{zeros-row}
-use borrow.Author.Rules.{rules}
-use Rattle.wide_sums.proofs.padded.Statement.{statement}
-use Rattle.wide_sums.proofs.padded.Tie as tie
+use Rattle.wide_sums.proofs.padded.Goals as goal
 
-array-borrow-prefix-x : tie.Need-array-borrow-prefix-x
-array-borrow-prefix-x c = search rules
-
-slice-aggregate-copy : tie.Need-slice-aggregate-copy
-slice-aggregate-copy c = simp (length-take, length-replicate) (omega arith)
-
-copy-requires : tie.Need-copy-requires
-copy-requires c κs = search rules
+pub slice_bounds-copy-end : goal.slice_bounds-copy-end
+slice_bounds-copy-end c = simp (length-take, length-replicate) (omega arith)
 
 -- a stretch, followed by what is left of sixteen zeros
 padded-by : (part y : List ℕ) → y ≡ part → length part ≤ 16 → Padded part (y ++ drop (length part) (replicate 16 0))
@@ -40,11 +28,6 @@ padded-by part y e l =
           ∙ sym (get_or-eq_default part 0 b))
     ]
 
-returns : tie.Need-returns
+pub returns : goal.returns
 returns c =
-    let k = c.before in
-    let s = k.before.before.before in
-    padded-by s.args.part.now _ (k.copy.ensures.0 (slice-aggregate-copy k.before)) s.requires
-
-pub padded-spec : {M : Type 1} → statement M
-padded-spec = tie.close (tie.spec array-borrow-prefix-x slice-aggregate-copy copy-requires returns)
+    padded-by c.args.part.now _ (c.copy.ensures.to_after (simp (length-take, length-replicate) (omega arith))) c.requires
