@@ -1,19 +1,11 @@
-use mathlib.Core.Path.{◌≡◌, sym, ap, ap₂, ◌∙◌}
-use Prim.Native.Nat.{ℕ, ◌*◌, ◌/◌, ◌%◌, ◌<◌, ◌≤◌}
-use native.Mathlib.Nat.{mod-eq_of_lt, div-eq_of_lt-le}
+use Rattle.std.proofs.Common.{◌≡◌, sym, ap, ap₂, ◌∙◌, ℕ, ◌*◌, ◌%◌, ◌<◌, ◌≤◌, mod-eq_of_lt, arith, bit_xor}
+use native.Mathlib.Nat.{div-eq_of_lt-le}
 use native.Mathlib.Decide.{dec_lt}
-use native.Mathlib.Omega.{arith}
-use lib.Bits.{bit_xor}
-use borrow.Author.Rules.{rules}
 use Rattle.binary_field.specs.Xor.{◌⊕◌}
 use Rattle.binary_field.specs.XorLaws.{⊕-bits, ⊕-zero-r}
 use Rattle.binary_field.specs.Product.{double}
 use Rattle.binary_field.specs.ProductLaws.{double-low, double-high}
-use Rattle.wide_field.proofs.double.Statement.{statement}
-use Rattle.wide_field.proofs.double.Tie as tie
-
-reduction-requires : tie.Need-reduction-requires
-reduction-requires c κs = search rules
+use Rattle.wide_field.proofs.double.Goals as goal
 
 -- below 32,768 nothing is shifted out; from 32,768 on the bit 16 is set, and 69643 is 4107 without it
 doubled : (a r : ℕ) → a < 65536 → (a < 32768 → r ≡ 0) → (32768 ≤ a → r ≡ 4107) → bit_xor (a * 2 % 65536) r ≡ double 16 69643 a
@@ -28,8 +20,5 @@ doubled a r s low high = elim (dec_lt a 32768) [
       ⊕-bits (a * 2 % 65536) r ∙ ap (λ x. (a * 2 % 65536) ⊕ x) (high h) ∙ sym (double-high 16 69643 a (ap (λ x. x % 2) (div-eq_of_lt-le {k = 1} 65536 l u))))
 ]
 
-returns : tie.Need-returns
-returns c = doubled c.before.args.a c.reduction.result (omega arith) c.reduction.ensures.0 c.reduction.ensures.1
-
-pub double-spec : {M : Type 1} → statement M
-double-spec = tie.close (tie.spec reduction-requires returns)
+pub returns : goal.returns
+returns c = doubled c.args.a c.reduction.result (omega arith) c.reduction.ensures.value c.reduction.ensures.value_2

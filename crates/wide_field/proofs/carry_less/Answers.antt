@@ -1,16 +1,11 @@
-use mathlib.Core.Path.{◌≡◌, refl, sym, ap₂, ◌∙◌}
-use Prim.Native.Nat.{ℕ, ◌*◌, ◌<◌, ◌≤◌}
-use native.Mathlib.Nat.{mod-eq_of_lt, mul-le-mul, le_trans}
-use native.Mathlib.Omega.{arith}
-use lib.Bits.{bit_and, and_comm, and_le_r, and_mask}
-use lib.Dec.{lit<, lit≤}
+use Rattle.std.proofs.Common.{◌≡◌, refl, sym, ap₂, ◌∙◌, ℕ, ◌*◌, ◌<◌, ◌≤◌, mod-eq_of_lt, mul-le-mul, le_trans, arith, bit_and, lit<, lit≤}
+use lib.Bits.{and_comm, and_le_r, and_mask}
 use Rattle.binary_field.specs.Xor.{◌⊕◌}
 use Rattle.binary_field.specs.ProductLaws.{ring}
 use Rattle.wide_field.specs.CarryLess.{carry_less}
 use Rattle.wide_field.specs.CarryLessLaws.{and-add}
 use Rattle.wide_field.specs.SpacedLaws.{spaced-product}
-use Rattle.wide_field.proofs.carry_less.Statement.{statement}
-use Rattle.wide_field.proofs.carry_less.Tie as tie
+use Rattle.wide_field.proofs.carry_less.Goals as goal
 
 -- the nine products fit
 small : (x y m n : ℕ) → m ≤ 65535 → n ≤ 65535 → bit_and x m * bit_and y n < 4294967296
@@ -28,32 +23,32 @@ fit x y m h = (small x y m 37449 h (lit≤ tt), small x y m 9362 h (lit≤ tt), 
 all : (x y : ℕ) → Fit x y 37449 × Fit x y 9362 × Fit x y 18724
 all x y = (fit x y 37449 (lit≤ tt), fit x y 9362 (lit≤ tt), fit x y 18724 (lit≤ tt))
 
-mul-r0 : tie.Need-overflow-mul-r0
-mul-r0 c = let l = all c.args.a c.args.b in omega arith
+pub overflow_mul-r0 : goal.overflow_mul-r0
+overflow_mul-r0 c = let l = all c.args.a c.args.b in omega arith
 
-mul-r0-2 : tie.Need-overflow-mul-r0-2
-mul-r0-2 c = let l = all c.args.a c.args.b in omega arith
+pub overflow_mul-r0-2 : goal.overflow_mul-r0-2
+overflow_mul-r0-2 c = let l = all c.args.a c.args.b in omega arith
 
-mul-r0-3 : tie.Need-overflow-mul-r0-3
-mul-r0-3 c = let l = all c.args.a c.args.b in omega arith
+pub overflow_mul-r0-3 : goal.overflow_mul-r0-3
+overflow_mul-r0-3 c = let l = all c.args.a c.args.b in omega arith
 
-mul-r1 : tie.Need-overflow-mul-r1
-mul-r1 c = let l = all c.args.a c.args.b in omega arith
+pub overflow_mul-r1 : goal.overflow_mul-r1
+overflow_mul-r1 c = let l = all c.args.a c.args.b in omega arith
 
-mul-r1-2 : tie.Need-overflow-mul-r1-2
-mul-r1-2 c = let l = all c.args.a c.args.b in omega arith
+pub overflow_mul-r1-2 : goal.overflow_mul-r1-2
+overflow_mul-r1-2 c = let l = all c.args.a c.args.b in omega arith
 
-mul-r1-3 : tie.Need-overflow-mul-r1-3
-mul-r1-3 c = let l = all c.args.a c.args.b in omega arith
+pub overflow_mul-r1-3 : goal.overflow_mul-r1-3
+overflow_mul-r1-3 c = let l = all c.args.a c.args.b in omega arith
 
-mul-r2 : tie.Need-overflow-mul-r2
-mul-r2 c = let l = all c.args.a c.args.b in omega arith
+pub overflow_mul-r2 : goal.overflow_mul-r2
+overflow_mul-r2 c = let l = all c.args.a c.args.b in omega arith
 
-mul-r2-2 : tie.Need-overflow-mul-r2-2
-mul-r2-2 c = let l = all c.args.a c.args.b in omega arith
+pub overflow_mul-r2-2 : goal.overflow_mul-r2-2
+overflow_mul-r2-2 c = let l = all c.args.a c.args.b in omega arith
 
-mul-r2-3 : tie.Need-overflow-mul-r2-3
-mul-r2-3 c = let l = all c.args.a c.args.b in omega arith
+pub overflow_mul-r2-3 : goal.overflow_mul-r2-3
+overflow_mul-r2-3 c = let l = all c.args.a c.args.b in omega arith
 
 -- every digit stands in one of the three classes
 classes : (x : ℕ) → x < 65536 → bit_and x 37449 ⊕ (bit_and x 9362 ⊕ bit_and x 18724) ≡ x
@@ -90,11 +85,6 @@ nine x y lx ly =
     ∙ regroup (bit_and x 37449) (bit_and x 9362) (bit_and x 18724) (bit_and y 37449) (bit_and y 9362) (bit_and y 18724)
     ∙ ap₂ carry_less (classes x lx) (classes y ly)
 
-returns : tie.Need-returns
+pub returns : goal.returns
 unfolding ◌⊕◌
 returns c = nine c.args.a c.args.b (omega arith) (omega arith)
-
-pub carry-less-spec : {M : Type 1} → statement M
-carry-less-spec =
-    tie.close
-    (tie.spec mul-r0 mul-r0-2 mul-r0-3 mul-r1 mul-r1-2 mul-r1-3 mul-r2 mul-r2-2 mul-r2-3 returns)

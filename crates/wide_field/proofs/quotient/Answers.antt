@@ -1,11 +1,8 @@
-use mathlib.Core.Path.{refl}
-use Prim.Native.Nat.{ℕ, ◌/◌, ◌<◌}
-use native.Mathlib.Nat.{div-le_self, lt_of_le_of_lt}
+use Rattle.std.proofs.Common.{refl, ℕ, ◌/◌, ◌<◌, div-le_self, lt_of_le_of_lt}
 use Rattle.binary_field.specs.Xor.{◌⊕◌}
 use Rattle.binary_field.specs.XorLaws.{⊕-lt}
 use Rattle.wide_field.specs.CarryLess.{quotient}
-use Rattle.wide_field.proofs.quotient.Statement.{statement}
-use Rattle.wide_field.proofs.quotient.Tie as tie
+use Rattle.wide_field.proofs.quotient.Goals as goal
 
 -- it has no more digits than h
 quotient-lt : (h : ℕ) → h < 65536 → quotient h < 65536
@@ -15,9 +12,6 @@ quotient-lt h l = ⊕-lt 16 h _ l (⊕-lt 16 (h / 16) _ (less 16) (⊕-lt 16 (h 
     less : (n : ℕ) → h / n < 65536
     less n = lt_of_le_of_lt (div-le_self h n) l
 
-returns : tie.Need-returns
+pub returns : goal.returns
 unfolding quotient ◌⊕◌
-returns c = (refl, quotient-lt c.args.h c.requires)
-
-pub quotient-spec : {M : Type 1} → statement M
-quotient-spec = tie.close (tie.spec returns)
+returns c = record { value = refl; upper_bound = quotient-lt c.args.h c.requires }
