@@ -1,7 +1,4 @@
-use mathlib.Core.Path.{◌≡◌, ap, ap₂, ◌∙◌}
-use mathlib.Core.List.{List}
-use Prim.Native.Nat.{ℕ}
-use lib.ListN.{length}
+use Rattle.std.proofs.Common.{◌≡◌, ap, ap₂, ◌∙◌, List, ℕ, length}
 use Rattle.code.specs.Edition.{raised}
 use Rattle.code.specs.Word.{group_sum, coefficient}
 use Rattle.code_engine.specs.Horner.{HornerRows}
@@ -9,21 +6,7 @@ use Rattle.code_engine.specs.HornerLaws.{first_rows, second-rows}
 use Rattle.wide_shape.specs.Edition.{wide_edition}
 use Rattle.wide_across.specs.declared.Sums.{Sums}
 use Rattle.wide_across.specs.Across.{wide_across}
-use borrow.Author.Rules.{rules}
-use Rattle.wide_across.proofs.short_across.Statement.{statement}
-use Rattle.wide_across.proofs.short_across.Tie as tie
-
-fold-groups-requires : tie.Need-fold-groups-requires
-fold-groups-requires c κs = search rules
-
-paired-sums-requires : tie.Need-paired-sums-requires
-paired-sums-requires c κs = search rules
-
-same_length : tie.Need-same-length
-same_length c = search rules
-
-same-length-2 : tie.Need-same-length-2
-same-length-2 c = search rules
+use Rattle.wide_across.proofs.short_across.Goals as goal
 
 -- the sums of the two rows are those across
 from-rows : (m w c : ℕ) (word x y : List ℕ) (r : Sums) → HornerRows wide_edition w word 0 m x y → length x ≡ w
@@ -34,15 +17,9 @@ from-rows m w c word x y r R hx ef es =
     (ef ∙ ap (λ n. group_sum wide_edition n x 0 (coefficient wide_edition c)) hx ∙ first_rows R c)
     (es ∙ ap (λ n. group_sum wide_edition n y 0 (λ j. raised wide_edition (coefficient wide_edition c j) 256)) hx ∙ second-rows R c)
 
-returns : tie.Need-returns
+pub returns : goal.returns
 returns c =
-    let r = c.before.before.before.before.before.before.before in
-    let a = r.before.before.before.before.before.before.args in
-    let F = r.fold-groups.ensures in
-    let E = c.paired-sums.ensures in
-    from-rows a.m a.w a.c a.word.now _ _ c.paired-sums.result F.0 F.1.0 E.0 E.1
-
-pub short-across-spec : {M : Type 1} → statement M
-short-across-spec =
-    tie.close
-    (tie.spec fold-groups-requires paired-sums-requires same_length same-length-2 returns)
+    let a = c.args in
+    let F = c.fold_groups.ensures in
+    let E = c.paired_sums.ensures in
+    from-rows a.m a.w a.c a.word.now _ _ c.paired_sums.result F.horner_rows F.x_len.0 E.first_value E.second_value
