@@ -1,7 +1,7 @@
 -- The step of each loop, on lists, and its end; the numbers of a line by their tests.
-use mathlib.Core.Path.{◌≡◌, refl, sym, ap, ◌∙◌}
-use mathlib.Core.Bool.{Bool, true, false, cond, or-false}
-use mathlib.Core.List.{List, [], ◌∷◌}
+use mathlib.Core.Path.{◌≡◌, sym, ◌∙◌}
+use mathlib.Core.Bool.{true, false, or-false}
+use mathlib.Core.List.{List, []}
 use Prim.Native.Nat.{ℕ, suc, ◌+◌, ◌-◌, ◌≤◌, ◌<◌}
 use native.Mathlib.Numerals.{add-one}
 use native.Mathlib.Omega.{arith}
@@ -16,7 +16,6 @@ use Rattle.shape.specs.declared.Shape.{Shape}
 use Rattle.shape.specs.declared.Made.{Made}
 use Rattle.code.specs.LimitsLaws.{refusal-of-good}
 use Rattle.catalogue_text.specs.Names.{name_byte, name_bytes, good_name, before}
-use Rattle.catalogue_lines.specs.declared.Line.{Line}
 use Rattle.text.specs.Fields.{same, later, parts_from, joined_by}
 use Rattle.text.specs.FieldLaws.{parts-end, joined-parts}
 use Rattle.catalogue_text.specs.Catalogue.{gone_name}

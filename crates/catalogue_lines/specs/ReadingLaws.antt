@@ -1,7 +1,7 @@
 -- A line by its fields, one after the other.
-use Rattle.std.specs.Prelude.{◌≡◌, ◌⊎◌, Bool, cond, ◌&&◌, ℕ, suc, ◌+◌, ◌≤◌, ◌<◌, eqb, leb, ltb, get_or, take}
+use Rattle.std.specs.Prelude.{◌≡◌, ◌⊎◌, Bool, cond, ◌&&◌, ℕ, ◌+◌, ◌≤◌, ◌<◌, eqb, leb, get_or, take}
 use Rattle.std.proofs.Math.Path.{refl, ap}
-use Rattle.std.proofs.Common.{sym, ap₂, ◌∙◌, subst, inl, inr, zero-add}
+use Rattle.std.proofs.Common.{sym, ◌∙◌, subst, inl, inr, zero-add}
 use Rattle.std.proofs.Math.Bool.{true, false, false≢true}
 use mathlib.Core.List.{List, [], ◌∷◌, map}
 use native.Mathlib.Omega.{arith}
@@ -12,17 +12,16 @@ use Rattle.std.proofs.Math.ListN.{length, drop}
 use Rattle.shape.specs.Shapes.{byte_limits}
 use Rattle.code.specs.Limits.{shape_refusal_in}
 use Rattle.code.specs.LimitsLaws.{good-of-refusal}
-use Rattle.text.specs.Decimal.{number_of, unreadable}
-use Rattle.text.specs.Fields.{parts, fields, same, up_to, later, to_tab, end_of, parts_from, joined_by}
-use Rattle.text.specs.FieldLaws.{take_part, parts-split, parts_more, parts-end, parts_all, joined-parts}
+use Rattle.text.specs.Decimal.{number_of}
+use Rattle.text.specs.Fields.{fields, same, up_to, to_tab, end_of, parts_from, joined_by}
+use Rattle.text.specs.FieldLaws.{take_part, parts_more, parts-end, parts_all}
 use Rattle.text.specs.Records.{line_name}
 use Rattle.text.specs.RecordLaws.{name-first}
 use Rattle.catalogue_text.specs.Names.{good_name}
 use Rattle.catalogue_text.specs.NamesLaws.{and_none, and-all}
-use Rattle.catalogue_text.specs.Catalogue.{Entry, good_shape, shape_or_gone, good_entry, gone_name, numbers_of, says_gone, shaped_of, entry_of}
+use Rattle.catalogue_text.specs.Catalogue.{Entry, good_shape, good_entry, gone_name, numbers_of, says_gone, shaped_of, entry_of}
 use Rattle.catalogue_text.specs.LineLaws.{gone-numbers}
 use Rattle.catalogue_text.specs.CatalogueLaws.{good_shaped, shaped_line, line_good, read_name}
-use Rattle.catalogue_lines.specs.declared.Line.{Line}
 use Rattle.catalogue_lines.specs.declared.Field.{Field}
 use Rattle.catalogue_lines.specs.Reading.{unread, as_line, read_line, field_after, numbers_good, line_if, gone_after, gone_if}
 

@@ -1,7 +1,7 @@
 -- Bytes moved within a buffer, and a line put before them.
 use Rattle.std.specs.Prelude.{◌≡◌, set, replicate}
 use Rattle.std.proofs.Math.Path.{refl, sym, ap}
-use Rattle.std.proofs.Common.{ap₂, ◌∙◌, add_assoc, zero-add, eq-eqb, ne_eqb, length-drop, take-suc, drop-cons, take-take}
+use Rattle.std.proofs.Common.{◌∙◌, add_assoc, zero-add, eq-eqb, ne_eqb, length-drop, take-suc, drop-cons, take-take}
 use mathlib.Core.List.{List, [], ◌∷◌, ◌++◌, append_assoc, append-nil}
 use Prim.Native.Nat.{ℕ, zero, suc, ◌+◌, ◌-◌, ◌≤◌, ◌<◌}
 use Rattle.std.proofs.Math.Nat.{add_comm}
@@ -16,7 +16,7 @@ use Rattle.text.specs.Padded.{padded}
 use Rattle.text.specs.ReadBackLaws.{cells-most}
 use Rattle.text.specs.Written.{written, put_at, next_at}
 use Rattle.text.specs.WrittenLaws.{written-nothing, written_next, written-before, written_on, length-written, written-padded, put-room}
-use Rattle.catalogue_text.specs.Catalogue.{Entry, first_line, gone_line, entry_line}
+use Rattle.catalogue_text.specs.Catalogue.{first_line, gone_line, entry_line}
 use Rattle.catalogue_text.specs.Buffers.{with_text}
 use Rattle.catalogue_text.specs.BuffersLaws.{with-length}
 use Rattle.catalogue_lines.specs.declared.Row.{Row}

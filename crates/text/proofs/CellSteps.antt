@@ -1,5 +1,5 @@
 -- What the stores of a text and of a number's digits leave, turn by turn.
-use mathlib.Core.Path.{◌≡◌, refl, sym, ap, ◌∙◌}
+use mathlib.Core.Path.{◌≡◌, sym, ap, ◌∙◌}
 use mathlib.Core.List.{List, [], ◌∷◌, ◌++◌, append_assoc, append-nil}
 use Prim.Native.Nat.{ℕ, suc, ◌+◌, ◌-◌, ◌/◌, ◌%◌, ◌^◌, ◌≤◌, ◌<◌}
 use native.Mathlib.Numerals.{add-one}
@@ -9,7 +9,7 @@ use lib.Seq.{length-take-le, take-suc}
 use Rattle.text.specs.Decimal.{digits_of}
 use Rattle.text.specs.DecimalLaws.{digits-one, digits-shift}
 use Rattle.text.specs.Written.{written, put_at, next_at}
-use Rattle.text.specs.WrittenLaws.{written-nothing, written_next, written-before, written_on, length-written, put-room, put-none}
+use Rattle.text.specs.WrittenLaws.{written-nothing, written_next, written-before, written_on, length-written, put-room}
 
 -- a turn of the loop over a text
 pub write_step : (out after text : List ℕ) (at i : ℕ) → i < length text → at + length text ≤ length out → after ≡ written out at (take i text)

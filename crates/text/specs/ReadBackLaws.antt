@@ -1,5 +1,5 @@
 -- Laws: What is printed reads back as what was meant.
-use Rattle.std.specs.Prelude.{◌≡◌, refl, Bool, true, false, cond, not, List, [], ◌∷◌, ◌++◌, map, ℕ, suc, ◌+◌, ◌*◌, ◌%◌, ◌/◌, ◌≤◌, ◌<◌, T, eqb, length, replicate}
+use Rattle.std.specs.Prelude.{◌≡◌, refl, Bool, true, false, cond, List, [], ◌∷◌, ◌++◌, map, ℕ, suc, ◌+◌, ◌*◌, ◌%◌, ◌/◌, ◌≤◌, ◌<◌, T, length, replicate}
 use Rattle.std.proofs.Common.{sym, ap₂, ◌∙◌, append_assoc, mod-eq_of_lt, arith, le-leb, lt-ltb, length-append}
 use Rattle.std.proofs.Math.Path.{ap}
 use Rattle.std.proofs.lemmas.List.{append_cancel_right}
@@ -10,7 +10,6 @@ use Rattle.text.specs.Fields.{fields, same, lost_place, meaning, up_to, later}
 use Rattle.text.specs.FieldLaws.{parts-front, same-eq, meaning-of-number}
 use Rattle.text.specs.Records.{word_name, name_kind, line_name, contents, all_under, line_kind, line_bytes, line_marks}
 use Rattle.text.specs.Lines.{cells_of, cells, line_with, line_of}
-use Rattle.counting.specs.TestLaws.{and_l, and_r, and_intro}
 use Rattle.text.specs.ReadBack.{Bytes}
 
 pub meaning-decimal : (b : ℕ) → b < 256 → meaning (decimal b) ≡ b

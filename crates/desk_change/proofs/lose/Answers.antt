@@ -4,7 +4,7 @@ use Rattle.desk_record.specs.Desks.{job_at, with_job, slot_of}
 use Rattle.answers.specs.declared.Answer.{Answer}
 use Rattle.desk_record.specs.Calls.{ChangeGives}
 use Rattle.desk_change.specs.Change.{change_of}
-use Rattle.desk_change.specs.ChangeLaws.{refusal-parts, place-eight, place-done, gives-refused, open-sound, gives-place, gives-done}
+use Rattle.desk_change.proofs.ChangeLaws.{refusal-parts, place-eight, place-done, gives-refused, open-sound, gives-place, gives-done}
 use Rattle.desk_change.proofs.lose.Goals as goal
 
 pub returns-then-r-ne0 : goal.returns-then-r-ne0

@@ -1,6 +1,6 @@
 use Rattle.std.proofs.Common.{◌≡◌, sym, ap, ◌∙◌, subst, ◌+◌, ◌-◌, ◌/◌, ◌≤◌, arith, ltb, get_or, set}
 use Rattle.desk_change.specs.CountsLaws.{one-most}
-use Rattle.desk_change.specs.ChangeLaws.{figured, same-job, few, wide, group-fits, place-fits, count_most, set-lost, count-found, excess-found, set_found}
+use Rattle.desk_change.proofs.ChangeLaws.{figured, same-job, few, wide, group-fits, place-fits, count_most, set-lost, count-found, excess-found, set_found}
 use Rattle.desk_change.proofs.with_mark.Goals as goal
 
 pub bounds-marks-place : goal.bounds-marks-place

@@ -1,4 +1,4 @@
-use Rattle.std.proofs.Common.{arith, ◌-◌, refl}
+use Rattle.std.proofs.Common.{arith, refl}
 use Rattle.text.proofs.FieldSteps.{digits_more, digits-stop, digits-end}
 use Rattle.text.proofs.digits.Goals as goal
 

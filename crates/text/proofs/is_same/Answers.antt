@@ -1,4 +1,4 @@
-use Rattle.std.proofs.Common.{refl, sym, ◌-◌, arith}
+use Rattle.std.proofs.Common.{refl, sym, arith}
 use Rattle.text.specs.FieldLaws.{other_length}
 use Rattle.text.proofs.FieldSteps.{same_more, same_stop, same_end}
 use Rattle.text.proofs.is_same.Goals as goal

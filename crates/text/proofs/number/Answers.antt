@@ -1,7 +1,7 @@
-use Rattle.std.proofs.Common.{arith, sym, ◌∙◌}
+use Rattle.std.proofs.Common.{arith, sym, ◌∙◌, ◌≡◌, ◌<◌, length, get_or}
 use Rattle.text.specs.DecimalLaws.{number-none, number-zero, number_digits}
 use Rattle.text.proofs.number.Goals as goal
-use Rattle.text.proofs.number.Goals.{then-field-gt1, else-field-gt1}
+use Rattle.text.proofs.number.Goals.{then-field-gt1+else-field-eq48, else-field-gt1}
 
 pub returns-then-field-eq0 : goal.returns-then-field-eq0
 returns-then-field-eq0 c = let a = c.args in record { value = sym (number-none a.bound a.field.now (omega arith)); most = omega arith }
@@ -13,10 +13,9 @@ returns-then-field-eq48 c =
 pub returns : goal.returns
 returns c =
     let a = c.args in
-    let e = c.digits.ensures in record { value = e.0
-          ∙ sym
-          (number_digits a.bound a.field.now (omega arith)
-          (λ l z. elim c.if-field-gt1.branch [
-        | then-field-gt1 t ↦ (t.2.left z)
-        | else-field-gt1 t ↦ (let k = t.left in omega arith)
-      ])); most = e.1 }
+    let e = c.digits.ensures in
+    let plain : 1 < length a.field.now → get_or a.field.now 0 0 ≡ 48 → ⊥ = λ l z. elim c.if-field-gt1.branch [
+        | then-field-gt1+else-field-eq48 w ↦ w.if-field-eq48.false z
+        | else-field-gt1 w ↦ omega arith
+      ] in
+    record { value = e.value ∙ sym (number_digits a.bound a.field.now (omega arith) plain); most = e.most }

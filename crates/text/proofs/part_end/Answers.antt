@@ -1,4 +1,4 @@
-use Rattle.std.proofs.Common.{refl, ◌-◌, arith}
+use Rattle.std.proofs.Common.{refl, arith}
 use Rattle.text.specs.FieldLaws.{end-found, end_more, end-here}
 use Rattle.text.proofs.part_end.Goals as goal
 

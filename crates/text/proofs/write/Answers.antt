@@ -1,4 +1,4 @@
-use Rattle.std.proofs.Common.{take_all, length, length-set, arith, ◌-◌, ◌≤◌, refl, sym}
+use Rattle.std.proofs.Common.{take_all, length, length-set, arith, ◌≤◌, refl, sym}
 use Rattle.text.proofs.CellSteps.{write_step}
 use Rattle.text.specs.WrittenLaws.{written-nothing}
 use Rattle.text.proofs.write.Goals as goal
