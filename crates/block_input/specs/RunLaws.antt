@@ -16,7 +16,7 @@ use Rattle.text.specs.Lines.{refused_line}
 use Rattle.text_lines.proofs.LineKinds.{numbers-long}
 use Rattle.block_rebuild.specs.declared.Rebuilt.{Rebuilt}
 use Rattle.block_rebuild.specs.Rebuild.{blocks_refusal, rebuild_refusal, refused_rebuild, rebuild_of, outcome_rebuilt}
-use Rattle.block_rebuild.specs.RebuildLaws.{blocks-other, blocks-many, rebuild-refused}
+use Rattle.block_rebuild.proofs.RebuildLaws.{blocks-other, blocks-many, rebuild-refused}
 use Rattle.block_input.specs.declared.ShapeLine.{ShapeLine}
 use Rattle.block_input.specs.Lines.{until_line_feed, after_line, settled}
 use Rattle.block_input.specs.Length.{length_of}

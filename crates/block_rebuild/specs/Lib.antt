@@ -2,10 +2,4 @@ pub mod Columns
 pub mod ColumnsLaws
 pub mod Rebuild
 pub mod Steps
-pub mod RebuildLaws
-pub mod EngineLaws
 pub mod Meaning
-pub mod CasesLaws
-pub mod MeaningLaws
-pub mod OneWordLaws
-pub mod BatchLaws

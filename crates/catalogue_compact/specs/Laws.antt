@@ -24,7 +24,7 @@ use Rattle.catalogue_text.specs.Catalogue.{entry_line, lines_of, catalogue_text}
 use Rattle.catalogue_text.specs.LineLaws.{EntryGood, entry-good, body_of, body-line, body-one, body-read}
 use Rattle.catalogue_text.specs.CatalogueLaws.{line_good, body-good, cat-list, cat-version, first-grows, first_two, first_one, versions}
 use Rattle.catalogue_text.specs.Changes.{without_gone, largest_gone, compacted}
-use Rattle.catalogue_text.specs.ChangesLaws.{none-largest}
+use Rattle.catalogue_text.proofs.ChangesLaws.{none-largest}
 use Rattle.catalogue_text.specs.Buffers.{formed, catalogue_in, with_text}
 use Rattle.catalogue_text.specs.BuffersLaws.{formed-parts, formed-good, formed-text, formed-long, with-same}
 use Rattle.catalogue_lines.specs.declared.Line.{Line}

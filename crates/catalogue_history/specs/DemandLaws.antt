@@ -20,7 +20,7 @@ use Rattle.catalogue_text.specs.Catalogue.{catalogue_text}
 use Rattle.catalogue_text.specs.LineLaws.{entry-good, good-entry, shape-numbers, gone-numbers}
 use Rattle.catalogue_text.specs.CatalogueLaws.{cat-list, cat-version, versions, version-two}
 use Rattle.catalogue_text.specs.Changes.{entry_for, entry_in, put_in, found_revision, last_revision, next_entry, changed_by, without_gone, largest_gone, compacted}
-use Rattle.catalogue_text.specs.ChangesLaws.{put-found, put-others, put-good, kept-good, kept_entry, largest-most, largest-holds}
+use Rattle.catalogue_text.proofs.ChangesLaws.{put-found, put-others, put-good, kept-good, kept_entry, largest-most, largest-holds}
 use Rattle.catalogue_text.specs.Buffers.{formed, catalogue_in, with_text}
 use Rattle.catalogue_text.specs.BuffersLaws.{formed-parts, formed-good, formed-long, with-same, with-front, with-past, with-length, with_read, with-formed}
 use Rattle.catalogue_calls.specs.Calls.{text_refusal, name_refusal, stored, found_refusal, lookup_refusal, entry_figures, lookup_figures, changed_entry, changed_text}

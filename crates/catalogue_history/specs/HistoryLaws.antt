@@ -15,7 +15,7 @@ use Rattle.catalogue_text.specs.Catalogue.{Entry, is_gone, good_entry, good_from
 use Rattle.catalogue_text.specs.LineLaws.{entry-good}
 use Rattle.catalogue_text.specs.CatalogueLaws.{cat-list}
 use Rattle.catalogue_text.specs.Changes.{entry_for, entry_in, put_in, last_revision, next_entry, changed_by, compacted}
-use Rattle.catalogue_text.specs.ChangesLaws.{put-found, put-others, compacted-floor}
+use Rattle.catalogue_text.proofs.ChangesLaws.{put-found, put-others, compacted-floor}
 use Rattle.catalogue_text.specs.Buffers.{formed, catalogue_in}
 use Rattle.catalogue_text.specs.BuffersLaws.{formed-good, formed-parts}
 use Rattle.catalogue_calls.specs.Calls.{text_refusal, name_refusal, found_refusal, stored, lookup_refusal, entry_figures, lookup_figures, put_refusal, put_figures}

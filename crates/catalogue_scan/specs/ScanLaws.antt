@@ -20,7 +20,7 @@ use Rattle.catalogue_text.specs.CatalogueLaws.{line_good, line_right, rest_right
 use Rattle.catalogue_text.specs.CatalogueLaws.{good-line, right-good, read_name}
 use Rattle.catalogue_text.specs.CatalogueLaws.{rest-good, head_right, version_of, allows, right-head, form-lines, catalogue-lines}
 use Rattle.catalogue_text.specs.Changes.{largest_gone}
-use Rattle.catalogue_text.specs.ChangesLaws.{none-largest}
+use Rattle.catalogue_text.proofs.ChangesLaws.{none-largest}
 use Rattle.catalogue_lines.specs.declared.Line.{Line}
 use Rattle.catalogue_lines.specs.Reading.{unread, as_line, read_line}
 use Rattle.catalogue_lines.specs.ReadingLaws.{name-taken, name-size}

@@ -5,5 +5,4 @@ pub mod Buffers
 pub mod NamesLaws
 pub mod LineLaws
 pub mod CatalogueLaws
-pub mod ChangesLaws
 pub mod BuffersLaws

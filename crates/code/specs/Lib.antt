@@ -31,10 +31,8 @@ pub mod Lone
 pub mod LoneLaws
 pub mod Repair
 pub mod RepairLaws
-pub mod ContradictionLaws
 pub mod MarksLaws
 pub mod OneGroup
 pub mod OneGroupLaws
 pub mod RepairOrder
-pub mod RepairOrderLaws
 pub mod EncodingLaws

@@ -8,7 +8,7 @@ use Rattle.code.specs.RefusalsLaws.{or_else-first}
 use Rattle.code.specs.Limits.{Limits, GoodIn, word_refusal_in}
 use Rattle.code.specs.LimitsLaws.{good-of-word}
 use Rattle.code.specs.Marks.{excess}
-use Rattle.code.specs.ContradictionLaws.{whole-groups}
+use Rattle.code.proofs.ContradictionLaws.{whole-groups}
 use Rattle.answers.specs.declared.Judged.{Judged}
 use Rattle.answers.specs.declared.Checked.{Checked}
 use Rattle.answers.specs.declared.Tested.{Tested}

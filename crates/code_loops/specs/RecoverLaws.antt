@@ -14,7 +14,7 @@ use Rattle.code.specs.LimitsLaws.{good-of-word}
 use borrow.Author.Tests.{eq-eqb}
 use Rattle.code.specs.RefusalsLaws.{or_else-first, or_else-zero}
 use Rattle.code.specs.Outcome.{contradictory}
-use Rattle.code.specs.ContradictionLaws.{contradicting-most}
+use Rattle.code.proofs.ContradictionLaws.{contradicting-most}
 use Rattle.answers.specs.declared.Mending.{Mending}
 use Rattle.answers.specs.declared.Tested.{Tested}
 use Rattle.answers.specs.Answers.{mending_number}

@@ -11,7 +11,7 @@ use Rattle.code.specs.StretchLaws.{stretch-length, stretch-below, stretch-count}
 use Rattle.code.specs.Outcome.{refused, contradictory, done_with}
 use Rattle.code.specs.OutcomeLaws.{eight-large}
 use Rattle.code.specs.Contradiction.{contradicting_group}
-use Rattle.code.specs.ContradictionLaws.{same-groups}
+use Rattle.code.proofs.ContradictionLaws.{same-groups}
 use Rattle.code.specs.Recovery.{Agrees, recovered}
 use Rattle.code.specs.RecoveryLaws.{recovered-eight, recovered-nine, recovered-done}
 use Rattle.code.specs.RefusalsLaws.{or_else-zero}

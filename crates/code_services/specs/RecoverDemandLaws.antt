@@ -17,7 +17,7 @@ use Rattle.code.specs.Stretch.{stretch}
 use Rattle.code.specs.StretchLaws.{stretch-length, stretch-below, stretch-count}
 use Rattle.code.specs.OneGroupLaws.{agrees-satisfies, satisfies-agrees}
 use Rattle.code.specs.Contradiction.{is_broken, contradicting_group}
-use Rattle.code.specs.ContradictionLaws.{sound-filling, broken-never, contradicting-present}
+use Rattle.code.proofs.ContradictionLaws.{sound-filling, broken-never, contradicting-present}
 use Rattle.code.specs.Outcome.{Outcome, SameEnd}
 use Rattle.code.specs.OutcomeLaws.{same-refusal, same-present, refused-unchanged, nine-group, other-group}
 use Rattle.code.specs.Recovery.{Agrees, recovered, Single}

@@ -29,7 +29,7 @@ use Rattle.code.specs.Repair.{repaired_group}
 use Rattle.code.specs.Stretch.{stretch, with_stretch}
 use Rattle.code.specs.StretchLaws.{stretch-length, stretch-below, with-before, with-inside, with-after, place-cases}
 use Rattle.code.specs.RepairOrder.{Held, after_repair, after_repairs, Fits, SameRecovery}
-use Rattle.code.specs.RepairOrderLaws.{repairs-fit, order}
+use Rattle.code.proofs.RepairOrderLaws.{repairs-fit, order}
 use Rattle.code_services.specs.Recover.{unless_before, recover_refusal_in, recover_in}
 use Rattle.code_services.specs.RecoverDemandLaws.{good_start}
 use Rattle.code_services.specs.Repair.{repair_in, repair_refusal_in}

@@ -1,3 +1,2 @@
 pub mod Change
 pub mod CountsLaws
-pub mod ChangeLaws

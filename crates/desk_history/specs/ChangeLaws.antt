@@ -17,7 +17,7 @@ use Rattle.desk_record.specs.Refusal.{handle_refusal}
 use Rattle.desk_record.specs.RefusalLaws.{open-good}
 use Rattle.desk_record.specs.Laws.{sound-of}
 use Rattle.desk_change.specs.Change.{changed, place_number, change_number, change_by, change_of, find_of}
-use Rattle.desk_change.specs.ChangeLaws.{same-job, few, found-few, place-past, place-eight, place-done, place-parts, changed-marks, open-sound, change-place}
+use Rattle.desk_change.proofs.ChangeLaws.{same-job, few, found-few, place-past, place-eight, place-done, place-parts, changed-marks, open-sound, change-place}
 use Rattle.desk_history.specs.PutLaws.{put_same, put_other}
 use Rattle.desk_history.specs.EffectsLaws.{slot-below, open-held, handle-parts, handle-done}
 use Rattle.desk_history.specs.Sound.{Fit}

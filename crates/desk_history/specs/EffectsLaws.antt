@@ -20,7 +20,7 @@ use Rattle.desk_serve.specs.Serve.{served_once}
 use Rattle.desk_record.specs.Laws.{sound-parts, false_of, taken_of, open-slot}
 use Rattle.desk_job.specs.JobLaws.{judged-marked, figures-iff, sound-job-iff}
 use Rattle.desk_change.specs.Change.{changed, place_number}
-use Rattle.desk_change.specs.ChangeLaws.{changed-sound}
+use Rattle.desk_change.proofs.ChangeLaws.{changed-sound}
 use Rattle.desk_history.specs.Put.{put}
 use Rattle.desk_history.specs.PutLaws.{and-of, and-to, slot-of-free, slot-of-taken, issued-of, issued-to, unique-of, once-of, put_same, put_other}
 use Rattle.desk_history.specs.PutLaws.{sound-put}

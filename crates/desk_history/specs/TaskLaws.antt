@@ -25,7 +25,7 @@ use Rattle.desk_record.specs.Laws.{sound-of}
 use Rattle.code.specs.Outcome.{Outcome}
 use Rattle.code.specs.Refusals.{refuse, ◌or_else◌}
 use Rattle.desk_change.specs.Change.{changed, place_number, change_number, change_by, change_of}
-use Rattle.desk_change.specs.ChangeLaws.{place-parts}
+use Rattle.desk_change.proofs.ChangeLaws.{place-parts}
 use Rattle.desk_job.specs.JobLaws.{judged-marked}
 use Rattle.desk_open.specs.OpenLaws.{open-parts}
 use Rattle.desk_history.specs.History.{DeskCall, Fresh, Open, Serve, Read, Close, Lose, Find, step, desk_after, desk_answers}

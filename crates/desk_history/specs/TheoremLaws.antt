@@ -25,7 +25,7 @@ use Rattle.desk_close.specs.Read.{read_by, read_of}
 use Rattle.desk_close.specs.Close.{close_by, close_of}
 use Rattle.desk_serve.specs.Serve.{serve_number, serve_by, serve_of, served_once}
 use Rattle.desk_change.specs.Change.{changed, place_number, change_number, change_by, change_of}
-use Rattle.desk_change.specs.ChangeLaws.{place-parts, changed-marks}
+use Rattle.desk_change.proofs.ChangeLaws.{place-parts, changed-marks}
 use Rattle.desk_record.specs.Laws.{sound-of, false_of, taken_of}
 use Rattle.desk_open.specs.OpenLaws.{Openable, open-parts}
 use Rattle.desk_serve.specs.ServeLaws.{job-room}

@@ -31,7 +31,7 @@ use Rattle.code.specs.Marks.{lost, lost_in}
 use Rattle.code.specs.DeterminedLaws.{local-unique}
 use Rattle.code.specs.CombinedLaws.{place-less}
 use Rattle.code.specs.Contradiction.{contradicting_group}
-use Rattle.code.specs.ContradictionLaws.{whole-groups}
+use Rattle.code.proofs.ContradictionLaws.{whole-groups}
 use Rattle.code_services.specs.Encode.{encoded_in}
 use Rattle.code_services.specs.EncodeDemand.{Encoded}
 use Rattle.code_services.specs.EncodeLaws.{encoded, lost-check}

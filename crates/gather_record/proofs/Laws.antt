@@ -1,8 +1,6 @@
 -- What owning a gather record tells of the lengths of its arrays.
 use mathlib.Core.List.{List}
-use Prim.Native.Nat.{ℕ}
 use mir.Val.{Val}
-use borrow.Author.Rules.{length_unmapped}
 use denote.Laws.{Is}
 use Rattle.gather_record.specs.declared.Gather.{Gather}
 use Rattle.gather_record.specs.Record.{Whole}
@@ -10,6 +8,6 @@ use Rattle.gather_record.specs.contracts.Gather as G
 
 pub whole : (g : Gather) (vs : List Val) → Is G.the_row g vs → Whole g
 whole g vs p = record {
-  bytes-long = length_unmapped ℕ g.bytes 240 p.1.1.1.1.1.1.0.1.0.1;
-  marks-long = length_unmapped ℕ g.marks 240 p.1.1.1.1.1.1.1.0.1.0.1;
+  bytes-long = p.1.1.1.1.1.1.0.1.0.1;
+  marks-long = p.1.1.1.1.1.1.1.0.1.0.1;
 }

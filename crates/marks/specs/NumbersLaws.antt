@@ -3,7 +3,6 @@ use Rattle.std.specs.Prelude.{not, List, ℕ, ◌≤◌, length}
 use Rattle.std.proofs.Common.{arith}
 use Rattle.shape.specs.Laws.{word-most}
 use Rattle.shape.specs.Shapes.{byte_limits}
-use Rattle.code.specs.Refusals.{◌or_else◌}
 use Rattle.code.specs.RefusalsLaws.{refuse-most, or_else-most}
 use Rattle.code.specs.Limits.{word_refusal_in}
 use Rattle.code_services.specs.Marks.{are_marks, marks_refusal_in}

@@ -1,5 +1,5 @@
 -- Laws: The search for a set over counts of lost places by place number.
-use Rattle.std.specs.Prelude.{◌≡◌, refl, Bool, true, false, not, ◌&&◌, List, [], ◌∷◌, leb, length, get_or}
+use Rattle.std.specs.Prelude.{◌≡◌, refl, Bool, true, false, not, ◌&&◌, ◌||◌, List, [], ◌∷◌, leb, length, get_or}
 use Rattle.std.proofs.Common.{sym, ◌∙◌, subst, add-zero, add_assoc, add-one, arith, eq-eqb, ne_eqb, le-leb}
 use Rattle.std.proofs.Math.Path.{ap, ap₂}
 use Rattle.std.proofs.Math.Bool.{cond, and-true, and-false}
@@ -65,7 +65,8 @@ module _ (counts : List ℕ) (a n : ℕ) where
       next : (i : ℕ) → i < n → cond (is_in (a + suc i) (a ∷ s)) 0 (get_or counts (a + suc i) 0) ≡ cond (is_in (suc a + i) s) 0 (get_or counts (suc a + i) 0)
       next i _ =
           let e : a + suc i ≡ suc a + i = omega arith in
-          rw (ne_eqb (a + suc i) a (λ z. omega arith), e)
+          ap (λ b. cond (b || is_in (a + suc i) s) 0 (get_or counts (a + suc i) 0)) (ne_eqb (a + suc i) a (λ z. omega arith))
+          ∙ ap (λ k. cond (is_in k s) 0 (get_or counts k 0)) e
 
   -- without it, its own lost places are added
   outside-without : (s : List ℕ) → is_in a s ≡ false → outside_from counts a (suc n) s ≡ get_or counts a 0 + outside_from counts (suc a) n s

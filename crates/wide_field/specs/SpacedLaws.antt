@@ -75,7 +75,7 @@ mask-parities {k} {z} {c} t h zero l = and_zero_r z ∙ (let m = parities-le t i
 mask-parities none h (suc n) l = refl
 mask-parities (more {z} d g t) h (suc n) l =
     and_block 3 z (spaced n) d 1 (omega arith) (lit< tt)
-    ∙ ap₂ (λ (x y : ℕ). x * 8 + y) (mask-parities t h n (let q = pow-suc 8 n in omega arith)) (and_one d)
+    ∙ ap₂ (λ (x y : ℕ). x * 8 + y) (mask-parities {z = z} t h n (let q = pow-suc 8 n in omega arith)) (and_one d)
 
 -- what a mask of spaced digits keeps has the digits 0 and 1
 spaced-parities : (n x : ℕ) → Parities 1 (bit_and x (spaced n)) (bit_and x (spaced n))

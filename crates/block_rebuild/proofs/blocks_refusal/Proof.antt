@@ -1,7 +1,7 @@
 use Prim.Native.Nat.{◌*◌, ◌≤◌}
 use native.Mathlib.Nat.{mul-le-mul_right, one-mul}
 use native.Mathlib.Omega.{arith}
-use Rattle.block_rebuild.specs.RebuildLaws.{blocks-empty, blocks-many, blocks-other, blocks-fit}
+use Rattle.block_rebuild.proofs.RebuildLaws.{blocks-empty, blocks-many, blocks-other, blocks-fit}
 use Rattle.block_rebuild.proofs.blocks_refusal.Statement.{statement}
 use Rattle.block_rebuild.proofs.blocks_refusal.Tie as tie
 

@@ -5,8 +5,8 @@ use lib.ListN.{length, get_or}
 use Rattle.block_rebuild.specs.declared.Rebuilt.{Rebuilt}
 use Rattle.block_rebuild.specs.Rebuild.{RebuildOutcome, rebuild_refusal, word_outcome, outcome_rebuilt}
 use Rattle.block_rebuild.specs.Steps.{Room}
-use Rattle.block_rebuild.specs.RebuildLaws.{rebuilt-refused, refusal-never-nine, rebuild-refused}
-use Rattle.block_rebuild.specs.EngineLaws.{engine-ready, engine-room, nine-at, engine-contradictory, engine-done, engine-written}
+use Rattle.block_rebuild.proofs.RebuildLaws.{rebuilt-refused, refusal-never-nine, rebuild-refused}
+use Rattle.block_rebuild.proofs.EngineLaws.{engine-ready, engine-room, nine-at, engine-contradictory, engine-done, engine-written}
 use borrow.Author.Rules.{rules}
 use Rattle.block_rebuild.proofs.rebuild.Statement.{statement}
 use Rattle.block_rebuild.proofs.rebuild.Tie as tie

@@ -4,7 +4,7 @@ use Rattle.shape.specs.Shapes.{byte_limits}
 use Rattle.code_services.specs.Marks.{marks_refusal_in}
 use Rattle.answers.specs.Figures.{judged_number}
 use Rattle.block_rebuild.specs.Rebuild.{rebuild_refusal}
-use Rattle.block_rebuild.specs.RebuildLaws.{refused-marks, refused-blocks, refused-judged, marks-few}
+use Rattle.block_rebuild.proofs.RebuildLaws.{refused-marks, refused-blocks, refused-judged, marks-few}
 use borrow.Author.Rules.{rules}
 use Rattle.block_rebuild.proofs.refusal.Statement.{statement}
 use Rattle.block_rebuild.proofs.refusal.Tie as tie

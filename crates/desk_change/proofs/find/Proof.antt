@@ -8,7 +8,7 @@ use Rattle.desk_record.specs.Refusal.{handle_refusal}
 use Rattle.answers.specs.declared.Answer.{Answer}
 use Rattle.desk_record.specs.Calls.{ChangeGives}
 use Rattle.desk_change.specs.Change.{change_of}
-use Rattle.desk_change.specs.ChangeLaws.{refusal-parts, few, found-few, place-done, gives-refused, open-sound, gives-done}
+use Rattle.desk_change.proofs.ChangeLaws.{refusal-parts, few, found-few, place-done, gives-refused, open-sound, gives-done}
 use borrow.Author.Rules.{rules}
 use Rattle.desk_change.proofs.find.Statement.{statement}
 use Rattle.desk_change.proofs.find.Tie as tie

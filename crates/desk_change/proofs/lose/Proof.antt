@@ -7,7 +7,7 @@ use Rattle.desk_record.specs.Refusal.{handle_refusal}
 use Rattle.answers.specs.declared.Answer.{Answer}
 use Rattle.desk_record.specs.Calls.{ChangeGives}
 use Rattle.desk_change.specs.Change.{change_of}
-use Rattle.desk_change.specs.ChangeLaws.{refusal-parts, place-eight, place-done, gives-refused, open-sound, gives-place, gives-done}
+use Rattle.desk_change.proofs.ChangeLaws.{refusal-parts, place-eight, place-done, gives-refused, open-sound, gives-place, gives-done}
 use borrow.Author.Rules.{rules}
 use Rattle.desk_change.proofs.lose.Statement.{statement}
 use Rattle.desk_change.proofs.lose.Tie as tie

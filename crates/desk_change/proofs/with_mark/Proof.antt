@@ -4,8 +4,8 @@ use native.Mathlib.Omega.{arith}
 use lib.Dec.{ltb}
 use lib.ListN.{get_or, set}
 use Rattle.desk_change.specs.CountsLaws.{one-most}
-use Rattle.desk_change.specs.ChangeLaws.{figured, same-job, few, wide, group-fits, place-fits, count_most}
-use Rattle.desk_change.specs.ChangeLaws.{set-lost, count-found, excess-found, set_found}
+use Rattle.desk_change.proofs.ChangeLaws.{figured, same-job, few, wide, group-fits, place-fits, count_most}
+use Rattle.desk_change.proofs.ChangeLaws.{set-lost, count-found, excess-found, set_found}
 use borrow.Author.Rules.{rules}
 use Rattle.desk_change.proofs.with_mark.Statement.{statement}
 use Rattle.desk_change.proofs.with_mark.Tie as tie

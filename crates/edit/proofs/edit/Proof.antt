@@ -8,7 +8,7 @@ use lib.ListN.{length}
 use Rattle.shape.specs.Shapes.{byte_limits}
 use Rattle.code.specs.Limits.{data_count}
 use Rattle.byte_edition.specs.Edition.{byte_edition}
-use Rattle.code.specs.ContradictionLaws.{whole-groups}
+use Rattle.code.proofs.ContradictionLaws.{whole-groups}
 use Rattle.code.specs.Word.{is_codeword}
 use Rattle.answers.specs.declared.Tested.{Tested}
 use Rattle.code_engine.specs.Tests.{broken_group_in, tested_in}

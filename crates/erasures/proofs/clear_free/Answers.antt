@@ -1,4 +1,4 @@
-use Rattle.std.proofs.Common.{◌≡◌, sym, ap, ◌∙◌, ℕ, ◌+◌, ◌-◌, ◌/◌, ◌≤◌, arith, length}
+use Rattle.std.proofs.Common.{◌≡◌, sym, ap, ◌∙◌, ℕ, ◌+◌, ◌/◌, ◌≤◌, arith, length}
 use native.Mathlib.Nat.{div-zero}
 use Rattle.code_engine.specs.GroupsLaws.{group-next, groups-passed}
 use Rattle.code_engine.specs.BoundGroups.{bound_groups}

@@ -1,10 +1,10 @@
-use Rattle.std.proofs.Common.{◌≡◌, refl, sym, ap, ◌∙◌, ⊎_elim, true, false, List, [], ◌++◌, ℕ, ◌+◌, ◌-◌, ◌≤◌, arith, length, get_or, set, take, drop, replicate, length-set, drop_of_length-le, eq-eqb, ne_eqb}
+use Rattle.std.proofs.Common.{◌≡◌, refl, sym, ap, ◌∙◌, true, false, List, [], ◌++◌, ℕ, ◌+◌, ◌-◌, ◌≤◌, arith, length, get_or, set, take, drop, replicate, length-set, drop_of_length-le, eq-eqb, ne_eqb}
 use Rattle.counting.specs.CountLaws.{count-le, total-none}
 use Rattle.code.specs.Marks.{lost}
 use Rattle.code_engine.specs.Positions.{first_lost}
 use Rattle.code_engine.specs.PositionsLaws.{lost-below, count_next, found-next, found_none, first-none, first_next, rest-zero, first-all, first-full}
 use Rattle.erasures.proofs.find.Goals as goal
-use Rattle.erasures.proofs.find.Goals.{then-marks-i-eq1, else-marks-i-eq1}
+use Rattle.erasures.proofs.find.Goals.{then-marks-i-eq1, then-n-lt4, else-n-lt4, else-marks-i-eq1}
 
 pub loop-i-init : goal.loop-i-init
 loop-i-init c = (
@@ -26,45 +26,45 @@ loop-i-preserved c =
     let n : ℕ = c.loop-i.n in
     let i : ℕ = c.loop-i.i in
     elim c.if-marks-i-eq1.branch [
-        | then-marks-i-eq1 w ↦ (let e : lost m i ≡ true = eq-eqb (get_or m i 0) 1 w.if-marks-i-eq1.true in
-    let k = count_next m i true e in
-    let q : c.if-marks-i-eq1.n ≡ n + 1 = w.n-is in
-    ⊎_elim
-    (λ v.
-    let a : c.if-marks-i-eq1.at ≡ set at n i = w.at-is ∙ v.1 in (
-      omega arith,
-      rw (a, length-set) c.loop-i.invariant.1,
-      omega arith,
-      λ h. rw (a, q) (found-next m at i n (c.loop-i.invariant.3 (omega arith)) (omega arith) e),
-      rw (a, q) (first_next m at i n (omega arith) e v.0.taken c.loop-i.invariant.1 ∙ c.loop-i.invariant.4),
-      rw (a, q) (rest-zero at i n v.0.taken c.loop-i.invariant.1 c.loop-i.invariant.5),
-    ))
-    (λ v.
-    let a : c.if-marks-i-eq1.at ≡ at = w.at-is ∙ v.1 in
-    let f : 4 ≤ n = v.0.left in
-    let past : length at ≤ n + 1 = (let b = c.loop-i.invariant.1 in omega arith) in
-    let none : 0 ≡ 4 - (n + 1) = omega arith in (
-      omega arith,
-      ap length a ∙ c.loop-i.invariant.1,
-      omega arith,
-      λ h. absurd (omega arith),
-      rw (a, q) (first-full (drop (i + 1) m) at (i + 1) (n + 1) (omega arith) c.loop-i.invariant.1
-          ∙ sym (first-full (drop i m) at i n f c.loop-i.invariant.1) ∙ c.loop-i.invariant.4),
-      rw (a, q) (drop_of_length-le at past ∙ ap (λ k. replicate k 0) none),
-    ))
-    w.if-n-lt4.came)
-        | else-marks-i-eq1 w ↦ (let k = count_next m i false (ne_eqb (get_or m i 0) 1 w.if-marks-i-eq1.false) in
-    let a : c.if-marks-i-eq1.at ≡ at = w.at-is in
-    let q : c.if-marks-i-eq1.n ≡ n = w.n-is in
-    let o = ne_eqb (get_or m i 0) 1 w.if-marks-i-eq1.false in (
-      omega arith,
-      ap length a ∙ c.loop-i.invariant.1,
-      omega arith,
-      λ h. rw (a, q) (found_none m at i n (c.loop-i.invariant.3 (omega arith))),
-      rw (a, q) (ap (λ t. take n at ++ t) (first-none m at i n (omega arith) o) ∙ c.loop-i.invariant.4),
-      rw (a, q) c.loop-i.invariant.5,
-    ))
-      ]
+      | then-marks-i-eq1 w ↦ (let e : lost m i ≡ true = eq-eqb (get_or m i 0) 1 w.if-marks-i-eq1.true in
+          let k = count_next m i true e in
+          let q : c.if-marks-i-eq1.n ≡ n + 1 = w.n-is in
+          elim w.if-n-lt4.branch [
+            | then-n-lt4 v ↦ (
+                let a : c.if-marks-i-eq1.at ≡ set at n i = w.at-is ∙ v.at-is in (
+                  omega arith,
+                  rw (a, length-set) c.loop-i.invariant.1,
+                  omega arith,
+                  λ h. rw (a, q) (found-next m at i n (c.loop-i.invariant.3 (omega arith)) (omega arith) e),
+                  rw (a, q) (first_next m at i n (omega arith) e v.if-n-lt4.true c.loop-i.invariant.1 ∙ c.loop-i.invariant.4),
+                  rw (a, q) (rest-zero at i n v.if-n-lt4.true c.loop-i.invariant.1 c.loop-i.invariant.5),
+                ))
+            | else-n-lt4 v ↦ (
+                let a : c.if-marks-i-eq1.at ≡ at = w.at-is ∙ v.at-is in
+                let f : 4 ≤ n = v.if-n-lt4.false in
+                let past : length at ≤ n + 1 = (let b = c.loop-i.invariant.1 in omega arith) in
+                let none : 0 ≡ 4 - (n + 1) = omega arith in (
+                  omega arith,
+                  ap length a ∙ c.loop-i.invariant.1,
+                  omega arith,
+                  λ h. absurd (omega arith),
+                  rw (a, q) (first-full (drop (i + 1) m) at (i + 1) (n + 1) (omega arith) c.loop-i.invariant.1
+                      ∙ sym (first-full (drop i m) at i n f c.loop-i.invariant.1) ∙ c.loop-i.invariant.4),
+                  rw (a, q) (drop_of_length-le at past ∙ ap (λ k. replicate k 0) none),
+                ))
+          ])
+      | else-marks-i-eq1 w ↦ (let k = count_next m i false (ne_eqb (get_or m i 0) 1 w.if-marks-i-eq1.false) in
+          let a : c.if-marks-i-eq1.at ≡ at = w.at-is in
+          let q : c.if-marks-i-eq1.n ≡ n = w.n-is in
+          let o = ne_eqb (get_or m i 0) 1 w.if-marks-i-eq1.false in (
+            omega arith,
+            ap length a ∙ c.loop-i.invariant.1,
+            omega arith,
+            λ h. rw (a, q) (found_none m at i n (c.loop-i.invariant.3 (omega arith))),
+            rw (a, q) (ap (λ t. take n at ++ t) (first-none m at i n (omega arith) o) ∙ c.loop-i.invariant.4),
+            rw (a, q) c.loop-i.invariant.5,
+          ))
+    ]
 
 pub returns : goal.returns
 returns c =

@@ -1,4 +1,4 @@
-use Rattle.std.proofs.Common.{◌≡◌, ◌++◌, ◌+◌, ◌-◌, ◌≤◌, length, take, drop, replicate}
+use Rattle.std.proofs.Common.{◌≡◌, ◌++◌, ◌-◌, ◌≤◌, length, take, drop, replicate}
 use Rattle.counting.specs.Count.{count_below}
 use Rattle.code.specs.Marks.{lost}
 use Rattle.code_engine.specs.Positions.{Positions, first_lost}

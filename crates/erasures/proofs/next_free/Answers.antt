@@ -1,4 +1,4 @@
-use Rattle.std.proofs.Common.{sym, ◌∙◌, false, ◌-◌, arith, below_more}
+use Rattle.std.proofs.Common.{sym, ◌∙◌, arith, below_more}
 use Rattle.erasures.proofs.next_free.Goals as goal
 
 pub loop-i-init : goal.loop-i-init

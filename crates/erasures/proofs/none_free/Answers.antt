@@ -1,6 +1,5 @@
 use Rattle.std.proofs.Common.{◌≡◌, sym, ◌∙◌, subst, false, List, ℕ, ◌+◌, ◌-◌, ◌<◌, ◌≤◌, arith, length, get_or, take, drop, length-drop, get_or-take, get_or-drop, length-take-le}
 use native.Mathlib.Decide.{dec_lt}
-use borrow.Author.Tests.{not-false}
 use Rattle.code_engine.specs.Bound.{free}
 use Rattle.erasures.proofs.Laws.{bound-not-free}
 use Rattle.erasures.proofs.none_free.Goals as goal
@@ -36,7 +35,7 @@ loop-i-preserved c =
       c.loop-i.invariant.2,
       λ p l. elim (dec_lt p c.loop-i.i) [
         | yes h ↦ c.loop-i.invariant.3 p h
-        | no h ↦ sixteen a.marks.now a.bound.now c.loop-i.i (omega arith) (c.all_bound.ensures (not-false _ c.if-not-all_bound.false)) p
+        | no h ↦ sixteen a.marks.now a.bound.now c.loop-i.i (omega arith) (c.all_bound.ensures c.if-not-all_bound.false) p
             (omega arith) l
       ],
     )

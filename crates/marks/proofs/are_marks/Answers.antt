@@ -1,4 +1,4 @@
-use Rattle.std.proofs.Common.{◌≡◌, sym, List, ℕ, ◌-◌, ◌<◌, ◌≤◌, arith, below_none, below_more, get_or}
+use Rattle.std.proofs.Common.{◌≡◌, sym, List, ℕ, ◌<◌, ◌≤◌, arith, below_none, below_more, get_or}
 use Rattle.code_services.specs.MarksLaws.{marks-each, other-mark}
 use Rattle.marks.proofs.are_marks.Goals as goal
 use Rattle.marks.proofs.are_marks.Goals.{then-most-marks, else-most-marks}

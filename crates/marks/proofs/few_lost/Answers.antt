@@ -1,4 +1,4 @@
-use Rattle.std.proofs.Common.{◌≡◌, sym, ap, ◌∙◌, true, false, ◌-◌, arith, eq-eqb, ne_eqb, length, get_or}
+use Rattle.std.proofs.Common.{◌≡◌, sym, ap, ◌∙◌, true, false, arith, eq-eqb, ne_eqb, length, get_or}
 use Rattle.counting.specs.Count.{count_below}
 use Rattle.counting.specs.CountLaws.{total-none}
 use Rattle.code.specs.Marks.{lost}

@@ -1,0 +1,2 @@
+pub mod ContradictionLaws
+pub mod RepairOrderLaws

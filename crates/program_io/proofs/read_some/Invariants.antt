@@ -1,0 +1,7 @@
+-- The buffer keeps its length, and a read that failed took nothing.
+use Rattle.std.proofs.Common.{◌≡◌, length}
+use Rattle.std.specs.Io.KnownBytes.{Keeps}
+use Rattle.program_io.proofs.read_some.Given as goal
+
+abbrev pub invariant-loop : goal.invariant-loop
+invariant-loop g l = (length l.buffer ≡ length l.initial.buffer) × Keeps (g.I.Read.remaining l.initial.input) (g.I.Read.remaining l.input)
