@@ -1,10 +1,10 @@
 -- Lookup, Put and Remove of named shapes, in a text that stands at the start of a lent buffer.
-use Rattle.std.specs.Prelude.{◌≡◌, Bool, not, ◌||◌, List, [], ◌∷◌, ℕ, eqb, ltb, length}
+use Rattle.std.specs.Prelude.{◌≡◌, not, ◌||◌, List, [], ◌∷◌, ℕ, eqb, ltb, length}
 use Rattle.code.specs.Refusals.{refuse, ◌or_else◌, unless_refused}
 use Rattle.shape.specs.Shapes.{byte_limits}
 use Rattle.code.specs.Limits.{sale_refusal_in}
 use Rattle.catalogue_text.specs.Names.{good_name}
-use Rattle.catalogue_text.specs.Catalogue.{Entry, is_gone, Catalogue, catalogue_text}
+use Rattle.catalogue_text.specs.Catalogue.{Entry, is_gone, catalogue_text}
 use Rattle.catalogue_text.specs.Changes.{entry_in, found_revision, last_revision, next_entry, changed_by}
 use Rattle.catalogue_text.specs.Buffers.{formed, catalogue_in, with_text}
 use Rattle.catalogue_calls.specs.declared.Looked.{Looked}

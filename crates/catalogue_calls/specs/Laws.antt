@@ -1,5 +1,5 @@
 -- Lookup, Put and Remove by what a scan finds.
-use Rattle.std.specs.Prelude.{◌≡◌, Bool, true, false, cond, not, ◌||◌, ◌&&◌, List, [], ◌∷◌, ◌++◌, T, eqb, leb, ltb, take, drop}
+use Rattle.std.specs.Prelude.{◌≡◌, true, false, cond, ◌||◌, ◌&&◌, List, [], ◌∷◌, ◌++◌, eqb, leb, ltb, take, drop}
 use Rattle.std.proofs.Math.Path.{refl, subst}
 use Rattle.std.proofs.Common.{sym, ap, ap₂, ◌∙◌, append_assoc, leb→le, length-drop, length-take-le, take-take}
 use Prim.Native.Nat.{ℕ, zero, suc, ◌+◌, ◌-◌, ◌≤◌, ◌<◌}
@@ -7,15 +7,15 @@ use native.Mathlib.Omega.{arith}
 use borrow.Author.Tests.{lt-ltb, le-ltb, eq-eqb, ne_eqb}
 use Rattle.std.proofs.Math.ListN.{length, length-append}
 use Rattle.counting.specs.TestLaws.{and_l, and_r}
-use Rattle.code.specs.Refusals.{refuse, ◌or_else◌}
+use Rattle.code.specs.Refusals.{refuse}
 use Rattle.shape.specs.Shapes.{byte_limits}
 use Rattle.code.specs.Limits.{sale_refusal_in}
 use Rattle.text.specs.Written.{written}
 use Rattle.catalogue_text.specs.Names.{name_bytes, good_name}
 use Rattle.catalogue_text.specs.NamesLaws.{true-is}
-use Rattle.catalogue_text.specs.Catalogue.{Entry, is_gone, Catalogue, first_line, entry_line, lines_of, catalogue_text, catalogue_of}
+use Rattle.catalogue_text.specs.Catalogue.{Entry, Catalogue, first_line, entry_line, lines_of, catalogue_text}
 use Rattle.catalogue_text.specs.CatalogueLaws.{cat-version, first-grows}
-use Rattle.catalogue_text.specs.Changes.{entry_in, put_in, found_revision, last_revision, next_entry, changed_by}
+use Rattle.catalogue_text.specs.Changes.{put_in, found_revision, last_revision, next_entry, changed_by}
 use Rattle.catalogue_text.specs.Buffers.{formed, catalogue_in, with_text}
 use Rattle.catalogue_text.specs.BuffersLaws.{Formed, formed-parts, formed-good}
 use Rattle.catalogue_scan.specs.declared.Place.{Place}

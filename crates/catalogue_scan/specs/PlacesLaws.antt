@@ -1,9 +1,9 @@
 -- The place of a name: the entry that it has, and the text with another line there.
-use Rattle.std.specs.Prelude.{◌≡◌, refl, Bool, cond, ◌&&◌, ℕ, ◌+◌, ◌≤◌, T}
-use Rattle.std.proofs.Common.{sym, ap₂, ◌∙◌, arith}
+use Rattle.std.specs.Prelude.{◌≡◌, refl, Bool, ◌&&◌, ℕ, ◌+◌, ◌≤◌, T}
+use Rattle.std.proofs.Common.{sym, ◌∙◌, arith}
 use Rattle.std.proofs.Math.Path.{ap, subst}
 use Rattle.std.proofs.Math.Bool.{true, false}
-use mathlib.Core.List.{List, [], ◌∷◌, ◌++◌, append_assoc, append-nil}
+use mathlib.Core.List.{List, [], ◌∷◌, ◌++◌, append_assoc}
 use Rattle.std.proofs.Math.ListN.{length, take, drop, length-append}
 use Rattle.std.proofs.Math.Seq.{take_at, drop_at}
 use Rattle.counting.specs.TestLaws.{and_l, and_r}
@@ -11,7 +11,7 @@ use Rattle.text.specs.Fields.{same}
 use Rattle.text.specs.FieldLaws.{same-eq}
 use Rattle.catalogue_text.specs.Names.{before}
 use Rattle.catalogue_text.specs.NamesLaws.{is_true, before-only, before-else, before-trans, same-sym}
-use Rattle.catalogue_text.specs.Catalogue.{Entry, good_entry, good_from, good_list, Catalogue, good_catalogue, good_version, first_line, entry_line, lines_of}
+use Rattle.catalogue_text.specs.Catalogue.{Entry, good_entry, good_from, Catalogue, first_line, entry_line, lines_of}
 use Rattle.catalogue_text.specs.Catalogue.{catalogue_text}
 use Rattle.catalogue_text.specs.Catalogue.{catalogue_of, of_form}
 use Rattle.catalogue_text.specs.CatalogueLaws.{cat-list, read-good, text-of-read}

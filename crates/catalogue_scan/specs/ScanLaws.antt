@@ -1,22 +1,20 @@
 -- A scan line by line: what is known at the start of each line.
 use Rattle.std.proofs.Math.Path.{◌≡◌, refl, sym, ap}
-use Rattle.std.proofs.Common.{ap₂, ◌∙◌, subst, arith, ne_eqb, leb-true, leb→le, length-drop, length-take, drop-cons, drop-drop, length-take-le, take-take}
-use Rattle.std.specs.Prelude.{Bool, ◌&&◌, leb, get_or, take}
+use Rattle.std.proofs.Common.{◌∙◌, subst, arith, ne_eqb, length-take, drop-cons, drop-drop, take-take}
+use Rattle.std.specs.Prelude.{Bool, ◌&&◌, take}
 use Rattle.std.proofs.Math.Bool.{true, false, cond}
-use mathlib.Core.List.{List, [], ◌∷◌, ◌++◌}
-use Prim.Native.Nat.{ℕ, suc, ◌+◌, ◌-◌, ◌≤◌, ◌<◌}
+use mathlib.Core.List.{List, [], ◌∷◌}
+use Prim.Native.Nat.{ℕ, ◌+◌, ◌-◌, ◌≤◌, ◌<◌}
 use Rattle.std.proofs.Math.Nat.{zero-add}
 use Rattle.std.proofs.Math.Numerals.{add-one}
 use Rattle.std.proofs.Math.Dec.{T, eqb}
 use Rattle.std.proofs.Math.ListN.{length, drop, length-append, drop_of_length-le}
-use Rattle.counting.specs.TestLaws.{and_l, and_r, and_intro}
-use Rattle.text.specs.Fields.{parts, same, up_to, later, end_of}
-use Rattle.text.specs.FieldLaws.{parts-split, parts_all, parts-end, part-taken, take_part, same-eq}
+use Rattle.text.specs.Fields.{parts, up_to, later, end_of}
+use Rattle.text.specs.FieldLaws.{parts-split, parts_all, parts-end, take_part}
 use Rattle.text.specs.Records.{line_name}
-use Rattle.text.specs.RecordLaws.{line-values}
 use Rattle.catalogue_text.specs.Names.{good_name, before}
 use Rattle.catalogue_text.specs.NamesLaws.{is_true, true-is, and_none, and-all, name-some}
-use Rattle.catalogue_text.specs.Catalogue.{Entry, is_gone, none_gone, first_line, entry_line, entry_of, entries_of, is_one, floor_of, catalogue_of, of_form}
+use Rattle.catalogue_text.specs.Catalogue.{none_gone, first_line, entry_line, entry_of, entries_of, is_one, floor_of, catalogue_of, of_form}
 use Rattle.catalogue_text.specs.LineLaws.{entry-good}
 use Rattle.catalogue_text.specs.CatalogueLaws.{line_good, line_right, rest_right, is_empty, rest_more, rest_end, entries-more, entries-end, good-read}
 use Rattle.catalogue_text.specs.CatalogueLaws.{good-line, right-good, read_name}

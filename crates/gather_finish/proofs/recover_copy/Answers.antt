@@ -1,0 +1,108 @@
+use Rattle.std.proofs.Common.{◌≡◌, sym, ap, ◌∙◌, List, ◌++◌, ℕ, ◌≤◌, arith, length, take, length-append, length-take-le, take_at}
+use Rattle.answers.specs.declared.Mending.{Mending}
+use Rattle.answers.specs.Answers.{mending_at}
+use Rattle.code.specs.Refusals.{unless_refused}
+use Rattle.code.specs.RefusalsLaws.{unless-refused}
+use Rattle.code.specs.Outcome.{Outcome}
+use Rattle.code.specs.LimitsLaws.{places-most}
+use Rattle.byte_edition.specs.Edition.{byte_edition}
+use Rattle.code_services.specs.Recover.{recover_in}
+use Rattle.gather_record.specs.declared.Gather.{Gather}
+use Rattle.gather_record.specs.Record.{Whole}
+use Rattle.gather_record.proofs.Laws.{whole}
+use Rattle.gather_finish.specs.Finish.{finish_refusal, gather_recovery}
+use Rattle.gather_finish.specs.FinishLaws.{finish-parts, mending-is, mending-some}
+use Rattle.code_services.specs.Answered.{AnswersBy}
+use Rattle.code_services.specs.AnsweredLaws.{answers_at}
+use Rattle.gather_finish.proofs.recover_copy.Goals as goal
+
+-- a word of the record's size fits its arrays
+room : (size : ℕ) (g : Gather) → finish_refusal size g ≡ 0 → size ≤ 240
+room size g e = let R = finish-parts size g e in let k = places-most R.opened.good in omega (arith, R.fits)
+
+within-bytes : (size : ℕ) (g : Gather) → finish_refusal size g ≡ 0 → Whole g → size ≤ length g.bytes
+within-bytes size g e W = omega (arith, room size g e, W.bytes-long)
+
+within-marks : (size : ℕ) (g : Gather) → finish_refusal size g ≡ 0 → Whole g → size ≤ length g.marks
+within-marks size g e W = omega (arith, room size g e, W.marks-long)
+
+-- the recovery of the first n bytes and marks
+abbrev first : Gather → ℕ → Outcome
+first g n = recover_in byte_edition g.m g.w g.c (take n g.bytes) (take n g.marks)
+
+-- it is called for over the word's own length
+is-asked : (size : ℕ) (g : Gather) → finish_refusal size g ≡ 0 → first g size ≡ gather_recovery g
+is-asked size g e = ap (first g) (finish-parts size g e).fits
+
+-- what the recovery answers, for a record
+abbrev Answered : Gather → Mending → Type 0
+Answered g a = a ≡ mending_at (gather_recovery g).number (gather_recovery g).group
+
+answer : (size : ℕ) (g : Gather) (a : Mending) → finish_refusal size g ≡ 0 → AnswersBy a (first g size) → Answered g a
+answer size g a e h = answers_at h ∙ ap (λ o. mending_at o.number o.group) (is-asked size g e)
+
+-- a refusal's number is not 0, and the word stays
+stays : (g : Gather) (word : List ℕ) → ((gather_recovery g).number ≡ 0 → ⊥)
+    → word ≡ unless_refused (gather_recovery g).number (gather_recovery g).word word
+stays g word some = sym (unless-refused _ _ _ some)
+
+-- what the recovery left is as long as the word
+kept : (size : ℕ) (found : List ℕ) (g : Gather) → finish_refusal size g ≡ 0 → Whole g → length found ≡ length (take size g.bytes) → length found ≡ size
+kept size found g e W h = h ∙ length-take-le size g.bytes (within-bytes size g e W)
+
+kept-within : (size : ℕ) (found : List ℕ) (g : Gather) (rest : List ℕ) → finish_refusal size g ≡ 0 → Whole g → length found ≡ length (take size g.bytes)
+    → size ≤ length (found ++ rest)
+kept-within size found g rest e W h = simp length-append (omega (arith, kept size found g e W h))
+
+pub slice_bounds-found-end : goal.slice_bounds-found-end
+slice_bounds-found-end c = within-bytes _ _ c.requires (whole c.args.gather _ c.well_formed.0)
+
+pub slice_bounds-recover-end : goal.slice_bounds-recover-end
+slice_bounds-recover-end c = sym (length-take-le _ c.args.gather.bytes (within-bytes _ _ c.requires (whole c.args.gather _ c.well_formed.0)))
+
+pub slice_bounds-marks-end : goal.slice_bounds-marks-end
+slice_bounds-marks-end c = within-marks _ _ c.requires (whole c.args.gather _ c.well_formed.0)
+
+pub slice_bounds-recover-end-2 : goal.slice_bounds-recover-end-2
+slice_bounds-recover-end-2 c = sym (length-take-le _ c.args.gather.marks (within-marks _ _ c.requires (whole c.args.gather _ c.well_formed.0)))
+
+pub slice_bounds-found-end-in-Done : goal.slice_bounds-found-end-in-Done
+slice_bounds-found-end-in-Done c =
+    kept-within _ _ c.args.gather _ c.requires (whole c.args.gather _ c.well_formed.0) c.recover.auto.word
+
+pub slice_bounds-copy-end : goal.slice_bounds-copy-end
+slice_bounds-copy-end c =
+    sym (length-take-le _ _ (kept-within _ _ c.args.gather _ c.requires (whole c.args.gather _ c.well_formed.0) c.recover.auto.word))
+
+pub returns-in-Done : goal.returns-in-Done
+returns-in-Done c =
+    let g = c.args.gather in
+    let n = length c.args.word.now in
+    let W = whole g _ c.well_formed.0 in
+    let o = gather_recovery g in
+    let q : Mending.Done ≡ mending_at o.number o.group = sym c.in-Done.is ∙ answer n g _ c.requires c.recover.ensures.answer in
+    let z : o.number ≡ 0 = mending-is o.number o.group q in
+    record {
+      answer = q;
+      word = c.copy.ensures.to_after (length-take-le _ _ (kept-within n c.recover.new.word g _ c.requires W c.recover.auto.word))
+          ∙ take_at c.recover.new.word _ n (kept n c.recover.new.word g c.requires W c.recover.auto.word)
+          ∙ c.recover.ensures.word
+          ∙ ap (λ x. x.word) (is-asked n g c.requires)
+          ∙ sym (ap (λ r. unless_refused r o.word c.args.word.now) z);
+    }
+
+pub returns-in-Contradictory : goal.returns-in-Contradictory
+returns-in-Contradictory c =
+    let g = c.args.gather in
+    let o = gather_recovery g in
+    let r = c.in-Contradictory.group in
+    let q : Mending.Contradictory r ≡ mending_at o.number o.group = sym c.in-Contradictory.is ∙ answer _ g _ c.requires c.recover.ensures.answer in
+    record { answer = q; word = stays g _ (λ z. let e = mending-is o.number o.group q in omega arith) }
+
+pub returns-in-Refused : goal.returns-in-Refused
+returns-in-Refused c =
+    let g = c.args.gather in
+    let o = gather_recovery g in
+    let r = c.in-Refused.r in
+    let q : Mending.Refused r ≡ mending_at o.number o.group = sym c.in-Refused.is ∙ answer _ g _ c.requires c.recover.ensures.answer in
+    record { answer = q; word = stays g _ (mending-some o.number o.group r q) }
