@@ -9,5 +9,8 @@ pub returns : goal.returns
 returns c =
     let a = c.args in
     let e = c.copy.ensures.to_after (sym c.requires) in
-    let E = c.recover.ensures in record { value = answers_at E.answer ∙ ap (λ x. mending_at (recover_in byte_edition a.m a.w a.c a.word.now x).number
-          (recover_in byte_edition a.m a.w a.c a.word.now x).group) e; word_after = E.word ∙ ap (λ x. (recover_in byte_edition a.m a.w a.c a.word.now x).word) e }
+    let E = c.recover.ensures in record {
+      value = answers_at E.answer ∙ ap (λ x. mending_at (recover_in byte_edition a.m a.w a.c a.word.now x).number
+          (recover_in byte_edition a.m a.w a.c a.word.now x).group) e;
+      word_after = E.word ∙ ap (λ x. (recover_in byte_edition a.m a.w a.c a.word.now x).word) e;
+    }

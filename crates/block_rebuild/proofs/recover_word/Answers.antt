@@ -24,5 +24,8 @@ unfolding word_outcome
 returns c =
     let a = c.args in
     let e = c.gather.ensures ∙ ap (λ n. block_word n a.size a.blocks.now a.x) c.requires.word_len in
-    let E = c.recover_by.ensures in record { value = E.value ∙ ap (λ v. mending_at (recover_in byte_edition a.m a.w a.c v a.marks.now).number
-          (recover_in byte_edition a.m a.w a.c v a.marks.now).group) e; word_after = E.word_after ∙ ap (λ v. (recover_in byte_edition a.m a.w a.c v a.marks.now).word) e }
+    let E = c.recover_by.ensures in record {
+      value = E.value ∙ ap (λ v. mending_at (recover_in byte_edition a.m a.w a.c v a.marks.now).number
+          (recover_in byte_edition a.m a.w a.c v a.marks.now).group) e;
+      word_after = E.word_after ∙ ap (λ v. (recover_in byte_edition a.m a.w a.c v a.marks.now).word) e;
+    }
