@@ -1,4 +1,4 @@
-use Rattle.std.proofs.Common.{◌≡◌, refl, sym, ap, ◌∙◌, subst, true, List, ℕ, suc, ◌≤◌, ◌-◌, ◌+◌, arith, length, get_or, w8, eq-eqb, ne_eqb}
+use Rattle.std.proofs.Common.{◌≡◌, refl, sym, ap, ◌∙◌, subst, true, List, ℕ, suc, ◌≤◌, ◌+◌, arith, length, get_or, w8, eq-eqb, ne_eqb}
 use Rattle.counting.specs.Count.{count_below}
 use Rattle.code.specs.Marks.{lost, lost_in}
 use Rattle.byte_edition.specs.Edition.{byte_edition}

@@ -1,4 +1,4 @@
-use Rattle.std.proofs.Common.{◌≡◌, ℕ, ◌+◌, ◌*◌, ◌-◌, ◌≤◌, ◌<◌, mul-le-mul, le-mul_of_pos_right, get_or, arith}
+use Rattle.std.proofs.Common.{◌≡◌, ℕ, ◌+◌, ◌*◌, ◌≤◌, ◌<◌, mul-le-mul, le-mul_of_pos_right, get_or, arith}
 use native.Mathlib.Decide.{ℕ_discrete}
 use Rattle.block_sums.proofs.aimed.Goals as goal
 

@@ -1,4 +1,4 @@
-use Rattle.std.proofs.Common.{add-one, ◌≡◌, refl, ap, ◌∙◌, List, ℕ, ◌+◌, ◌*◌, ◌-◌, ◌≤◌, suc-mul, get_or, arith}
+use Rattle.std.proofs.Common.{add-one, ◌≡◌, refl, ap, ◌∙◌, List, ℕ, ◌+◌, ◌*◌, ◌≤◌, suc-mul, get_or, arith}
 use Rattle.block_sums.specs.WriteLaws.{strip-more}
 use Rattle.block_sums.proofs.write_strip.Goals as goal
 
