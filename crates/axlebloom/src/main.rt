@@ -2,60 +2,100 @@
 
 #![tactic(auto)]
 
-use libc::STDERR_FILENO;
-use program_io::Request;
+ghost use Rattle.std.specs.Prelude.{◌≡◌, ℕ, true, take, IfSome};
+ghost use Rattle.std.specs.Io.KnownBytes.{Appends};
+ghost use Rattle.text_stream.specs.Session.{session_of};
+ghost use Rattle.text_stream.specs.States.{point_of};
+ghost use Rattle.text_stream.specs.Whole.{at_once};
+ghost use Rattle.axlebloom.specs.Runs.{GoesOn, Ends, WritesFront};
+
+use program_io::{Outputs, Request};
+use std::io::{Read, Write};
+use std::rt::Clock;
 use text_stream::State;
 
 // Writes all of the bytes to standard output, or says on standard error why not.
-fn put(bytes: &[u8]) -> bool {
-    program_io::write_out(bytes, b"axlebloom: standard output")
+fn put<O: Write, E: Write, C: Clock>(to: &mut Outputs<O, E, C>, bytes: &[u8]) -> bool
+    ensures all { result ≡ true → Appends (O.contents to.old.output) (O.contents to.new.output) bytes.now }
+    ensures part { (k : ℕ) × Appends (O.contents to.old.output) (O.contents to.new.output) (take k bytes.now) }
+{
+    program_io::write_out(to, bytes, b"axlebloom: standard output")
 }
 
-// The state of the session, and whether the run goes on.
+// The state of the session, whether the run goes on, and whether it has come to the end of the input with all of its answers written.
 #[derive(Clone, Copy)]
 struct Run {
     state: State,
     on: bool,
+    whole: bool,
 }
 
 // Reads once, and writes what the bytes add to the output, or the end of the input does.
-fn turn(state: State) -> Run {
-    let mut input = [0u8; 1024];
+fn turn<I: Read, O: Write, E: Write, C: Clock>(
+    input: &mut I,
+    to: &mut Outputs<O, E, C>,
+    state: State,
+) -> Run
+    ensures on { result.on ≡ true → GoesOn (I.remaining input.old) (I.remaining input.new) (O.contents to.old.output) (O.contents to.new.output) (point_of state) (point_of result.state) }
+    ensures whole { result.whole ≡ true → Ends (I.remaining input.old) (O.contents to.old.output) (O.contents to.new.output) (point_of state) }
+    ensures front { IfSome (I.remaining input.old) (λ xs. WritesFront (O.contents to.old.output) (O.contents to.new.output) (at_once (point_of state) xs)) }
+{
+    let mut bytes = [0u8; 1024];
     let mut out = [0u8; 24588];
-    let got = program_io::read_some(&mut input);
-    if got < 0 {
-        os::fail(b"axlebloom: standard input");
-        return Run { state, on: false };
+    match program_io::read_some(input, &to.clock, &mut bytes) {
+        Err(e) => {
+            program_io::fail(&mut to.errors, b"axlebloom: standard input", e);
+            Run {
+                state,
+                on: false,
+                whole: false,
+            }
+        }
+        Ok(0) => {
+            let size = text_stream::finish(state, &mut out);
+            let whole = put(to, &out[..size]);
+            Run {
+                state,
+                on: false,
+                whole,
+            }
+        }
+        Ok(count) => {
+            let step = text_stream::take(state, &bytes, count, &mut out);
+            let size = step.length;
+            let on = put(to, &out[..size]);
+            Run {
+                state: step.state,
+                on,
+                whole: false,
+            }
+        }
     }
-    if got == 0 {
-        let size = text_stream::finish(state, &mut out);
-        put(&out[..size]);
-        return Run { state, on: false };
-    }
-    let count = io::count(got, &input);
-    let step = text_stream::take(state, &input, count, &mut out);
-    let size = step.length;
-    let on = put(&out[..size]);
-    let after = step.state;
-    Run { state: after, on }
 }
 
+// Answers the input to its end, and tells whether all of it was written; if not, standard error says why.
 // A proved loop must terminate, but the input might not end, so the loop counts down from a number that no run can exhaust.
-fn run_all() {
+fn run_all<I: Read, O: Write, E: Write, C: Clock>(input: &mut I, to: &mut Outputs<O, E, C>) -> bool
+    ensures whole { result ≡ true → IfSome (I.remaining input.old) (λ xs. Appends (O.contents to.old.output) (O.contents to.new.output) (session_of xs)) }
+    ensures front { IfSome (I.remaining input.old) (λ xs. WritesFront (O.contents to.old.output) (O.contents to.new.output) (session_of xs)) }
+{
     let mut run = Run {
         state: text_stream::start(),
         on: true,
+        whole: false,
     };
     let mut turns = u64::MAX;
     while turns > 0 && run.on {
-        run = turn(run.state);
+        run = turn(input, to, run.state);
         turns -= 1;
     }
+    run.whole
 }
 
 // Writes what --help asks for.
-fn write_help() -> bool {
+fn write_help<O: Write, E: Write, C: Clock>(to: &mut Outputs<O, E, C>) -> bool {
     put(
+        to,
         b"\
 usage: axlebloom < INPUT > OUTPUT\n\
 \n\
@@ -76,25 +116,37 @@ A line that cannot be carried out gets: refused and a number; after 9, also a gr
 }
 
 // An entry of the list of numbers.
-fn entry(number: u8, advice: &[u8]) -> bool {
-    program_io::entry(number, advice, b"axlebloom: standard output")
+fn entry<O: Write, E: Write, C: Clock>(
+    to: &mut Outputs<O, E, C>,
+    number: u8,
+    advice: &[u8],
+) -> bool {
+    program_io::entry(to, number, advice, b"axlebloom: standard output")
 }
 
 // An entry of the list of numbers, with what the number means in this program.
-fn entry_as(number: u8, meaning: &[u8], advice: &[u8]) -> bool {
-    program_io::entry_as(number, meaning, advice, b"axlebloom: standard output")
+fn entry_as<O: Write, E: Write, C: Clock>(
+    to: &mut Outputs<O, E, C>,
+    number: u8,
+    meaning: &[u8],
+    advice: &[u8],
+) -> bool {
+    program_io::entry_as(to, number, meaning, advice, b"axlebloom: standard output")
 }
 
 // The entries of the refusals of a data line or a word line.
-fn word_entries() -> bool {
+fn word_entries<O: Write, E: Write, C: Clock>(to: &mut Outputs<O, E, C>) -> bool {
     entry_as(
+        to,
         5,
         b"the number of bytes does not match the shape",
         b"Give k bytes after data and n after word; the answer to shape shows n, then k.",
     ) && entry(
+        to,
         8,
         b"Bring back at least one lost place and send the word again. One may not be enough.",
     ) && entry(
+        to,
         9,
         b"\
 At least one byte of the word is wrong (or the lost places or the shape are);\n\
@@ -107,42 +159,60 @@ At least one byte of the word is wrong (or the lost places or the shape are);\n\
 }
 
 // Writes what --numbers asks for.
-fn write_numbers() -> bool {
+fn write_numbers<O: Write, E: Write, C: Clock>(to: &mut Outputs<O, E, C>) -> bool {
     put(
+        to,
         b"\
 A line that cannot be carried out gets: refused and one of these numbers. It changes\n\
 nothing: the shape before it stays in force.\n\
 \n",
-    ) && program_io::shape_entries(b"axlebloom: standard output")
-        && word_entries()
+    ) && program_io::shape_entries(to, b"axlebloom: standard output")
+        && word_entries(to)
         && entry_as(
+            to,
             14,
             b"the line cannot be read",
             b"\
 Check its name, its tabs and its numbers (0 to 255, no sign or leading zero). It has\n\
 \x20   1 to 1024 bytes and ends with a line feed, without a carriage return.",
         )
-        && entry(15, b"Send a shape line first, and see it answered by ok.")
         && entry(
+            to,
+            15,
+            b"Send a shape line first, and see it answered by ok.",
+        )
+        && entry(
+            to,
             29,
             b"Encode with c from 1 to 3. Words with c = 4 can still be recovered.",
         )
 }
 
-fn main() {
-    match program_io::asked() {
-        Request::Run => run_all(),
+fn main(rt: HostRuntime) {
+    let mut to = Outputs {
+        output: rt.stdout(),
+        errors: rt.stderr(),
+        clock: rt,
+    };
+    match program_io::asked(&rt) {
+        Request::Run => {
+            run_all(&mut rt.stdin(), &mut to);
+        }
         Request::Help => {
-            write_help();
+            write_help(&mut to);
         }
         Request::Version => {
-            put(b"axlebloom 1.1.1\n");
+            put(&mut to, b"axlebloom 1.1.1\n");
         }
         Request::Numbers => {
-            write_numbers();
+            write_numbers(&mut to);
         }
         Request::Unknown => {
-            program_io::write_some(STDERR_FILENO, b"axlebloom: unknown argument: try --help\n");
+            let _ = program_io::write_some(
+                &mut to.errors,
+                &rt,
+                b"axlebloom: unknown argument: try --help\n",
+            );
         }
     }
 }

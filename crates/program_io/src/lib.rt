@@ -15,6 +15,7 @@ use std::time::Duration;
 use std::{fmt, io, thread};
 
 // Where a program writes, and the clock by which it waits.
+#[derive(Drop)]
 pub struct Outputs<O, E, C> {
     pub output: O,
     pub errors: E,
