@@ -1,20 +1,19 @@
 -- Laws: The equations of one group reduced at the places that it keeps.
-use Rattle.std.specs.Prelude.{◌≡◌, refl, Bool, List, ℕ, zero, suc, ◌+◌, ◌-◌, ◌*◌, ◌<◌, ◌≤◌, ◌^◌, ltb}
+use Rattle.std.specs.Prelude.{◌≡◌, refl, Bool, List, ℕ, suc, ◌+◌, ◌-◌, ◌*◌, ◌<◌, ◌≤◌, ◌^◌, ltb}
 use Rattle.std.proofs.Math.Path.{sym, ap, ap₂, subst}
-use Rattle.std.proofs.Common.{◌∙◌, true≢false, eq-eqb, ne_eqb, lt-ltb, le-ltb, pow_pos}
+use Rattle.std.proofs.Common.{◌∙◌, true≢false, lt-ltb, le-ltb, pow_pos}
 use Rattle.std.proofs.Math.Bool.{true, false, cond}
 use Rattle.std.proofs.Math.Nat.{add-zero}
 use native.Mathlib.Omega.{arith}
-use Rattle.std.proofs.Math.Decide.{ℕ_discrete, dec_lt, dec_le}
+use Rattle.std.proofs.Math.Decide.{ℕ_discrete, dec_lt}
 use Rattle.std.proofs.Math.Dec.{eqb}
 use Rattle.std.proofs.Math.ListN.{get_or}
-use Rattle.counting.specs.Count.{one, count_below, total_below}
+use Rattle.counting.specs.Count.{one, count_below}
 use Rattle.counting.specs.CountLaws.{total_mono, total-none, total-suc, total-append, total-zero, count-ext, count_next}
 use Rattle.binary_field.specs.Xor.{◌⊕◌}
-use Rattle.binary_field.specs.XorLaws.{⊕-self, ⊕-zero-l, ⊕-zero-r, ⊕-cancel}
+use Rattle.binary_field.specs.XorLaws.{⊕-self, ⊕-zero-r}
 use Rattle.binary_field.specs.ProductLaws.{product-comm, product-assoc, product-add, product-zero, zero-product, product-one, product_lt}
-use Rattle.binary_field.specs.Sum.{sum_below}
-use Rattle.binary_field.specs.SumLaws.{sum-ext, sum-zero, sum-add, sum-single, scale-sum, sum_lt}
+use Rattle.binary_field.specs.SumLaws.{sum-ext, sum-zero, sum-add, scale-sum, sum_lt}
 use Rattle.binary_field.specs.Inverse.{inverse}
 use Rattle.binary_field.specs.InverseLaws.{product-inverse}
 use Rattle.code.specs.Edition.{Edition, Sound, times, raised}
@@ -23,7 +22,7 @@ use Rattle.code.specs.Marks.{lost, lost_in}
 use Rattle.code.specs.Blank.{blank}
 use Rattle.code.specs.BlankLaws.{blank-at, blank-group}
 use Rattle.code.specs.Determined.{list_of}
-use Rattle.code.specs.DeterminedLaws.{list_length, list_at, local-unique}
+use Rattle.code.specs.DeterminedLaws.{list_at, local-unique}
 use Rattle.code.specs.OneGroup.{LocalWay}
 use Rattle.code.specs.OneGroupLaws.{local-way}
 use Rattle.code.specs.StretchLaws.{own-place}

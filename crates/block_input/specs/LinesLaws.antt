@@ -1,6 +1,6 @@
 -- Laws: The first line of an input and what comes after it.
-use Rattle.std.specs.Prelude.{◌≡◌, refl, Bool, true, false, cond, ◌||◌, List, [], ◌∷◌, ℕ, suc, ◌+◌, ◌≤◌, eqb, ltb, length, take, drop}
-use Rattle.std.proofs.Common.{sym, ap, ◌∙◌, arith, lt-ltb, ltb-true, length-drop, length-take-le}
+use Rattle.std.specs.Prelude.{◌≡◌, refl, Bool, true, false, cond, ◌||◌, List, [], ◌∷◌, ℕ, suc, ◌≤◌, eqb, ltb, length, take, drop}
+use Rattle.std.proofs.Common.{sym, ◌∙◌, arith, lt-ltb, ltb-true, length-take-le}
 use Rattle.std.proofs.Math.Dec.{leb-suc-suc}
 use Rattle.text.specs.FieldLaws.{take_part}
 use Rattle.text.specs.Fields.{up_to}

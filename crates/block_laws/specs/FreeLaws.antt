@@ -3,13 +3,13 @@ use Rattle.std.specs.Prelude.{◌≡◌, refl, Bool, not, ◌&&◌, List, T, eqb
 use Rattle.std.proofs.Math.Path.{sym, ap, ap₂}
 use Rattle.std.proofs.Common.{◌∙◌, subst, div-add-mod', mod-lt, div-lt_iff_lt-mul, mul-le-mul_right, arith, eq-eqb, ne_eqb, lit<}
 use Rattle.std.proofs.Math.Bool.{true, false, cond, true≢false}
-use Prim.Native.Nat.{ℕ, zero, suc, ◌+◌, ◌*◌, ◌/◌, ◌%◌, ◌<◌, ◌≤◌}
+use Prim.Native.Nat.{ℕ, suc, ◌+◌, ◌*◌, ◌/◌, ◌%◌, ◌<◌, ◌≤◌}
 use Rattle.std.proofs.Math.Decide.{ℕ_discrete, dec_lt}
 use Rattle.counting.specs.Test.{any_below}
 use Rattle.counting.specs.TestLaws.{any_at, none-at}
 use Rattle.binary_field.specs.Xor.{◌⊕◌}
 use Rattle.binary_field.specs.XorLaws.{⊕-self, ⊕-zero-l, ⊕-zero-r, ⊕-cancel, ⊕-lt}
-use Rattle.binary_field.specs.ProductLaws.{product-comm, product-assoc, product-add, add-product, product-zero, zero-product, product-one, product_lt, ring}
+use Rattle.binary_field.specs.ProductLaws.{product-comm, product-assoc, product-add, product-zero, zero-product, product-one, product_lt, ring}
 use Rattle.binary_field.specs.Sum.{sum_below}
 use Rattle.binary_field.specs.SumLaws.{sum-ext, sum-zero, sum-add, sum-single, scale-sum, sum_lt}
 use Rattle.shape.specs.Shapes.{byte_limits}

@@ -1,5 +1,5 @@
 -- One group of a block rebuild: its six equations, and the constants that stand for them at the places that are not bound.
-use Rattle.std.specs.Prelude.{◌≡◌, true, false, cond, List, ℕ, zero, suc, ◌+◌, ◌*◌, ◌<◌, ◌≤◌, ◌^◌, get_or}
+use Rattle.std.specs.Prelude.{◌≡◌, true, false, cond, List, ℕ, zero, suc, ◌+◌, ◌*◌, ◌<◌, get_or}
 use Rattle.code.specs.Edition.{raised}
 use Rattle.code.specs.Word.{coefficient, second_coefficient}
 use Rattle.code.specs.Marks.{lost, lost_in}

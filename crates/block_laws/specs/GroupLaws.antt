@@ -1,7 +1,7 @@
 -- Laws: One group of a block rebuild.
-use Rattle.std.specs.Prelude.{◌≡◌, Bool, List, ℕ, zero, suc, ◌+◌, ◌*◌, ◌<◌, ◌≤◌, ◌^◌, eqb, length}
+use Rattle.std.specs.Prelude.{◌≡◌, Bool, List, ℕ, zero, suc, ◌<◌, ◌≤◌, length}
 use Rattle.std.proofs.Math.Path.{refl, sym, ap, ap₂}
-use Rattle.std.proofs.Common.{◌∙◌, subst, true≢false, lit<}
+use Rattle.std.proofs.Common.{◌∙◌, true≢false, lit<}
 use Rattle.std.proofs.Math.Bool.{true, false, cond}
 use native.Mathlib.Omega.{arith}
 use Rattle.std.proofs.Math.Decide.{ℕ_discrete, dec_lt}
@@ -9,15 +9,13 @@ use Rattle.std.proofs.Math.ListN.{get_or}
 use Rattle.counting.specs.Count.{count_below}
 use Rattle.counting.specs.CountLaws.{count_next}
 use Rattle.binary_field.specs.Xor.{◌⊕◌}
-use Rattle.binary_field.specs.XorLaws.{⊕-self, ⊕-zero-l, ⊕-zero-r, ⊕-cancel, ⊕-comm}
-use Rattle.binary_field.specs.ProductLaws.{product-comm, product-assoc, product-zero, zero-product, product-one, product_lt}
+use Rattle.binary_field.specs.XorLaws.{⊕-zero-l, ⊕-zero-r, ⊕-cancel}
+use Rattle.binary_field.specs.ProductLaws.{product-assoc, product-zero, zero-product, product-one, product_lt}
 use Rattle.binary_field.specs.Sum.{sum_below}
 use Rattle.binary_field.specs.SumLaws.{sum-ext, sum-zero, sum-single, sum-swap, sum-scale, scale-sum, sum_lt}
 use Rattle.code.specs.Edition.{times, raised}
 use Rattle.code.specs.Word.{group_sum, local_sum, coefficient}
 use Rattle.code.specs.Marks.{lost, lost_in}
-use Rattle.code.specs.Blank.{blank}
-use Rattle.code.specs.BlankLaws.{blank-at, blank-group}
 use Rattle.code.specs.OneGroup.{LocalWay}
 use Rattle.code.specs.OneGroupLaws.{local-way, way-share}
 use Rattle.code.specs.StretchLaws.{own-place}
@@ -27,7 +25,6 @@ use Rattle.code_engine.specs.EliminationSteps.{identity}
 use Rattle.code_engine.specs.EliminationStepsLaws.{identity-same, identity-other}
 use Rattle.block_constants.specs.Reduced.{dot, Meets, ReducedTo}
 use Rattle.block_constants.specs.ReducedLaws.{dot-ext, dot-added}
-use Rattle.code_engine.specs.PositionsLaws.{lost-below}
 use Rattle.block_laws.specs.Group.{check_of, group_of, masked, Fills, AgreesIn, Mendable, StandsFor, Gives}
 
 pub check-local : (c g e : ℕ) → e < 4 → (j : ℕ) → check_of c g e j ≡ raised byte_edition (byte_edition.locator j) e

@@ -1,6 +1,6 @@
 -- Laws: What the engine takes, and what it finds and leaves.
 use Rattle.std.specs.Prelude.{◌≡◌, refl, List, ℕ, zero, suc, ◌+◌, ◌-◌, ◌*◌, ◌/◌, ◌%◌, ◌<◌, ◌≤◌, length, get_or}
-use Rattle.std.proofs.Common.{sym, ap, ap₂, ◌∙◌, subst, zero-add, div-add-mod', mod-lt, div-lt_iff_lt-mul, arith}
+use Rattle.std.proofs.Common.{sym, ap, ◌∙◌, subst, zero-add, div-add-mod', mod-lt, div-lt_iff_lt-mul, arith}
 use Rattle.shape.specs.Shapes.{byte_limits}
 use Rattle.code.specs.LentLaws.{lent, not-refused}
 use Rattle.code.specs.Lent.{LentIn}

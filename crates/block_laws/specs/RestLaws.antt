@@ -1,6 +1,6 @@
 -- Laws: What is left for the two sums across.
-use Rattle.std.specs.Prelude.{◌≡◌, refl, List, [], ◌∷◌, ℕ, zero, suc, ◌+◌, ◌*◌, ◌<◌, ◌≤◌, length, get_or}
-use Rattle.std.proofs.Common.{sym, ap, ap₂, ◌∙◌, subst, zero-add, zero-mul, one-mul, add-mul, add_assoc, arith}
+use Rattle.std.specs.Prelude.{◌≡◌, List, [], ◌∷◌, ℕ, zero, suc, ◌+◌, ◌*◌, ◌<◌, ◌≤◌, length, get_or}
+use Rattle.std.proofs.Common.{sym, ap, ap₂, ◌∙◌, zero-add, zero-mul, one-mul, add-mul, add_assoc, arith}
 use Rattle.binary_field.specs.Product.{product}
 use Rattle.binary_field.specs.ProductLaws.{product-comm}
 use Rattle.binary_field.specs.Inverse.{inverse}
@@ -13,7 +13,6 @@ use Rattle.byte_edition.specs.EditionLaws.{bytes-sound}
 use Rattle.block_sums.specs.Sums.{block_sum, ZeroUntil, Aimed, SumsWritten}
 use Rattle.code.specs.Stretch.{stretch}
 use Rattle.block_constants.specs.FreeRows.{first_of, second_of, one_value, two_first, two_second, determinant_inverse}
-use Rattle.block_constants.specs.FreeRows.{OneRow, TwoRows}
 use Rattle.block_laws.specs.Steps.{Limit, place_symbol, AcrossRows}
 use Rattle.block_laws.specs.StepsLaws.{row_inside}
 use Rattle.block_laws.specs.PassLaws.{stands-ext, sums-stay}

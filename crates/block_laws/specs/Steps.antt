@@ -1,5 +1,5 @@
 -- What the steps of the engine take and leave.
-use Rattle.std.specs.Prelude.{◌≡◌, true, false, List, ℕ, ◌+◌, ◌*◌, ◌<◌, ◌≤◌, length, get_or}
+use Rattle.std.specs.Prelude.{◌≡◌, true, List, ℕ, ◌+◌, ◌*◌, ◌<◌, ◌≤◌, length, get_or}
 use Rattle.counting.specs.Count.{count_below}
 use Rattle.shape.specs.Shapes.{byte_limits}
 use Rattle.code.specs.Edition.{raised}

@@ -1,8 +1,8 @@
 -- Laws: What the steps of the engine take and leave.
-use Rattle.std.specs.Prelude.{◌≡◌, Bool, true, false, cond, List, length, get_or, set, replicate}
+use Rattle.std.specs.Prelude.{◌≡◌, List, length, get_or, set, replicate}
 use Rattle.std.proofs.Math.Path.{refl, ap}
-use Rattle.std.proofs.Common.{sym, ap₂, ◌∙◌, subst, true≢false, suc-mul, one-mul, mul-le-mul, mul-le-mul_right, arith, lit<, length-set, get_or-set_same, get_or-set_other}
-use Prim.Native.Nat.{ℕ, zero, suc, ◌+◌, ◌*◌, ◌<◌, ◌≤◌, ◌^◌}
+use Rattle.std.proofs.Common.{sym, ◌∙◌, subst, suc-mul, one-mul, mul-le-mul, mul-le-mul_right, arith, lit<, length-set, get_or-set_same, get_or-set_other}
+use Prim.Native.Nat.{ℕ, zero, suc, ◌+◌, ◌*◌, ◌<◌, ◌≤◌}
 use Rattle.std.proofs.Math.Decide.{ℕ_discrete, dec_lt}
 use Rattle.binary_field.specs.Product.{product}
 use Rattle.binary_field.specs.ProductLaws.{product-comm, product-one, product_lt, zero-product}
@@ -15,9 +15,8 @@ use Rattle.byte_edition.specs.Rows.{first_rows, second_rows, no_row}
 use Rattle.byte_edition.specs.RowsLaws.{first-at, second_at}
 use Rattle.code.specs.Edition.{times, raised}
 use Rattle.code.specs.Word.{coefficient, second_coefficient}
-use Rattle.code.specs.Marks.{lost, lost_in}
-use Rattle.code.specs.Stretch.{stretch, with_stretch}
-use Rattle.code.specs.StretchLaws.{with-inside, with-before, with-after, with-length, stretch-length}
+use Rattle.code.specs.Stretch.{with_stretch}
+use Rattle.code.specs.StretchLaws.{with-inside, with-before, with-after}
 use Rattle.byte_edition.specs.Edition.{byte_edition}
 use Rattle.block_constants.specs.Reduced.{ReducedTo}
 use Rattle.block_constants.specs.ReducedLaws.{reduced-ext}

@@ -1,5 +1,5 @@
 -- A whole word of a block rebuild, in terms of its groups.
-use Rattle.std.specs.Prelude.{◌≡◌, List, ℕ, ◌+◌, ◌*◌, ◌<◌}
+use Rattle.std.specs.Prelude.{List, ℕ, ◌+◌, ◌*◌, ◌<◌}
 use Rattle.binary_field.specs.Sum.{sum_below}
 use Rattle.code.specs.Edition.{times}
 use Rattle.code.specs.Stretch.{stretch}

@@ -1,8 +1,8 @@
 -- Laws: A whole word of a block rebuild, in terms of its groups.
-use Rattle.std.specs.Prelude.{◌≡◌, refl, Bool, true, false, List, eqb}
+use Rattle.std.specs.Prelude.{◌≡◌, refl, false, List, eqb}
 use Rattle.std.proofs.Math.Path.{sym, ap₂, subst}
-use Rattle.std.proofs.Common.{ap, ◌∙◌, suc-mul, zero-mul, div-add-mod', mod-lt, div-lt_iff_lt-mul, add_comm, arith, lit<}
-use Prim.Native.Nat.{ℕ, zero, suc, ◌+◌, ◌*◌, ◌/◌, ◌%◌, ◌<◌, ◌≤◌, ◌^◌}
+use Rattle.std.proofs.Common.{ap, ◌∙◌, suc-mul, zero-mul, div-add-mod', mod-lt, div-lt_iff_lt-mul, arith, lit<}
+use Prim.Native.Nat.{ℕ, zero, suc, ◌+◌, ◌*◌, ◌/◌, ◌%◌, ◌<◌, ◌≤◌}
 use Rattle.std.proofs.Math.Decide.{dec_lt}
 use Rattle.std.proofs.Math.Arith.{digits_div, digits_mod}
 use Rattle.std.proofs.Math.ListN.{length, get_or, get_or-eq_default}
@@ -10,7 +10,7 @@ use Rattle.binary_field.specs.Xor.{◌⊕◌}
 use Rattle.binary_field.specs.Sum.{sum_below}
 use Rattle.binary_field.specs.SumLaws.{sum-none, sum-suc, sum-append, sum-ext}
 use Rattle.code.specs.Edition.{times}
-use Rattle.code.specs.Word.{group_sum, word_sum, local_sum, first_across, second_across, second_coefficient, Codeword, Symbols}
+use Rattle.code.specs.Word.{group_sum, word_sum, second_coefficient, Codeword, Symbols}
 use Rattle.code.specs.WordLaws.{equations, is-codeword}
 use Rattle.code.specs.Marks.{lost, lost_in}
 use Rattle.code.specs.Determined.{list_of}
@@ -21,7 +21,7 @@ use Rattle.code.specs.CombinedLaws.{place-less}
 use Rattle.byte_edition.specs.Edition.{byte_edition}
 use Rattle.block_constants.specs.Reduced.{dot}
 use Rattle.block_constants.specs.ReducedLaws.{dot-ext}
-use Rattle.block_laws.specs.Group.{check_of, group_of, Fills, AgreesIn, Mendable, StandsFor}
+use Rattle.block_laws.specs.Group.{check_of, group_of, AgreesIn}
 use Rattle.block_laws.specs.GroupLaws.{check-local, check-first, group-dot, agrees-fills}
 use Rattle.block_laws.specs.Whole.{row_sum, Across}
 

@@ -1,16 +1,13 @@
 -- Laws: the engine finds and writes what Recover gives for every word.
-use Rattle.std.specs.Prelude.{◌≡◌, refl, List, ℕ, zero, suc, ◌+◌, ◌*◌, ◌≤◌, ◌<◌, ◌^◌, get_or}
+use Rattle.std.specs.Prelude.{◌≡◌, List, ℕ, ◌*◌, ◌≤◌, ◌<◌, get_or}
 use Rattle.std.proofs.Math.Path.{sym, ap, subst}
 use Rattle.std.proofs.Common.{◌∙◌, arith, lit<}
 use Rattle.std.proofs.Math.Decide.{dec_lt}
 use Rattle.std.proofs.Math.ListN.{length, get_or-eq_default}
 use Rattle.shape.specs.Shapes.{byte_limits}
-use Rattle.code.specs.Refusals.{◌or_else◌}
 use Rattle.code.specs.RefusalsLaws.{or_else-zero}
 use Rattle.code.specs.Marks.{excess}
-use Rattle.code.specs.Outcome.{Outcome, contradictory, done_with}
-use Rattle.code.specs.Contradiction.{contradicting_group}
-use Rattle.code.specs.Recovery.{Agrees}
+use Rattle.code.specs.Outcome.{done_with}
 use Rattle.code.specs.LimitsLaws.{word-of-good}
 use Rattle.byte_edition.specs.EditionLaws.{bytes-sound}
 use Rattle.code_services.specs.Marks.{marks_refusal_in}

@@ -1,9 +1,7 @@
 -- Laws: What block rebuild means, in the words of Recover.
-use Rattle.std.specs.Prelude.{◌≡◌, refl, not, List, ℕ, ◌<◌, length, get_or}
+use Rattle.std.specs.Prelude.{◌≡◌, refl, List, ℕ, ◌<◌, length, get_or}
 use Rattle.std.proofs.Common.{sym, ap, ◌∙◌, arith}
-use Rattle.code.specs.Refusals.{refuse}
 use Rattle.shape.specs.Shapes.{byte_limits}
-use Rattle.code.specs.Outcome.{refused}
 use Rattle.code.specs.Limits.{place_count}
 use Rattle.code_services.specs.Marks.{marks_refusal_in}
 use Rattle.code_services.specs.Judge.{judged_number_in}

@@ -1,5 +1,5 @@
 -- Laws: Blocks of equal length laid end to end, and the words that they make.
-use Rattle.std.specs.Prelude.{◌≡◌, refl, List, ℕ, suc, ◌+◌, ◌*◌, ◌/◌, ◌%◌, ◌≤◌, ◌<◌, length, get_or}
+use Rattle.std.specs.Prelude.{◌≡◌, List, ℕ, suc, ◌+◌, ◌*◌, ◌/◌, ◌%◌, ◌≤◌, ◌<◌, length, get_or}
 use Rattle.std.proofs.Common.{sym, ap, ap₂, ◌∙◌, div-add-mod', mod-lt, div-lt_iff_lt-mul, suc-mul, mul-le-mul_right, arith, ext_get_or}
 use Rattle.std.proofs.Math.Arith.{digits_div, digits_mod}
 use Rattle.code.specs.Determined.{list_of}

@@ -1,5 +1,5 @@
 -- Laws: a strip of the sums of blocks times constants, sixteen blocks at a time.
-use Rattle.std.specs.Prelude.{◌≡◌, refl, List, ℕ, zero, suc, ◌+◌, ◌-◌, ◌*◌, ◌/◌, ◌^◌, ◌≤◌, ◌<◌, min}
+use Rattle.std.specs.Prelude.{◌≡◌, List, ℕ, suc, ◌+◌, ◌-◌, ◌*◌, ◌/◌, ◌^◌, ◌≤◌, ◌<◌, min}
 use Rattle.std.proofs.Common.{sym, ap₂, ◌∙◌, add-mul, suc-mul}
 use Rattle.std.proofs.Math.Path.{ap}
 use native.Mathlib.Omega.{arith}
@@ -14,7 +14,7 @@ use Rattle.binary_field.specs.SumLaws.{sum-ext, sum-zero, sum-append}
 use Rattle.code.specs.Stretch.{stretch}
 use Rattle.code.specs.StretchLaws.{stretch-at, stretch-length}
 use Rattle.block_sums.specs.Sums.{block_sum}
-use Rattle.block_tables.specs.Table.{selector, selector_at, IsTables, TablesMade, turns}
+use Rattle.block_tables.specs.Table.{selector, selector_at, TablesMade, turns}
 use Rattle.block_tables.specs.StoreLaws.{row-end}
 use Rattle.block_tables.specs.TurnsLaws.{sum-fours, turns-sum}
 

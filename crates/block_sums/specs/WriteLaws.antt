@@ -1,11 +1,11 @@
 -- Laws: strips of sums, written to their blocks.
-use Rattle.std.specs.Prelude.{◌≡◌, refl, ◌⊎◌, List, ℕ, suc, ◌+◌, ◌-◌, ◌*◌, ◌≤◌, ◌<◌, length, get_or}
+use Rattle.std.specs.Prelude.{◌≡◌, refl, ◌⊎◌, List, ℕ, suc, ◌+◌, ◌-◌, ◌*◌, ◌≤◌, ◌<◌, get_or}
 use Rattle.std.proofs.Common.{sym, ◌∙◌, inl, inr, ⊎_elim, suc-mul, mul-le-mul_right, add-one, arith}
 use Rattle.std.proofs.Math.Path.{ap}
 use Rattle.std.proofs.Math.Decide.{dec_lt, ℕ_discrete}
 use Rattle.binary_field.specs.Product.{product}
 use Rattle.binary_field.specs.SumLaws.{sum-ext}
-use Rattle.block_sums.specs.Sums.{block_sum, Named, Aimed, ZeroUntil, SumsWritten, StripSums, ZeroStrip, StripWritten, WrittenBelow}
+use Rattle.block_sums.specs.Sums.{block_sum, ZeroUntil, SumsWritten, StripSums, ZeroStrip, StripWritten, WrittenBelow}
 use Rattle.block_tables.specs.Table.{PartCopied}
 
 -- block a ends where block b begins, or before

@@ -1,5 +1,5 @@
 -- Laws: sums of bytes that the bits of a number choose.
-use Rattle.std.specs.Prelude.{◌≡◌, refl, ℕ, zero, suc, ◌+◌, ◌*◌, ◌/◌, ◌%◌, ◌^◌, ◌≤◌, ◌<◌}
+use Rattle.std.specs.Prelude.{◌≡◌, refl, ℕ, zero, suc, ◌+◌, ◌*◌, ◌/◌, ◌%◌, ◌^◌, ◌<◌}
 use Rattle.std.proofs.Common.{sym, ap, ap₂, ◌∙◌, mod-lt, zero-lt-suc, pow-suc, div-add-mod', arith}
 use Rattle.std.proofs.Math.Arith.{digits_div, digits_mod}
 use Rattle.binary_field.specs.Xor.{◌⊕◌, masked}

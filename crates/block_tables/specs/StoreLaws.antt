@@ -4,7 +4,6 @@ use Rattle.std.proofs.Common.{ap, sym, ◌∙◌, suc-mul, mul-le-mul_right, ari
 use Rattle.std.proofs.Math.Decide.{ℕ_discrete}
 use Rattle.std.specs.Int.Bits.{bit_xor}
 use Rattle.binary_field.specs.Xor.{◌⊕◌}
-use Rattle.code.specs.Stretch.{stretch}
 use Rattle.code.specs.StretchLaws.{stretch-at, stretch-length, with-length, with-inside, with-before, with-after}
 use Rattle.code.specs.LentLaws.{stretch-lent, with-lent}
 use Rattle.binary_field.specs.XorLaws.{⊕-bits}

@@ -1,18 +1,18 @@
 -- Laws: the turns over the bits make the sum of products.
-use Rattle.std.specs.Prelude.{◌≡◌, List, length}
+use Rattle.std.specs.Prelude.{◌≡◌, List}
 use Rattle.std.proofs.Math.Path.{refl, sym, ap, ap₂}
-use Rattle.std.proofs.Common.{◌∙◌, mod-lt, mod-eq_of_lt, div-add-mod', zero-lt-suc, zero-add, div-le_self, lit<, pow_pos}
+use Rattle.std.proofs.Common.{◌∙◌, mod-lt, mod-eq_of_lt, div-add-mod', zero-lt-suc, div-le_self, lit<}
 use Prim.Native.Nat.{ℕ, zero, suc, ◌+◌, ◌*◌, ◌/◌, ◌%◌, ◌^◌, ◌≤◌, ◌<◌}
 use Rattle.std.proofs.Math.Nat.{div-eq_of_lt}
 use native.Mathlib.Omega.{arith}
 use Rattle.std.proofs.Math.ListN.{get_or}
 use Rattle.binary_field.specs.Xor.{◌⊕◌, masked}
-use Rattle.binary_field.specs.XorLaws.{⊕-zero-l, ⊕-zero-r, ⊕-assoc, ⊕-shifted, digit-cases, sums}
+use Rattle.binary_field.specs.XorLaws.{⊕-shifted, digit-cases, sums}
 use Rattle.binary_field.specs.Product.{double, product}
 use Rattle.binary_field.specs.ProductLaws.{double-low, double-zero, double-add, add-product, double-product, zero-product, one_product}
 use Rattle.binary_field.specs.Sum.{sum_below}
 use Rattle.binary_field.specs.SumLaws.{sum-none, sum-suc, sum-ext, sum-zero, sum-add, sum-append}
-use Rattle.block_tables.specs.Table.{bit_at, selector, chosen, IsTables, looked, turns}
+use Rattle.block_tables.specs.Table.{bit_at, selector, IsTables, looked, turns}
 use Rattle.block_tables.specs.SelectorLaws.{bit-small, bits_left, bits-all, selector-digit, selector-rest}
 use Rattle.block_tables.specs.ChosenLaws.{chosen-four}
 

@@ -1,18 +1,17 @@
 -- Gone lines dropped one line at a time, and the first line after that.
 use Rattle.std.specs.Prelude.{◌≡◌, ◌⊎◌, Bool, false, cond, not, ◌&&◌, T, eqb, get_or, drop}
 use Rattle.std.proofs.Math.Path.{refl, sym, ap, ap₂}
-use Rattle.std.proofs.Common.{◌∙◌, subst, inl, inr, true≢false, length-drop, take-append-drop, length-take-le, take-take, drop_at, drop-drop}
+use Rattle.std.proofs.Common.{◌∙◌, subst, inl, inr, true≢false, length-drop, length-take-le, take-take, drop_at, drop-drop}
 use Rattle.std.proofs.Math.Bool.{true}
 use mathlib.Core.List.{List, [], ◌∷◌, ◌++◌, append_assoc, append-nil}
-use Prim.Native.Nat.{ℕ, zero, suc, ◌+◌, ◌-◌, ◌≤◌, ◌<◌, max}
+use Prim.Native.Nat.{ℕ, ◌+◌, ◌-◌, ◌≤◌, ◌<◌, max}
 use native.Mathlib.Omega.{arith}
 use Rattle.std.proofs.Math.Decide.{ℕ_discrete}
 use borrow.Author.Tests.{eq-eqb, ne_eqb, eqb-true, eqb-false}
 use Rattle.std.proofs.Math.ListN.{length, take, length-append}
-use Rattle.std.proofs.Math.Seq.{take_at, take-nil}
-use Rattle.counting.specs.TestLaws.{and_l, and_r, and_intro}
-use Rattle.code.specs.Refusals.{refuse, unless_refused}
-use Rattle.text.specs.Fields.{parts, up_to, later, end_of}
+use Rattle.std.proofs.Math.Seq.{take_at}
+use Rattle.counting.specs.TestLaws.{and_l, and_r}
+use Rattle.text.specs.Fields.{up_to, end_of}
 use Rattle.text.specs.FieldLaws.{parts-split, parts-front}
 use Rattle.text.specs.Written.{written}
 use Rattle.text.specs.WrittenLaws.{written_on, written-nothing, length-written}
@@ -27,7 +26,7 @@ use Rattle.catalogue_text.specs.CatalogueLaws.{line_good, body-good, cat-list, c
 use Rattle.catalogue_text.specs.Changes.{without_gone, largest_gone, compacted}
 use Rattle.catalogue_text.proofs.ChangesLaws.{none-largest}
 use Rattle.catalogue_text.specs.Buffers.{formed, catalogue_in, with_text}
-use Rattle.catalogue_text.specs.BuffersLaws.{Formed, formed-parts, formed-good, formed-text, formed-long, with-same}
+use Rattle.catalogue_text.specs.BuffersLaws.{formed-parts, formed-good, formed-text, formed-long, with-same}
 use Rattle.catalogue_lines.specs.declared.Line.{Line}
 use Rattle.catalogue_lines.specs.Reading.{as_line, read_line}
 use Rattle.catalogue_scan.specs.declared.Found.{Found}

@@ -198,6 +198,7 @@ calls-step (call ∷ calls) lent f =
 -- ---- lines of a list
 pub line_after : (e : Entry) (last : List ℕ) (list : List Entry) → T (good_from last list) → LineOf e list → before last e.name ≡ true
 unfolding good_from
+line_after e last [] t l = elim l [ ]
 line_after e last (f ∷ list) t here = is_true _ (and_l (before last f.name) (good_entry f && good_from f.name list) t)
 line_after e last (f ∷ list) t (there l) =
     let more = and_r (good_entry f) (good_from f.name list) (and_r (before last f.name) (good_entry f && good_from f.name list) t) in
@@ -207,6 +208,7 @@ line_after e last (f ∷ list) t (there l) =
 -- the line of a name is the one that is found
 line-found : (e : Entry) (last : List ℕ) (list : List Entry) → T (good_from last list) → LineOf e list → (entry_for e.name list ≡ e) × (1 ≤ e.revision)
 unfolding good_from entry_for
+line-found e last [] t l = elim l [ ]
 line-found e last (f ∷ list) t here =
     let more = and_r (before last f.name) (good_entry f && good_from f.name list) t in
     (rw (same_refl f.name), (entry-good f (and_l (good_entry f) (good_from f.name list) more)).some)

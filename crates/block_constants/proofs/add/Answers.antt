@@ -1,4 +1,4 @@
-use Rattle.std.proofs.Common.{◌≡◌, ap, ◌∙◌, ◌-◌, arith, get_or, length-set, rules}
+use Rattle.std.proofs.Common.{◌≡◌, ap, ◌∙◌, arith, get_or, length-set, rules}
 use Rattle.binary_field.specs.Xor.{◌⊕◌}
 use Rattle.binary_field.specs.XorLaws.{⊕-bits}
 use Rattle.code.specs.Edition.{times}

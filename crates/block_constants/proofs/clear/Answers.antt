@@ -1,4 +1,4 @@
-use Rattle.std.proofs.Common.{◌≡◌, refl, List, [], ℕ, ◌-◌, arith, set, length-set, rules}
+use Rattle.std.proofs.Common.{◌≡◌, refl, List, [], ℕ, arith, set, length-set, rules}
 use Rattle.code_engine.specs.ListsLaws.{each_set}
 use Rattle.block_constants.proofs.clear.Invariants.{Cleared}
 use Rattle.block_constants.proofs.clear.Goals as goal

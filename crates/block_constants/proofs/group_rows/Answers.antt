@@ -1,4 +1,4 @@
-use Rattle.std.proofs.Common.{◌≡◌, refl, sym, ap, ◌∙◌, subst, true, List, ℕ, suc, ◌≤◌, ◌-◌, ◌+◌, arith, length, get_or, w8, eq-eqb, ne_eqb}
+use Rattle.std.proofs.Common.{◌≡◌, refl, sym, ap, ◌∙◌, subst, true, List, ℕ, suc, ◌≤◌, ◌+◌, arith, length, get_or, w8, eq-eqb, ne_eqb}
 use Rattle.counting.specs.Count.{count_below}
 use Rattle.code.specs.Marks.{lost, lost_in}
 use Rattle.byte_edition.specs.Edition.{byte_edition}
@@ -18,13 +18,12 @@ returns-then-bound-gt16 c = λ l. absurd (omega arith)
 
 -- src/lib.rt:92:5
 pub loop-p-init : goal.loop-p-init
-loop-p-init c =
-    (
-      omega arith,
-      omega arith,
-      (array-system w8 16 6 c.equations-rows.result _ c.equations-rows.type_inv 6 (omega arith)).small,
-      λ _. reduced-none byte_edition _ 6 _ _ _ (λ i l j h. refl),
-    )
+loop-p-init c = (
+  omega arith,
+  omega arith,
+  (array-system w8 16 6 c.equations-rows.result _ c.equations-rows.type_inv 6 (omega arith)).small,
+  λ _. reduced-none byte_edition _ 6 _ _ _ (λ i l j h. refl),
+)
 
 -- src/lib.rt:95:21
 pub pivot-next-requires : goal.pivot-next-requires
@@ -54,24 +53,24 @@ loop-p-preserved c =
                 v.if-t-lt4.true c.equations-rows.ensures (λ i l. c.loop-p.invariant.2 i l p) e (c.loop-p.invariant.3 low) v.pivot-next.ensures))),
           ))
       | then-bound-p-eq1+else-t-lt4 v ↦
-            (let e : lost k p ≡ true = eq-eqb (get_or k p 0) 1 v.if-bound-p-eq1.true in
-            let full : 4 ≤ t = v.if-t-lt4.false in (
-              omega arith,
-              rw v.t-is c.loop-p.invariant.1,
-              rw v.rows-is c.loop-p.invariant.2,
-              λ few.
-                  (let m = (c.loop-p.invariant.3 (count_down k p 4 few)).count in
-                  let h : count_below (p + 1) (lost k) ≡ suc (count_below p (lost k)) = ap (λ i. count_below i (lost k)) (sym next) ∙ count-here k p e in
-                  absurd (omega arith)),
-            ))
+          (let e : lost k p ≡ true = eq-eqb (get_or k p 0) 1 v.if-bound-p-eq1.true in
+          let full : 4 ≤ t = v.if-t-lt4.false in (
+            omega arith,
+            rw v.t-is c.loop-p.invariant.1,
+            rw v.rows-is c.loop-p.invariant.2,
+            λ few.
+                (let m = (c.loop-p.invariant.3 (count_down k p 4 few)).count in
+                let h : count_below (p + 1) (lost k) ≡ suc (count_below p (lost k)) = ap (λ i. count_below i (lost k)) (sym next) ∙ count-here k p e in
+                absurd (omega arith)),
+          ))
       | else-bound-p-eq1 v ↦ (
-          omega arith,
-          rw v.t-is c.loop-p.invariant.1,
-          rw v.rows-is c.loop-p.invariant.2,
-          λ few.
-              rw (v.rows-is, v.t-is) (subst (λ i. ReducedTo byte_edition (length k) 6 k i t (entry c.equations-rows.result) (entry c.loop-p.rows)) next
-              (reduced-past byte_edition (length k) 6 k p t _ _ (ne_eqb (get_or k p 0) 1 v.if-bound-p-eq1.false) (c.loop-p.invariant.3 (count_down k p 4 few)))),
-        )
+        omega arith,
+        rw v.t-is c.loop-p.invariant.1,
+        rw v.rows-is c.loop-p.invariant.2,
+        λ few.
+            rw (v.rows-is, v.t-is) (subst (λ i. ReducedTo byte_edition (length k) 6 k i t (entry c.equations-rows.result) (entry c.loop-p.rows)) next
+            (reduced-past byte_edition (length k) 6 k p t _ _ (ne_eqb (get_or k p 0) 1 v.if-bound-p-eq1.false) (c.loop-p.invariant.3 (count_down k p 4 few)))),
+      )
     ]
 
 -- src/lib.rt:83:1

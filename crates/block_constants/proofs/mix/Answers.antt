@@ -1,4 +1,4 @@
-use Rattle.std.proofs.Common.{refl, ap₂, ◌∙◌, ◌-◌, arith, length-set, rules}
+use Rattle.std.proofs.Common.{refl, ap₂, ◌∙◌, arith, length-set, rules}
 use Rattle.binary_field.specs.Xor.{◌⊕◌}
 use Rattle.binary_field.specs.XorLaws.{⊕-bits}
 use Rattle.block_constants.specs.FreeRowsLaws.{mixed-more, mixed-all}

@@ -8,18 +8,27 @@ use Rattle.block_engine.proofs.ready.Goals as goal
 
 pub returns-then-word_refusal-ne0 : goal.returns-then-word_refusal-ne0
 returns-then-word_refusal-ne0 c =
-    let a = c.args in record { ready = λ e. absurd (true≢false (sym e)); fact = λ _ (R : Ready a.m a.w a.c a.size a.lent a.marks.now).
-          c.if-word_refusal-ne0.true (c.word_refusal.ensures ∙ ready-word a.m a.w a.c a.size a.lent a.marks.now R) }
+    let a = c.args in record {
+      ready = λ e. absurd (true≢false (sym e));
+      fact = λ _ (R : Ready a.m a.w a.c a.size a.lent a.marks.now).
+          c.if-word_refusal-ne0.true (c.word_refusal.ensures ∙ ready-word a.m a.w a.c a.size a.lent a.marks.now R);
+    }
 
 pub returns-then-size-eq0 : goal.returns-then-size-eq0
 returns-then-size-eq0 c =
-    let a = c.args in record { ready = λ e. absurd (true≢false (sym e)); fact = λ _ (R : Ready a.m a.w a.c a.size a.lent a.marks.now). let s = R.some in let z = c.if-size-eq0.true in
-          omega arith }
+    let a = c.args in record {
+      ready = λ e. absurd (true≢false (sym e));
+      fact = λ _ (R : Ready a.m a.w a.c a.size a.lent a.marks.now). let s = R.some in let z = c.if-size-eq0.true in
+          omega arith;
+    }
 
 pub returns-then-size-gt65536 : goal.returns-then-size-gt65536
 returns-then-size-gt65536 c =
-    let a = c.args in record { ready = λ e. absurd (true≢false (sym e)); fact = λ _ (R : Ready a.m a.w a.c a.size a.lent a.marks.now). let s =
-          ready-size a.m a.w a.c a.size a.lent a.marks.now R in let z = c.if-size-gt65536.true in omega arith }
+    let a = c.args in record {
+      ready = λ e. absurd (true≢false (sym e));
+      fact = λ _ (R : Ready a.m a.w a.c a.size a.lent a.marks.now). let s =
+          ready-size a.m a.w a.c a.size a.lent a.marks.now R in let z = c.if-size-gt65536.true in omega arith;
+    }
 
 pub overflow_mul-all : goal.overflow_mul-all
 overflow_mul-all c =
@@ -33,22 +42,34 @@ overflow_mul-all c =
 
 pub returns-then-all-gt65536 : goal.returns-then-all-gt65536
 returns-then-all-gt65536 c =
-    let a = c.args in record { ready = λ e. absurd (true≢false (sym e)); fact = λ _ (R : Ready a.m a.w a.c a.size a.lent a.marks.now). let e =
-          ready-all a.m a.w a.c a.size a.lent a.marks.now R in let l = R.most in let z = c.if-all-gt65536.true in omega arith }
+    let a = c.args in record {
+      ready = λ e. absurd (true≢false (sym e));
+      fact = λ _ (R : Ready a.m a.w a.c a.size a.lent a.marks.now). let e =
+          ready-all a.m a.w a.c a.size a.lent a.marks.now R in let l = R.most in let z = c.if-all-gt65536.true in omega arith;
+    }
 
 pub returns-then-lent-all : goal.returns-then-lent-all
 returns-then-lent-all c =
-    let a = c.args in record { ready = λ e. absurd (true≢false (sym e)); fact = λ _ (R : Ready a.m a.w a.c a.size a.lent a.marks.now).
-          c.if-lent-all.true (ready-all a.m a.w a.c a.size a.lent a.marks.now R) }
+    let a = c.args in record {
+      ready = λ e. absurd (true≢false (sym e));
+      fact = λ _ (R : Ready a.m a.w a.c a.size a.lent a.marks.now).
+          c.if-lent-all.true (ready-all a.m a.w a.c a.size a.lent a.marks.now R);
+    }
 
 pub returns-then-excess_of-gt2 : goal.returns-then-excess_of-gt2
 returns-then-excess_of-gt2 c =
-    let a = c.args in record { ready = λ e. absurd (true≢false (sym e)); fact = λ _ (R : Ready a.m a.w a.c a.size a.lent a.marks.now).
-          let e = c.excess_of.ensures.value R.good R.marks-size in let l = R.low in let z = c.if-excess_of-gt2.true in omega arith }
+    let a = c.args in record {
+      ready = λ e. absurd (true≢false (sym e));
+      fact = λ _ (R : Ready a.m a.w a.c a.size a.lent a.marks.now).
+          let e = c.excess_of.ensures.value R.good R.marks-size in let l = R.low in let z = c.if-excess_of-gt2.true in omega arith;
+    }
 
 pub returns : goal.returns
 returns c =
     let a = c.args in
     let z = sym c.word_refusal.ensures ∙ c.if-word_refusal-ne0.false in
-    let L = lent a.m a.w a.c a.marks.now z in record { ready = λ _. ready-is a.m a.w a.c a.size a.lent a.marks.now z c.if-size-eq0.false (let l = c.if-all-gt65536.false in omega arith) c.if-lent-all.false
-          (let e = c.excess_of.ensures.value L.good L.size in let l = c.if-excess_of-gt2.false in omega arith); fact = λ e. absurd (true≢false e) }
+    let L = lent a.m a.w a.c a.marks.now z in record {
+      ready = λ _. ready-is a.m a.w a.c a.size a.lent a.marks.now z c.if-size-eq0.false (let l = c.if-all-gt65536.false in omega arith) c.if-lent-all.false
+          (let e = c.excess_of.ensures.value L.good L.size in let l = c.if-excess_of-gt2.false in omega arith);
+      fact = λ e. absurd (true≢false e);
+    }

@@ -7,8 +7,11 @@ write_across-requires c =
 
 pub fill_groups-requires : goal.fill_groups-requires
 fill_groups-requires c =
-    let a = c.args in record { given = given-after a.m a.w a.c a.size a.blocks.now _ _
-          (given-of a.m a.w a.c a.size a.blocks.now a.marks.now _ c.requires.ready c.requires.bound_all) c.write_across.ensures.long; kept_up_to = c.requires.kept_up_to }
+    let a = c.args in record {
+      given = given-after a.m a.w a.c a.size a.blocks.now _ _
+          (given-of a.m a.w a.c a.size a.blocks.now a.marks.now _ c.requires.ready c.requires.bound_all) c.write_across.ensures.long;
+      kept_up_to = c.requires.kept_up_to;
+    }
 
 pub returns : goal.returns
 returns c =

@@ -69,6 +69,9 @@ returns c =
     let long' : length v ≡ w = c.pack_row-2.ensures.out_len_unchanged ∙ ap length (ap (λ o. take ((a.m + g) * w + w - (a.m + g) * w) (drop ((a.m + g) * w) o))
     (with-lent w g x u)
     ∙ stretch-lent w (a.m + g) z) ∙ stretch-length w (a.m + g) z fits'' in
-    let M : ℕ → ℕ → ℕ = entry c.group_rows-rows.result in record { group_kept = record { long = c.pack.ensures.out_len; rows = M; reduced = c.group_rows-rows.ensures; here = c.pack.ensures.by_index }; across_put = rw (with-lent w g x u, with-lent w (a.m + g) z v)
+    let M : ℕ → ℕ → ℕ = entry c.group_rows-rows.result in record {
+      group_kept = record { long = c.pack.ensures.out_len; rows = M; reduced = c.group_rows-rows.ensures; here = c.pack.ensures.by_index };
+      across_put = rw (with-lent w g x u, with-lent w (a.m + g) z v)
           (across-put a.m w a.c g k M c.group_rows-rows.ensures c.requires.in_bounds.2 x u v (omega arith) fits fits' long long' c.pack_row.ensures.by_index
-          c.pack_row-2.ensures.by_index) }
+          c.pack_row-2.ensures.by_index);
+    }

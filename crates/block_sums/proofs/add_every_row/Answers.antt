@@ -1,4 +1,4 @@
-use Rattle.std.proofs.Common.{◌≡◌, refl, ap, ◌∙◌, List, ℕ, ◌+◌, ◌*◌, ◌-◌, ◌≤◌, length, get_or, arith}
+use Rattle.std.proofs.Common.{◌≡◌, refl, ap, ◌∙◌, List, ℕ, ◌+◌, ◌*◌, ◌≤◌, length, get_or, arith}
 use native.Mathlib.Decide.{ℕ_discrete}
 use Rattle.binary_field.specs.Xor.{◌⊕◌}
 use Rattle.block_tables.specs.Table.{turns}

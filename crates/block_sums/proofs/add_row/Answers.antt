@@ -1,4 +1,4 @@
-use Rattle.std.proofs.Common.{refl, ap₂, ◌∙◌, ℕ, ◌-◌, ◌<◌, length, get_or, length-set, get_or-set_same, get_or-set_other, arith}
+use Rattle.std.proofs.Common.{refl, ap₂, ◌∙◌, ℕ, ◌<◌, length, get_or, length-set, get_or-set_same, get_or-set_other, arith}
 use native.Mathlib.Decide.{ℕ_discrete}
 use Rattle.binary_field.specs.Xor.{◌⊕◌}
 use Rattle.binary_field.specs.XorLaws.{⊕-bits}

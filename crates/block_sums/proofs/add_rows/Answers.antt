@@ -1,4 +1,4 @@
-use Rattle.std.proofs.Common.{refl, ap₂, ◌∙◌, List, ℕ, ◌+◌, ◌-◌, ◌<◌, length, get_or, length-set, arith}
+use Rattle.std.proofs.Common.{refl, ap₂, ◌∙◌, List, ℕ, ◌+◌, ◌<◌, length, get_or, length-set, arith}
 use Rattle.binary_field.specs.Xor.{◌⊕◌}
 use Rattle.binary_field.specs.XorLaws.{⊕-bits}
 use Rattle.block_tables.specs.StoreLaws.{stored_here, stored-below, stored-above}

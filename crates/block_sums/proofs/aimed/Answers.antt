@@ -1,4 +1,4 @@
-use Rattle.std.proofs.Common.{◌≡◌, ℕ, ◌+◌, ◌*◌, ◌-◌, ◌≤◌, ◌<◌, mul-le-mul, le-mul_of_pos_right, get_or, arith}
+use Rattle.std.proofs.Common.{◌≡◌, ℕ, ◌+◌, ◌*◌, ◌≤◌, ◌<◌, mul-le-mul, le-mul_of_pos_right, get_or, arith}
 use native.Mathlib.Decide.{ℕ_discrete}
 use Rattle.block_sums.proofs.aimed.Goals as goal
 
@@ -8,11 +8,14 @@ loop-i-init c = (omega arith, λ k l. absurd (omega arith))
 pub returns-then-lent-p : goal.returns-then-lent-p
 returns-then-lent-p c =
     let a = c.args in
-    let i : ℕ = c.loop-i.i in record { size_bound = (λ e. let z : ◌≡◌ {A = ℕ} 0 1 = cc in absurd (omega arith)); fact = λ _ all.
+    let i : ℕ = c.loop-i.i in record {
+      size_bound = (λ e. let z : ◌≡◌ {A = ℕ} 0 1 = cc in absurd (omega arith));
+      fact = λ _ all.
           (let h = all i (omega arith) in
           let p : 0 < a.size = omega arith in
           let k = le-mul_of_pos_right (get_or a.to i 0 + 1) p in
-          omega arith) }
+          omega arith);
+    }
 
 pub overflow_mul-p : goal.overflow_mul-p
 overflow_mul-p c =

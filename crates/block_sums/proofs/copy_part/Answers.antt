@@ -1,4 +1,4 @@
-use Rattle.std.proofs.Common.{refl, ◌∙◌, ◌+◌, ◌-◌, ◌<◌, length, get_or, length-set, arith}
+use Rattle.std.proofs.Common.{refl, ◌∙◌, ◌+◌, ◌<◌, length, get_or, length-set, arith}
 use Rattle.block_tables.specs.StoreLaws.{stored_here, stored-below, stored-above}
 use Rattle.block_sums.proofs.copy_part.Goals as goal
 

@@ -1,4 +1,4 @@
-use Rattle.std.proofs.Common.{pow_pos, ◌≡◌, refl, sym, ap, ◌∙◌, List, ℕ, ◌+◌, ◌*◌, ◌-◌, ◌^◌, ◌≤◌, ◌<◌, pow-suc, add-one, pow_mono, get_or, arith}
+use Rattle.std.proofs.Common.{pow_pos, ◌≡◌, refl, sym, ap, ◌∙◌, List, ℕ, ◌+◌, ◌*◌, ◌^◌, ◌≤◌, ◌<◌, pow-suc, add-one, pow_mono, get_or, arith}
 use native.Mathlib.Decide.{ℕ_discrete}
 use lib.Pow.{pow-lt}
 use Rattle.block_sums.proofs.load.Goals as goal

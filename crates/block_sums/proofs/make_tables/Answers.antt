@@ -23,10 +23,14 @@ pub make_table-requires : goal.make_table-requires
 make_table-requires c =
     let l = c.loop-s in
     let size : ℕ = c.args.size in
-    let fit : l.s * 1536 + 1536 ≤ length l.t = omega arith in record { n_bound = (c.requires.n_bound.0, lent-long 1536 l.s l.t fit, c.requires.n_bound.3); by_index = (λ e h b.
-            let p = c.requires.by_index (l.s * 4 + e) (omega arith) in
-            let q : (l.s * 4 + e) * size ≡ l.s * 4 * size + e * size = add-mul (l.s * 4) e size in
-            omega arith); table = table-lent l.t l.s fit (omega arith) l.invariant.2 }
+    let fit : l.s * 1536 + 1536 ≤ length l.t = omega arith in record {
+      n_bound = (c.requires.n_bound.0, lent-long 1536 l.s l.t fit, c.requires.n_bound.3);
+      by_index = (λ e h b.
+          let p = c.requires.by_index (l.s * 4 + e) (omega arith) in
+          let q : (l.s * 4 + e) * size ≡ l.s * 4 * size + e * size = add-mul (l.s * 4) e size in
+          omega arith);
+      table = table-lent l.t l.s fit (omega arith) l.invariant.2;
+    }
 
 pub loop-s-preserved : goal.loop-s-preserved
 loop-s-preserved c =

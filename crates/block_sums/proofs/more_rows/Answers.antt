@@ -1,4 +1,4 @@
-use Rattle.std.proofs.Common.{refl, ap₂, ◌∙◌, ℕ, ◌+◌, ◌*◌, ◌-◌, arith}
+use Rattle.std.proofs.Common.{refl, ap₂, ◌∙◌, ℕ, ◌+◌, ◌*◌, arith}
 use native.Mathlib.Decide.{ℕ_discrete}
 use Rattle.binary_field.specs.Xor.{◌⊕◌}
 use Rattle.block_sums.proofs.more_rows.Goals as goal

@@ -54,6 +54,9 @@ overflow_mul-result c =
 
 pub returns : goal.returns
 returns c =
-    let x = c.args in record { le_size = (λ e.
+    let x = c.args in record {
+      le_size = (λ e.
           let k = leb-true ((x.first + x.count) * x.size) x.lent e in
-          (omega arith, omega arith, omega arith, omega arith, omega arith, omega arith, omega arith)); fact = λ e a b d f g h i. let k = leb-false ((x.first + x.count) * x.size) x.lent e in omega arith }
+          (omega arith, omega arith, omega arith, omega arith, omega arith, omega arith, omega arith));
+      fact = λ e a b d f g h i. let k = leb-false ((x.first + x.count) * x.size) x.lent e in omega arith;
+    }

@@ -1,4 +1,4 @@
-use Rattle.std.proofs.Common.{ap, get_or-set_same, get_or-set_other, refl, ◌∙◌, List, ℕ, ◌+◌, ◌-◌, ◌<◌, length, get_or, length-set, arith}
+use Rattle.std.proofs.Common.{ap, get_or-set_same, get_or-set_other, refl, ◌∙◌, List, ℕ, ◌+◌, ◌<◌, length, get_or, length-set, arith}
 use Rattle.block_tables.specs.StoreLaws.{xor-five}
 use native.Mathlib.Decide.{ℕ_discrete}
 use Rattle.binary_field.specs.Xor.{◌⊕◌}

@@ -44,10 +44,14 @@ make_tables-requires c =
     let l = c.loop-j in
     let size : ℕ = c.args.size in
     let f : ℕ = c.args.first + l.j in
-    let r = c.requires.n_bound.0 in record { n_bound = (c.requires.n_bound.1, omega arith, l.invariant.2, c.requires.blocks_len_bound.0); by_index = (λ k h.
-            let p = row-end (f + k) (c.args.first + c.args.count) size _ (omega arith) c.requires.blocks_len_bound.1 in
-            let q : (f + k) * size ≡ f * size + k * size = add-mul f k size in
-            omega arith); tables = l.invariant.3 }
+    let r = c.requires.n_bound.0 in record {
+      n_bound = (c.requires.n_bound.1, omega arith, l.invariant.2, c.requires.blocks_len_bound.0);
+      by_index = (λ k h.
+          let p = row-end (f + k) (c.args.first + c.args.count) size _ (omega arith) c.requires.blocks_len_bound.1 in
+          let q : (f + k) * size ≡ f * size + k * size = add-mul f k size in
+          omega arith);
+      tables = l.invariant.3;
+    }
 
 pub add_every_row-requires : goal.add_every_row-requires
 add_every_row-requires c =
@@ -88,9 +92,12 @@ loop-j-preserved c =
 pub returns : goal.returns
 returns c =
     let l = c.loop-j in
-    let a = c.args in record { t_len = (l.invariant.2, l.invariant.3, l.invariant.4); by_index = λ constants laid byte S. record {
+    let a = c.args in record {
+      t_len = (l.invariant.2, l.invariant.3, l.invariant.4);
+      by_index = λ constants laid byte S. record {
         long = l.invariant.4;
         here = λ r i h b.
             l.invariant.5 constants laid byte S r i h b
             ∙ sum-all a.size a.blocks.now a.first a.count a.rows constants r (a.x + i) h laid l.j (omega arith);
-      } }
+      };
+    }

@@ -1,4 +1,4 @@
-use Rattle.std.proofs.Common.{add-one, ◌≡◌, refl, ap, ◌∙◌, List, ℕ, ◌+◌, ◌*◌, ◌-◌, ◌≤◌, suc-mul, get_or, arith}
+use Rattle.std.proofs.Common.{add-one, ◌≡◌, refl, ap, ◌∙◌, List, ℕ, ◌+◌, ◌*◌, ◌≤◌, suc-mul, get_or, arith}
 use Rattle.block_sums.specs.WriteLaws.{strip-more}
 use Rattle.block_sums.proofs.write_strip.Goals as goal
 
@@ -29,8 +29,7 @@ copy_part-requires c =
 
 pub loop-i-preserved : goal.loop-i-preserved
 loop-i-preserved c =
-    let l = c.loop-i in
-    (
+    let l = c.loop-i in (
       omega arith,
       strip-more c.args.size c.args.x c.args.n l.i c.args.sums.now c.args.to c.args.blocks.now l.blocks _
           c.requires.sums_len.3 l.invariant.1 c.copy_part.ensures,

@@ -6,10 +6,13 @@ use Rattle.block_sums.proofs.write_sums.Goals as goal
 pub returns-then-not-named : goal.returns-then-not-named
 returns-then-not-named c =
     let a = c.args in
-    let e = c.named.ensures.fact c.if-not-named.true in record { sums_written = (λ N A. elim (dec_le 1 a.size) [
+    let e = c.named.ensures.fact c.if-not-named.true in record {
+      sums_written = (λ N A. elim (dec_le 1 a.size) [
         | yes h ↦ absurd (e h N.small N.most N.inside N.few N.rows_few N.laid)
         | no h ↦ written-nothing a.size a.first a.count a.rows a.blocks.now a.constants.now a.to (omega arith)
-      ]); blocks_unchanged = λ _. refl }
+      ]);
+      blocks_unchanged = λ _. refl;
+    }
 
 pub aimed-requires : goal.aimed-requires
 aimed-requires c = let e = c.named.ensures.le_size c.if-not-named.false in (e.2, e.0, e.1, e.5)

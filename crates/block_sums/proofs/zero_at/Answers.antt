@@ -1,4 +1,4 @@
-use Rattle.std.proofs.Common.{true, false, ◌≡◌, ℕ, ◌-◌, arith}
+use Rattle.std.proofs.Common.{◌≡◌, ℕ, arith}
 use native.Mathlib.Decide.{ℕ_discrete}
 use Rattle.block_sums.proofs.zero_at.Goals as goal
 

@@ -1,4 +1,4 @@
-use Rattle.std.proofs.Common.{◌≡◌, refl, ◌-◌, arith}
+use Rattle.std.proofs.Common.{◌≡◌, refl, arith}
 use Rattle.block_tables.specs.TableLaws.{zero-tables}
 use Rattle.block_sums.specs.WriteLaws.{zero_more, zero-found, zero-all}
 use Rattle.block_sums.proofs.zero_strips.Goals as goal

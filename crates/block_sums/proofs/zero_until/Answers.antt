@@ -6,10 +6,13 @@ use Rattle.block_sums.proofs.zero_until.Goals as goal
 pub returns-then-not-named : goal.returns-then-not-named
 returns-then-not-named c =
     let a = c.args in
-    let e = c.named.ensures.fact c.if-not-named.true in record { zero_until = (λ N l. elim (dec_le 1 a.size) [
+    let e = c.named.ensures.fact c.if-not-named.true in record {
+      zero_until = (λ N l. elim (dec_le 1 a.size) [
         | yes h ↦ absurd (e h N.small N.most N.inside N.few N.rows_few N.laid)
         | no h ↦ zero-nothing a.size a.blocks.now a.first a.count a.rows a.constants.now a.limit (omega arith)
-      ]); value = λ _. refl }
+      ]);
+      value = λ _. refl;
+    }
 
 pub zero_strips-requires : goal.zero_strips-requires
 zero_strips-requires c =

@@ -1,4 +1,4 @@
-use Rattle.std.proofs.Common.{◌≡◌, sym, ◌∙◌, List, ℕ, ◌-◌, ◌<◌, length, length-set, get_or-set_same, get_or-set_other, arith}
+use Rattle.std.proofs.Common.{◌≡◌, sym, ◌∙◌, List, ℕ, ◌<◌, length, length-set, get_or-set_same, get_or-set_other, arith}
 use native.Mathlib.Decide.{dec_lt, ℕ_discrete}
 use Rattle.block_tables.specs.SelectorLaws.{selector-past}
 use Rattle.block_tables.specs.Table.{selector_at}

@@ -1,5 +1,5 @@
 use Rattle.std.proofs.Common.{arith}
-use Rattle.block_tables.specs.Table.{spaced, selector}
+use Rattle.block_tables.specs.Table.{selector}
 use Rattle.block_tables.specs.SelectorLaws.{spaced-8}
 use Rattle.block_tables.proofs.selector.Goals as goal
 

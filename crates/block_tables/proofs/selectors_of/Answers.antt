@@ -1,4 +1,4 @@
-use Rattle.std.proofs.Common.{mul-le-mul, ◌≡◌, refl, ap, ◌∙◌, List, ℕ, ◌+◌, ◌*◌, ◌-◌, ◌≤◌, length, arith}
+use Rattle.std.proofs.Common.{mul-le-mul, ◌≡◌, refl, ap, ◌∙◌, List, ℕ, ◌+◌, ◌*◌, ◌≤◌, length, arith}
 use Rattle.code.specs.LentLaws.{stretch-lent}
 use Rattle.block_tables.specs.StoreLaws.{zeros-at, row-end, lent-long, lent_at, back_long, back-here, back_below, back_above}
 use native.Mathlib.Decide.{ℕ_discrete}
