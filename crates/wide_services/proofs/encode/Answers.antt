@@ -26,7 +26,7 @@ spread_data-requires c =
 pub complete-requires : goal.complete-requires
 complete-requires c =
     let fair : let a = c.args in GoodIn wide_limits a.m a.w a.c × (length a.word.now ≡ place_count a.m a.w) × (length a.symbols.now ≡ data_count a.m a.w a.c) =
-          let a = c.args in good-of-encode {L = wide_limits} a.m a.w a.c (length a.word.now) (length a.symbols.now) (cc) in
+    let a = c.args in good-of-encode {L = wide_limits} a.m a.w a.c (length a.word.now) (length a.symbols.now) (cc) in
     record { good_in = fair.0; word_len = ap length c.spread_data.ensures ∙ placed-length _ _ _ _ }
 
 pub returns : goal.returns
@@ -35,5 +35,5 @@ returns c =
     let a = c.args in
     let z : encode_refusal_in wide_limits a.m a.w a.c (length a.word.now) (length a.symbols.now) ≡ 0 = cc in
     let q = leaves_by z (buffer-end wide-sound a.m a.w a.c a.symbols.now a.word.now _ z (λ i. (c.shared_slice_known-1.given i).fits)
-          (c.complete.ensures ∙ ap (λ u. (recover_in wide_edition a.m a.w a.c u (check_marks a.m a.w a.c)).word) c.spread_data.ensures)) in
+    (c.complete.ensures ∙ ap (λ u. (recover_in wide_edition a.m a.w a.c u (check_marks a.m a.w a.c)).word) c.spread_data.ensures)) in
     record { answer = q.0; number = q.1.0; buffer = q.1.1 }
