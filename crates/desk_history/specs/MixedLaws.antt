@@ -28,7 +28,7 @@ use Rattle.desk_history.specs.Alone.{Alike}
 use Rattle.desk_history.specs.AloneLaws.{alone, serve-count, change-count, close-count}
 use Rattle.desk_history.specs.Others.{is_other}
 use Rattle.desk_history.specs.OthersLaws.{other_step}
-use Rattle.desk_history.specs.Mixed.{is_on, calls_on, is_fresh, none_fresh, word_then, Heard, heard, heard_on, OwnCalls, OwnCallsHold}
+use Rattle.desk_history.specs.Mixed.{is_on, calls_on, is_fresh, none_fresh, word_then, heard, heard_on, OwnCalls, OwnCallsHold}
 
 -- the word lent with a call
 lent_with : DeskCall → List ℕ

@@ -8,7 +8,6 @@ use Rattle.std.specs.Prelude.{◌≡◌, List, ◌++◌}
 use Rattle.desk_record.specs.Desks.{fresh_desk}
 use Rattle.desk_history.specs.History.{DeskCall, desk_after, grown, desk_answers, noted, ledger_of}
 use Rattle.desk_history.specs.Theorem.{DeskAgrees}
-use Rattle.desk_history.specs.TheoremLaws.{agrees}
 
 -- calls on a copy saved after `before`
 pub record Saved (before calls : List DeskCall) : Type 0 where

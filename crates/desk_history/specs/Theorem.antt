@@ -14,7 +14,6 @@ use Rattle.desk_job.specs.declared.Job.{Job}
 use Rattle.desk_job.specs.Jobs.{job_marks}
 use Rattle.desk_serve.specs.Serve.{job_recovery}
 use Rattle.desk_history.specs.History.{Ledger, Pattern, is_distinct, is_live, serves_of, pattern_of}
-use Rattle.desk_history.specs.Effects.{closed, served}
 
 -- the shape and the n marks of a job, under its handle
 abbrev pub pattern_for : ℕ → Job → Pattern

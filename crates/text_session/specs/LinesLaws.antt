@@ -1,5 +1,5 @@
 -- The turn of a line by the record that is read from it.
-use Rattle.std.specs.Prelude.{◌≡◌, List, ℕ, ◌-◌, get_or, take}
+use Rattle.std.specs.Prelude.{◌≡◌, List, ℕ, get_or, take}
 use Rattle.std.proofs.Math.Path.{sym}
 use Rattle.std.proofs.Common.{◌∙◌}
 use borrow.Author.Tests.{ne_eqb}

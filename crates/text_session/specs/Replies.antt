@@ -2,7 +2,7 @@
 use Rattle.std.specs.Prelude.{◌≡◌, ◌≤◌, length}
 use Rattle.text.specs.Padded.{padded}
 use Rattle.text_session.specs.declared.Reply.{Reply}
-use Rattle.text_session.specs.Turn.{Turn, turn}
+use Rattle.text_session.specs.Turn.{Turn}
 
 -- the output line stands at the start of the row of bytes, with zeros after it; the shape in force stands beside it
 pub record Replies (reply : Reply) (turn : Turn) : Type 0 where

@@ -22,7 +22,7 @@ use Rattle.code_services.specs.EncodeLaws.{good-of-encode, encoded}
 use Rattle.text.specs.Records.{word_name, contents, line_kind, line_bytes, line_marks}
 use Rattle.text.specs.RecordLaws.{name-first, line-values, word-named}
 use Rattle.text.specs.FieldLaws.{take_part}
-use Rattle.text.specs.Lines.{cells, line_with, line_of, ok_line, refused_line, contradictory_line, word_line}
+use Rattle.text.specs.Lines.{cells, line_with, ok_line, refused_line, contradictory_line, word_line}
 use Rattle.text.specs.ReadBackLaws.{line-parts, word_back, bytes_back, marks-back}
 use Rattle.text_session.specs.Turn.{Turn, turn, word_turn, record_turn, turn_of}
 use Rattle.text_stream.specs.NoneLostLaws.{codeword-stays}

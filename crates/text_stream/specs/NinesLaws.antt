@@ -7,7 +7,7 @@ use Rattle.code.specs.Contradiction.{is_broken, contradicting_group}
 use Rattle.text.specs.Decimal.{without}
 use Rattle.code_services.specs.Recover.{recover_in}
 use Rattle.text.specs.Records.{line_bytes, line_marks}
-use Rattle.text.specs.Lines.{line_with, line_of, refused_name, ok_line, refused_line, contradictory_line, word_line}
+use Rattle.text.specs.Lines.{line_with, refused_name, ok_line, refused_line, contradictory_line, word_line}
 use Rattle.text.specs.ReadBack.{Bytes}
 use Rattle.text.specs.ReadBackLaws.{numbers-same}
 use Rattle.text_session.specs.Turn.{turn_of}

@@ -1,5 +1,5 @@
 -- What the code's steps leave: a byte kept or passed over, a line answered, bytes one after the other.
-use Rattle.std.specs.Prelude.{List, ℕ, ◌+◌, ◌*◌, ◌≤◌, length, take}
+use Rattle.std.specs.Prelude.{List, ℕ, ◌+◌, ◌*◌, ◌≤◌, take}
 use Rattle.text_stream.specs.declared.Place.{Place}
 use Rattle.text_stream.specs.Points.{Point}
 use Rattle.text_stream.specs.Places.{Passed}

@@ -11,5 +11,8 @@ returns c =
     let w : ℕ = length c.args.bound.now in
     let h : List ℕ = set (replicate 16 0) c.args.j 1 in
     let l : w ≤ length h = omega (arith, length-set {A = ℕ} (replicate 16 0) c.args.j 1, length-replicate {A = ℕ} 16 0) in
-    let size : length c.fill.new.part ≡ w = c.fill.ensures.size ∙ length-take-le w h l in record { direction_in = direction-filled 16 c.args.j c.args.bound.now c.fill.new.part _ (omega arith) (omega arith) (omega arith) c.requires.j_value (omega arith)
-          c.fill.ensures; zero_from = direction-after 16 c.args.j (length c.args.bound.now) c.fill.new.part size (omega arith) (omega arith) }
+    let size : length c.fill.new.part ≡ w = c.fill.ensures.size ∙ length-take-le w h l in record {
+      direction_in = direction-filled 16 c.args.j c.args.bound.now c.fill.new.part _ (omega arith) (omega arith) (omega arith) c.requires.j_value (omega arith)
+          c.fill.ensures;
+      zero_from = direction-after 16 c.args.j (length c.args.bound.now) c.fill.new.part size (omega arith) (omega arith);
+    }

@@ -5,7 +5,7 @@ use Rattle.code_loops.specs.FillGroupsLaws.{fill-first, fill-turn, fill-last}
 use Rattle.candidate.proofs.fill_groups.Goals as goal
 
 pub loop-g-init : goal.loop-g-init
-loop-g-init c = 
+loop-g-init c =
     let r = c.requires in
     fill-first {E = byte_edition} (r.good_in, (r.base_len, (r.bound_len, r.by_index)))
 

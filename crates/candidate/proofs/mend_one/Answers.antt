@@ -17,5 +17,5 @@ returns c =
     let W : WayIn byte_sums byte_edition c.args.m c.args.w c.args.c c.args.p c.args.bound.now _ _ =
     record { good = c.requires.good_in; inside = c.requires.p_bound; few = c.requires.bound_few; way = c.way-h.ensures.direction_in; sums = c.weights-a.ensures } in
     let r = one-mended bytes-sound W c.requires.s_value c.inverse.ensures c.shifted_product-u.ensures c.shifted_product.ensures
-          c.add_direction.ensures in
+    c.add_direction.ensures in
     record { mended_one_in = r.0; value = r.1 }

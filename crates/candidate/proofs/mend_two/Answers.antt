@@ -16,9 +16,19 @@ weights-b-requires c = record { good_in = c.requires.good_in; g_lt_m = place-gro
 pub two_unknowns-u-requires : goal.two_unknowns-u-requires
 two_unknowns-u-requires c =
     let W : WayIn byte_sums byte_edition c.args.m c.args.w c.args.c c.args.p c.args.bound.now _ _ = record {
-          good = c.requires.good_in; inside = c.requires.p_bound.0; few = c.requires.bound_few; way = c.way-h.ensures.direction_in; sums = c.weights-a.ensures } in
+      good = c.requires.good_in;
+      inside = c.requires.p_bound.0;
+      few = c.requires.bound_few;
+      way = c.way-h.ensures.direction_in;
+      sums = c.weights-a.ensures;
+    } in
     let V : WayIn byte_sums byte_edition c.args.m c.args.w c.args.c c.args.q c.args.bound.now _ _ = record {
-          good = c.requires.good_in; inside = c.requires.p_bound.1; few = c.requires.bound_few_2; way = c.way-k.ensures.direction_in; sums = c.weights-b.ensures } in
+      good = c.requires.good_in;
+      inside = c.requires.p_bound.1;
+      few = c.requires.bound_few_2;
+      way = c.way-k.ensures.direction_in;
+      sums = c.weights-b.ensures;
+    } in
     two-apart bytes-sound W V c.requires.p_bound.2
 
 pub add_direction-requires : goal.add_direction-requires
@@ -33,9 +43,19 @@ add_direction-requires-2 c =
 pub returns : goal.returns
 returns c =
     let W : WayIn byte_sums byte_edition c.args.m c.args.w c.args.c c.args.p c.args.bound.now _ _ = record {
-          good = c.requires.good_in; inside = c.requires.p_bound.0; few = c.requires.bound_few; way = c.way-h.ensures.direction_in; sums = c.weights-a.ensures } in
+      good = c.requires.good_in;
+      inside = c.requires.p_bound.0;
+      few = c.requires.bound_few;
+      way = c.way-h.ensures.direction_in;
+      sums = c.weights-a.ensures;
+    } in
     let V : WayIn byte_sums byte_edition c.args.m c.args.w c.args.c c.args.q c.args.bound.now _ _ = record {
-          good = c.requires.good_in; inside = c.requires.p_bound.1; few = c.requires.bound_few_2; way = c.way-k.ensures.direction_in; sums = c.weights-b.ensures } in
+      good = c.requires.good_in;
+      inside = c.requires.p_bound.1;
+      few = c.requires.bound_few_2;
+      way = c.way-k.ensures.direction_in;
+      sums = c.weights-b.ensures;
+    } in
     let r = two-mended bytes-sound W V c.requires.s_value c.two_unknowns-u.ensures
     c.add_direction.ensures c.add_direction-2.ensures in
     record { mended_two_in = r.0; value = r.1 }

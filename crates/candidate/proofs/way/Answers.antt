@@ -29,7 +29,10 @@ direction-requires c =
 
 pub returns : goal.returns
 returns c =
-    let a = c.args in record { direction_in = way-given a.m a.w a.c a.p c.requires.good_in c.requires.p_bound a.bound.now c.requires.bound_few c.direction.result
-          (rw (stretch-lent a.w _ a.bound.now) at c.direction.ensures.direction_in); zero_from = λ i l.
+    let a = c.args in record {
+      direction_in = way-given a.m a.w a.c a.p c.requires.good_in c.requires.p_bound a.bound.now c.requires.bound_few c.direction.result
+          (rw (stretch-lent a.w _ a.bound.now) at c.direction.ensures.direction_in);
+      zero_from = λ i l.
           c.direction.ensures.zero_from i
-          (omega (arith, length-take (a.p / a.w * a.w + a.w - a.p / a.w * a.w) (drop (a.p / a.w * a.w) a.bound.now))) }
+          (omega (arith, length-take (a.p / a.w * a.w + a.w - a.p / a.w * a.w) (drop (a.p / a.w * a.w) a.bound.now)));
+    }

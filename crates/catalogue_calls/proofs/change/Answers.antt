@@ -11,8 +11,8 @@ use Rattle.catalogue_calls.proofs.change.Goals as goal
 pub returns-then-last : goal.returns-then-last
 returns-then-last c =
     let is_last : (let a = c.args in
-        c.last_revision-last.result ≡ last_revision (catalogue_in a.buffer.now a.size).floor (stored a.buffer.now a.size a.name.now)) =
-        let a = c.args in c.last_revision-last.ensures ∙ last-revision a.found a.buffer.now a.size a.name.now c.requires.0 in
+    c.last_revision-last.result ≡ last_revision (catalogue_in a.buffer.now a.size).floor (stored a.buffer.now a.size a.name.now)) =
+    let a = c.args in c.last_revision-last.ensures ∙ last-revision a.found a.buffer.now a.size a.name.now c.requires.0 in
     let a = c.args in
     change-last a.found a.buffer.now a.size a.name.now c.requires.0 a.m a.w a.c _ is_last c.if-last.true
 
@@ -22,55 +22,55 @@ entry_line-row-requires c = name-short c.args.name.now c.requires.1
 pub overflow_add-moved : goal.overflow_add-moved
 overflow_add-moved c =
     let inside : (let a = c.args in
-        (a.found.place.from ≤ a.found.place.to) × (a.found.place.to ≤ a.size) × (a.size ≤ length a.buffer.now) × (a.size ≤ 4096) × (a.found.first ≤ length (first_line 2 a.found.floor))) =
-        order c.args.found c.args.buffer.now c.args.size c.args.name.now c.requires.0 in
+    (a.found.place.from ≤ a.found.place.to) × (a.found.place.to ≤ a.size) × (a.size ≤ length a.buffer.now) × (a.size ≤ 4096) × (a.found.first ≤ length (first_line 2 a.found.floor))) =
+    order c.args.found c.args.buffer.now c.args.size c.args.name.now c.requires.0 in
     let o = inside in omega arith
 
 pub overflow_sub-moved : goal.overflow_sub-moved
 overflow_sub-moved c =
     let inside : (let a = c.args in
-        (a.found.place.from ≤ a.found.place.to) × (a.found.place.to ≤ a.size) × (a.size ≤ length a.buffer.now) × (a.size ≤ 4096) × (a.found.first ≤ length (first_line 2 a.found.floor))) =
-        order c.args.found c.args.buffer.now c.args.size c.args.name.now c.requires.0 in
+    (a.found.place.from ≤ a.found.place.to) × (a.found.place.to ≤ a.size) × (a.size ≤ length a.buffer.now) × (a.size ≤ 4096) × (a.found.first ≤ length (first_line 2 a.found.floor))) =
+    order c.args.found c.args.buffer.now c.args.size c.args.name.now c.requires.0 in
     let o = inside in omega arith
 
 pub overflow_add-moved-2 : goal.overflow_add-moved-2
 overflow_add-moved-2 c =
     let inside : (let a = c.args in
-        (a.found.place.from ≤ a.found.place.to) × (a.found.place.to ≤ a.size) × (a.size ≤ length a.buffer.now) × (a.size ≤ 4096) × (a.found.first ≤ length (first_line 2 a.found.floor))) =
-        order c.args.found c.args.buffer.now c.args.size c.args.name.now c.requires.0 in
+    (a.found.place.from ≤ a.found.place.to) × (a.found.place.to ≤ a.size) × (a.size ≤ length a.buffer.now) × (a.size ≤ 4096) × (a.found.first ≤ length (first_line 2 a.found.floor))) =
+    order c.args.found c.args.buffer.now c.args.size c.args.name.now c.requires.0 in
     let o = inside in omega arith
 
 pub overflow_sub-end : goal.overflow_sub-end
 overflow_sub-end c =
     let inside : (let a = c.args in
-        (a.found.place.from ≤ a.found.place.to) × (a.found.place.to ≤ a.size) × (a.size ≤ length a.buffer.now) × (a.size ≤ 4096) × (a.found.first ≤ length (first_line 2 a.found.floor))) =
-        order c.args.found c.args.buffer.now c.args.size c.args.name.now c.requires.0 in
+    (a.found.place.from ≤ a.found.place.to) × (a.found.place.to ≤ a.size) × (a.size ≤ length a.buffer.now) × (a.size ≤ 4096) × (a.found.first ≤ length (first_line 2 a.found.floor))) =
+    order c.args.found c.args.buffer.now c.args.size c.args.name.now c.requires.0 in
     let o = inside in omega arith
 
 pub overflow_add-end : goal.overflow_add-end
 overflow_add-end c =
     let inside : (let a = c.args in
-        (a.found.place.from ≤ a.found.place.to) × (a.found.place.to ≤ a.size) × (a.size ≤ length a.buffer.now) × (a.size ≤ 4096) × (a.found.first ≤ length (first_line 2 a.found.floor))) =
-        order c.args.found c.args.buffer.now c.args.size c.args.name.now c.requires.0 in
+    (a.found.place.from ≤ a.found.place.to) × (a.found.place.to ≤ a.size) × (a.size ≤ length a.buffer.now) × (a.size ≤ 4096) × (a.found.first ≤ length (first_line 2 a.found.floor))) =
+    order c.args.found c.args.buffer.now c.args.size c.args.name.now c.requires.0 in
     let o = inside in omega arith
 
 pub returns-then-end-gt4096 : goal.returns-then-end-gt4096
 returns-then-end-gt4096 c =
     let is_last : (let a = c.args in
-        c.last_revision-last.result ≡ last_revision (catalogue_in a.buffer.now a.size).floor (stored a.buffer.now a.size a.name.now)) =
-        let a = c.args in c.last_revision-last.ensures ∙ last-revision a.found a.buffer.now a.size a.name.now c.requires.0 in
+    c.last_revision-last.result ≡ last_revision (catalogue_in a.buffer.now a.size).floor (stored a.buffer.now a.size a.name.now)) =
+    let a = c.args in c.last_revision-last.ensures ∙ last-revision a.found a.buffer.now a.size a.name.now c.requires.0 in
     let changing : (let a = c.args in Changing a.found a.buffer.now a.size a.name.now c.last_revision-last.result) =
-        record { found_in = c.requires.0; last-is = is_last; more = c.if-last.false } in
+    record { found_in = c.requires.0; last-is = is_last; more = c.if-last.false } in
     let a = c.args in
     change-long a.found a.buffer.now a.size a.name.now _ changing a.m a.w a.c (omega arith)
 
 pub returns-then-buffer-end : goal.returns-then-buffer-end
 returns-then-buffer-end c =
     let is_last : (let a = c.args in
-        c.last_revision-last.result ≡ last_revision (catalogue_in a.buffer.now a.size).floor (stored a.buffer.now a.size a.name.now)) =
-        let a = c.args in c.last_revision-last.ensures ∙ last-revision a.found a.buffer.now a.size a.name.now c.requires.0 in
+    c.last_revision-last.result ≡ last_revision (catalogue_in a.buffer.now a.size).floor (stored a.buffer.now a.size a.name.now)) =
+    let a = c.args in c.last_revision-last.ensures ∙ last-revision a.found a.buffer.now a.size a.name.now c.requires.0 in
     let changing : (let a = c.args in Changing a.found a.buffer.now a.size a.name.now c.last_revision-last.result) =
-        record { found_in = c.requires.0; last-is = is_last; more = c.if-last.false } in
+    record { found_in = c.requires.0; last-is = is_last; more = c.if-last.false } in
     let a = c.args in
     change-full a.found a.buffer.now a.size a.name.now _ changing a.m a.w a.c (omega arith) (omega arith)
 
@@ -85,13 +85,13 @@ slice_bounds-splice-end c =
 pub splice-requires : goal.splice-requires
 splice-requires c =
     let is_last : (let a = c.args in
-        c.last_revision-last.result ≡ last_revision (catalogue_in a.buffer.now a.size).floor (stored a.buffer.now a.size a.name.now)) =
-        let a = c.args in c.last_revision-last.ensures ∙ last-revision a.found a.buffer.now a.size a.name.now c.requires.0 in
+    c.last_revision-last.result ≡ last_revision (catalogue_in a.buffer.now a.size).floor (stored a.buffer.now a.size a.name.now)) =
+    let a = c.args in c.last_revision-last.ensures ∙ last-revision a.found a.buffer.now a.size a.name.now c.requires.0 in
     let changing : (let a = c.args in Changing a.found a.buffer.now a.size a.name.now c.last_revision-last.result) =
-        record { found_in = c.requires.0; last-is = is_last; more = c.if-last.false } in
+    record { found_in = c.requires.0; last-is = is_last; more = c.if-last.false } in
     let fits : (let a = c.args in
-        let n = end a.found a.buffer.now a.size a.name.now _ changing a.m a.w a.c in (n ≤ 4096) × (n ≤ length a.buffer.now)) =
-        (omega arith, omega arith) in
+    let n = end a.found a.buffer.now a.size a.name.now _ changing a.m a.w a.c in (n ≤ 4096) × (n ≤ length a.buffer.now)) =
+    (omega arith, omega arith) in
     let a = c.args in
     let f = fits in
     let r = c.entry_line-row in
@@ -111,17 +111,17 @@ slice_bounds-splice-end-2 c =
 pub splice-requires-2 : goal.splice-requires-2
 splice-requires-2 c =
     let is_last : (let a = c.args in
-        c.last_revision-last.result ≡ last_revision (catalogue_in a.buffer.now a.size).floor (stored a.buffer.now a.size a.name.now)) =
-        let a = c.args in c.last_revision-last.ensures ∙ last-revision a.found a.buffer.now a.size a.name.now c.requires.0 in
+    c.last_revision-last.result ≡ last_revision (catalogue_in a.buffer.now a.size).floor (stored a.buffer.now a.size a.name.now)) =
+    let a = c.args in c.last_revision-last.ensures ∙ last-revision a.found a.buffer.now a.size a.name.now c.requires.0 in
     let changing : (let a = c.args in Changing a.found a.buffer.now a.size a.name.now c.last_revision-last.result) =
-        record { found_in = c.requires.0; last-is = is_last; more = c.if-last.false } in
+    record { found_in = c.requires.0; last-is = is_last; more = c.if-last.false } in
     let fits : (let a = c.args in
-        let n = end a.found a.buffer.now a.size a.name.now _ changing a.m a.w a.c in (n ≤ 4096) × (n ≤ length a.buffer.now)) =
-        (omega arith, omega arith) in
+    let n = end a.found a.buffer.now a.size a.name.now _ changing a.m a.w a.c in (n ≤ 4096) × (n ≤ length a.buffer.now)) =
+    (omega arith, omega arith) in
     let spliced : (let a = c.args in
-        c.splice.new.buffer ≡ spliced_in a.buffer.now a.size a.found.place.from a.found.place.to (entry_line (record { name = a.name.now; revision = c.last_revision-last.result + 1; m = a.m; w = a.w; c = a.c }))) =
-        let r = c.entry_line-row in
-        rw (row_line r.result _ r.ensures) at c.splice.ensures in
+    c.splice.new.buffer ≡ spliced_in a.buffer.now a.size a.found.place.from a.found.place.to (entry_line (record { name = a.name.now; revision = c.last_revision-last.result + 1; m = a.m; w = a.w; c = a.c }))) =
+    let r = c.entry_line-row in
+    rw (row_line r.result _ r.ensures) at c.splice.ensures in
     let a = c.args in
     let f = fits in
     rw (row_line c.first_line-first.result _ c.first_line-first.ensures, c.entry_line-row.ensures.size)
@@ -130,17 +130,17 @@ splice-requires-2 c =
 pub returns : goal.returns
 returns c =
     let is_last : (let a = c.args in
-        c.last_revision-last.result ≡ last_revision (catalogue_in a.buffer.now a.size).floor (stored a.buffer.now a.size a.name.now)) =
-        let a = c.args in c.last_revision-last.ensures ∙ last-revision a.found a.buffer.now a.size a.name.now c.requires.0 in
+    c.last_revision-last.result ≡ last_revision (catalogue_in a.buffer.now a.size).floor (stored a.buffer.now a.size a.name.now)) =
+    let a = c.args in c.last_revision-last.ensures ∙ last-revision a.found a.buffer.now a.size a.name.now c.requires.0 in
     let changing : (let a = c.args in Changing a.found a.buffer.now a.size a.name.now c.last_revision-last.result) =
-        record { found_in = c.requires.0; last-is = is_last; more = c.if-last.false } in
+    record { found_in = c.requires.0; last-is = is_last; more = c.if-last.false } in
     let fits : (let a = c.args in
-        let n = end a.found a.buffer.now a.size a.name.now _ changing a.m a.w a.c in (n ≤ 4096) × (n ≤ length a.buffer.now)) =
-        (omega arith, omega arith) in
+    let n = end a.found a.buffer.now a.size a.name.now _ changing a.m a.w a.c in (n ≤ 4096) × (n ≤ length a.buffer.now)) =
+    (omega arith, omega arith) in
     let spliced : (let a = c.args in
-        c.splice.new.buffer ≡ spliced_in a.buffer.now a.size a.found.place.from a.found.place.to (entry_line (record { name = a.name.now; revision = c.last_revision-last.result + 1; m = a.m; w = a.w; c = a.c }))) =
-        let r = c.entry_line-row in
-        rw (row_line r.result _ r.ensures) at c.splice.ensures in
+    c.splice.new.buffer ≡ spliced_in a.buffer.now a.size a.found.place.from a.found.place.to (entry_line (record { name = a.name.now; revision = c.last_revision-last.result + 1; m = a.m; w = a.w; c = a.c }))) =
+    let r = c.entry_line-row in
+    rw (row_line r.result _ r.ensures) at c.splice.ensures in
     let a = c.args in
     let f = fits in
     let z = c.entry_line-row.ensures.size in

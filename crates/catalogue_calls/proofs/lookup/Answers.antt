@@ -8,7 +8,7 @@ use Rattle.catalogue_calls.proofs.lookup.Goals as goal
 pub returns-then-not-is_name : goal.returns-then-not-is_name
 returns-then-not-is_name c =
     let found : (let a = c.args in FoundIn c.in-At.found a.buffer.now a.size a.name.now) =
-        let a = c.args in at-found a.buffer.now a.size a.name.now _ (cc) in
+    let a = c.args in at-found a.buffer.now a.size a.name.now _ (cc) in
     let a = c.args in
     let r = c.is_name in
     let t = looked-unnamed a.buffer.now a.size a.name.now found.whole (sym r.ensures ∙ c.if-not-is_name.true) in
@@ -17,7 +17,7 @@ returns-then-not-is_name c =
 pub returns-then-place-eq0 : goal.returns-then-place-eq0
 returns-then-place-eq0 c =
     let found : (let a = c.args in FoundIn c.in-At.found a.buffer.now a.size a.name.now) =
-        let a = c.args in at-found a.buffer.now a.size a.name.now _ (cc) in
+    let a = c.args in at-found a.buffer.now a.size a.name.now _ (cc) in
     let named : good_name c.args.name.now ≡ true = let r = c.is_name in sym r.ensures ∙ c.if-not-is_name.false in
     let a = c.args in
     let p = found in
@@ -33,7 +33,7 @@ returns-in-Bad c =
 pub returns-else-place-eq0 : goal.returns-else-place-eq0
 returns-else-place-eq0 c =
     let found : (let a = c.args in FoundIn c.in-At.found a.buffer.now a.size a.name.now) =
-        let a = c.args in at-found a.buffer.now a.size a.name.now _ (cc) in
+    let a = c.args in at-found a.buffer.now a.size a.name.now _ (cc) in
     let named : good_name c.args.name.now ≡ true = let r = c.is_name in sym r.ensures ∙ c.if-not-is_name.false in
     let a = c.args in
     let t = looked-place _ a.buffer.now a.size a.name.now found named c.if-place-eq0.false in

@@ -9,7 +9,7 @@ use Rattle.catalogue_calls.proofs.remove.Goals as goal
 pub returns-then-not-is_name : goal.returns-then-not-is_name
 returns-then-not-is_name c =
     let found : (let a = c.args in FoundIn c.in-At.found a.buffer.now a.size a.name.now) =
-        let a = c.args in at-found a.buffer.now a.size a.name.now _ (cc) in
+    let a = c.args in at-found a.buffer.now a.size a.name.now _ (cc) in
     let a = c.args in
     let t = remove-unnamed a.name.now a.expected a.buffer.now a.size found.whole
     (sym c.is_name.ensures ∙ c.if-not-is_name.true) in
@@ -18,7 +18,7 @@ returns-then-not-is_name c =
 pub returns-then-found-eq0 : goal.returns-then-found-eq0
 returns-then-found-eq0 c =
     let found : (let a = c.args in FoundIn c.in-At.found a.buffer.now a.size a.name.now) =
-        let a = c.args in at-found a.buffer.now a.size a.name.now _ (cc) in
+    let a = c.args in at-found a.buffer.now a.size a.name.now _ (cc) in
     let named : good_name c.args.name.now ≡ true = let r = c.is_name in sym r.ensures ∙ c.if-not-is_name.false in
     let a = c.args in
     let p = found in
@@ -29,11 +29,11 @@ returns-then-found-eq0 c =
 pub returns-then-found-expected : goal.returns-then-found-expected
 returns-then-found-expected c =
     let found : (let a = c.args in FoundIn c.in-At.found a.buffer.now a.size a.name.now) =
-        let a = c.args in at-found a.buffer.now a.size a.name.now _ (cc) in
+    let a = c.args in at-found a.buffer.now a.size a.name.now _ (cc) in
     let named : good_name c.args.name.now ≡ true = let r = c.is_name in sym r.ensures ∙ c.if-not-is_name.false in
     let there : (let a = c.args in (stored a.buffer.now a.size a.name.now).m ≡ 0 → ⊥) =
-        λ z. let a = c.args in
-        c.if-found-eq0.false ((spot _ a.buffer.now a.size a.name.now found).m ∙ z) in
+    λ z. let a = c.args in
+    c.if-found-eq0.false ((spot _ a.buffer.now a.size a.name.now found).m ∙ z) in
     let a = c.args in
     let p = found in
     let t = remove-other a.name.now a.expected a.buffer.now a.size p.whole named there
@@ -43,7 +43,7 @@ returns-then-found-expected c =
 pub change-requires : goal.change-requires
 change-requires c =
     let found : (let a = c.args in FoundIn c.in-At.found a.buffer.now a.size a.name.now) =
-        let a = c.args in at-found a.buffer.now a.size a.name.now _ (cc) in
+    let a = c.args in at-found a.buffer.now a.size a.name.now _ (cc) in
     let named : good_name c.args.name.now ≡ true = let r = c.is_name in sym r.ensures ∙ c.if-not-is_name.false in
     (found, named)
 
@@ -56,11 +56,11 @@ returns-in-Bad c =
 pub returns-else-found-expected : goal.returns-else-found-expected
 returns-else-found-expected c =
     let found : (let a = c.args in FoundIn c.in-At.found a.buffer.now a.size a.name.now) =
-        let a = c.args in at-found a.buffer.now a.size a.name.now _ (cc) in
+    let a = c.args in at-found a.buffer.now a.size a.name.now _ (cc) in
     let named : good_name c.args.name.now ≡ true = let r = c.is_name in sym r.ensures ∙ c.if-not-is_name.false in
     let there : (let a = c.args in (stored a.buffer.now a.size a.name.now).m ≡ 0 → ⊥) =
-        λ z. let a = c.args in
-        c.if-found-eq0.false ((spot _ a.buffer.now a.size a.name.now found).m ∙ z) in
+    λ z. let a = c.args in
+    c.if-found-eq0.false ((spot _ a.buffer.now a.size a.name.now found).m ∙ z) in
     let a = c.args in
     let p = found in
     let t = remove-change a.name.now a.expected a.buffer.now a.size p.whole named there

@@ -8,7 +8,7 @@ use Rattle.catalogue_compact.proofs.compact.Goals as goal
 pub returns-then-found-eq0 : goal.returns-then-found-eq0
 returns-then-found-eq0 c =
     let found : (let a = c.args in FoundIn c.in-At.found a.buffer.now a.size []) =
-        let a = c.args in at-found a.buffer.now a.size [] _ (cc) in
+    let a = c.args in at-found a.buffer.now a.size [] _ (cc) in
     let a = c.args in
     let t = compact-none _ a.buffer.now a.size [] found c.if-found-eq0.true in
     record { number = t.0; figures = t.1.0; buffer = t.1.1 }
@@ -16,7 +16,7 @@ returns-then-found-eq0 c =
 pub drop_gone-end-requires : goal.drop_gone-end-requires
 drop_gone-end-requires c =
     let found : (let a = c.args in FoundIn c.in-At.found a.buffer.now a.size []) =
-        let a = c.args in at-found a.buffer.now a.size [] _ (cc) in
+    let a = c.args in at-found a.buffer.now a.size [] _ (cc) in
     let a = c.args in
     lines_at _ a.buffer.now a.size [] found
 
@@ -31,31 +31,31 @@ slice_bounds-splice-end c =
 pub splice-requires : goal.splice-requires
 splice-requires c =
     let found : (let a = c.args in FoundIn c.in-At.found a.buffer.now a.size []) =
-        let a = c.args in at-found a.buffer.now a.size [] _ (cc) in
+    let a = c.args in at-found a.buffer.now a.size [] _ (cc) in
     let dropped : (let a = c.args in let d = c.drop_gone-end in Compacts c.in-At.found a.buffer.now a.size c.larger.result d.result d.new.buffer) =
-        let a = c.args in
-        let d = c.drop_gone-end in
-        compacts _ a.buffer.now a.size [] found c.if-found-eq0.false _ c.larger.ensures _ _ d.ensures.end d.ensures.buffer in
+    let a = c.args in
+    let d = c.drop_gone-end in
+    compacts _ a.buffer.now a.size [] found c.if-found-eq0.false _ c.larger.ensures _ _ d.ensures.end d.ensures.buffer in
     rw (row_line c.first_line-row.result _ c.first_line-row.ensures) dropped.fits
 
 pub overflow_sub-result : goal.overflow_sub-result
 overflow_sub-result c =
     let found : (let a = c.args in FoundIn c.in-At.found a.buffer.now a.size []) =
-        let a = c.args in at-found a.buffer.now a.size [] _ (cc) in
+    let a = c.args in at-found a.buffer.now a.size [] _ (cc) in
     let dropped : (let a = c.args in let d = c.drop_gone-end in Compacts c.in-At.found a.buffer.now a.size c.larger.result d.result d.new.buffer) =
-        let a = c.args in
-        let d = c.drop_gone-end in
-        compacts _ a.buffer.now a.size [] found c.if-found-eq0.false _ c.larger.ensures _ _ d.ensures.end d.ensures.buffer in
+    let a = c.args in
+    let d = c.drop_gone-end in
+    compacts _ a.buffer.now a.size [] found c.if-found-eq0.false _ c.larger.ensures _ _ d.ensures.end d.ensures.buffer in
     let d = dropped in omega arith
 
 pub overflow_add-result : goal.overflow_add-result
 overflow_add-result c =
     let found : (let a = c.args in FoundIn c.in-At.found a.buffer.now a.size []) =
-        let a = c.args in at-found a.buffer.now a.size [] _ (cc) in
+    let a = c.args in at-found a.buffer.now a.size [] _ (cc) in
     let dropped : (let a = c.args in let d = c.drop_gone-end in Compacts c.in-At.found a.buffer.now a.size c.larger.result d.result d.new.buffer) =
-        let a = c.args in
-        let d = c.drop_gone-end in
-        compacts _ a.buffer.now a.size [] found c.if-found-eq0.false _ c.larger.ensures _ _ d.ensures.end d.ensures.buffer in
+    let a = c.args in
+    let d = c.drop_gone-end in
+    compacts _ a.buffer.now a.size [] found c.if-found-eq0.false _ c.larger.ensures _ _ d.ensures.end d.ensures.buffer in
     let d = dropped in omega arith
 
 pub returns-in-Bad : goal.returns-in-Bad
@@ -67,11 +67,11 @@ returns-in-Bad c =
 pub returns-else-found-eq0 : goal.returns-else-found-eq0
 returns-else-found-eq0 c =
     let found : (let a = c.args in FoundIn c.in-At.found a.buffer.now a.size []) =
-        let a = c.args in at-found a.buffer.now a.size [] _ (cc) in
+    let a = c.args in at-found a.buffer.now a.size [] _ (cc) in
     let dropped : (let a = c.args in let d = c.drop_gone-end in Compacts c.in-At.found a.buffer.now a.size c.larger.result d.result d.new.buffer) =
-        let a = c.args in
-        let d = c.drop_gone-end in
-        compacts _ a.buffer.now a.size [] found c.if-found-eq0.false _ c.larger.ensures _ _ d.ensures.end d.ensures.buffer in
+    let a = c.args in
+    let d = c.drop_gone-end in
+    compacts _ a.buffer.now a.size [] found c.if-found-eq0.false _ c.larger.ensures _ _ d.ensures.end d.ensures.buffer in
     let p = c.splice in
     let t = dropped.done p.new.buffer (rw (row_line c.first_line-row.result _ c.first_line-row.ensures) at p.ensures) in
     rw c.first_line-row.ensures.size (record { number = t.0; figures = t.1.0; buffer = t.1.1 })

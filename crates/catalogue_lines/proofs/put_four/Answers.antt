@@ -11,7 +11,7 @@ returns c =
     let n₃ = c.put_number-d in
     let n₄ = c.put_number in
     let t =
-        four-put a.out.now n₁.new.out n₂.new.out n₃.new.out n₄.new.out a.at n₁.result n₂.result n₃.result n₄.result a.first
+    four-put a.out.now n₁.new.out n₂.new.out n₃.new.out n₄.new.out a.at n₁.result n₂.result n₃.result n₄.result a.first
     a.second a.third a.fourth
     c.requires
     (omega arith) (omega arith) (omega arith) (omega arith) n₁.ensures.next n₁.ensures.out n₂.ensures.next n₂.ensures.out n₃.ensures.next

@@ -38,7 +38,7 @@ returns-then-c-line c =
     let e = c.if-not-is_name.false in
     let named : good_name (line_name line) ≡ true = cc (name-taken line, r.ensures) in
     let rest = read-rest line p.result v.result size v.ensures.value (sym c.is_gone.ensures ∙ c.if-is_gone.false) _ _ _
-        c.field_after-m.ensures.value c.field_after-w.ensures.value c.field_after-c.ensures.value named in
+    c.field_after-m.ensures.value c.field_after-w.ensures.value c.field_after-c.ensures.value named in
     c.unread-then-c-line.ensures ∙ sym (rest.0 c.if-c-line.true)
 
 pub returns : goal.returns
@@ -51,5 +51,5 @@ returns c =
     let e = c.if-not-is_name.false in
     let named : good_name (line_name line) ≡ true = cc (name-taken line, r.ensures) in
     let rest = read-rest line p.result v.result size v.ensures.value (sym c.is_gone.ensures ∙ c.if-is_gone.false) _ _ _
-        c.field_after-m.ensures.value c.field_after-w.ensures.value c.field_after-c.ensures.value named in
+    c.field_after-m.ensures.value c.field_after-w.ensures.value c.field_after-c.ensures.value named in
     c.line_if.ensures ∙ sym (rest.1 c.if-c-line.false)

@@ -13,7 +13,7 @@ bounds-bytes-end c =
     let p = c.put_text-at in
     let q = c.put_four-end in
     let t = line-put c.args.name.now p.new.out p.result c.requires p.ensures.next p.ensures.out q.new.out q.result _ refl
-        q.ensures.next q.ensures.out in
+    q.ensures.next q.ensures.out in
     t.0
 
 pub overflow_add-result : goal.overflow_add-result
@@ -21,7 +21,7 @@ overflow_add-result c =
     let p = c.put_text-at in
     let q = c.put_four-end in
     let t = line-put c.args.name.now p.new.out p.result c.requires p.ensures.next p.ensures.out q.new.out q.result _ refl
-        q.ensures.next q.ensures.out in
+    q.ensures.next q.ensures.out in
     omega arith
 
 pub returns : goal.returns
@@ -29,5 +29,5 @@ returns c =
     let p = c.put_text-at in
     let q = c.put_four-end in
     let t = line-put c.args.name.now p.new.out p.result c.requires p.ensures.next p.ensures.out q.new.out q.result _ refl
-        q.ensures.next q.ensures.out in
+    q.ensures.next q.ensures.out in
     record { size = t.1; most = omega arith; contents = t.2 }

@@ -18,25 +18,25 @@ slice_bounds-read_head-end c =
 pub returns-then-head-eq0 : goal.returns-then-head-eq0
 returns-then-head-eq0 c =
     let headed : (let text = c.args.text.now in c.read_head-head.result ≡ read_head (take (end_of 10 0 text) text)) =
-        c.read_head-head.ensures ∙ ap (λ x. read_head (take x c.args.text.now)) c.part_end-end.ensures.end in
+    c.read_head-head.ensures ∙ ap (λ x. read_head (take x c.args.text.now)) c.part_end-end.ensures.end in
     let a = c.args in
     sym (scan-headless a.text.now a.name.now c.read_head-head.result headed c.if-head-eq0.true)
 
 pub scan_lines-requires : goal.scan_lines-requires
 scan_lines-requires c =
     let headed : (let text = c.args.text.now in c.read_head-head.result ≡ read_head (take (end_of 10 0 text) text)) =
-        c.read_head-head.ensures ∙ ap (λ x. read_head (take x c.args.text.now)) c.part_end-end.ensures.end in
+    c.read_head-head.ensures ∙ ap (λ x. read_head (take x c.args.text.now)) c.part_end-end.ensures.end in
     let inner : (let text = c.args.text.now in end_of 10 0 text < length text) =
-        subst (λ x. x < length c.args.text.now) c.part_end-end.ensures.end c.if-text-end.false in
+    subst (λ x. x < length c.args.text.now) c.part_end-end.ensures.end c.if-text-end.false in
     let a = c.args in
     head-size a.text.now a.name.now inner c.read_head-head.result headed c.if-head-eq0.false
 
 pub returns-then-found-ne0 : goal.returns-then-found-ne0
 returns-then-found-ne0 c =
     let headed : (let text = c.args.text.now in c.read_head-head.result ≡ read_head (take (end_of 10 0 text) text)) =
-        c.read_head-head.ensures ∙ ap (λ x. read_head (take x c.args.text.now)) c.part_end-end.ensures.end in
+    c.read_head-head.ensures ∙ ap (λ x. read_head (take x c.args.text.now)) c.part_end-end.ensures.end in
     let inner : (let text = c.args.text.now in end_of 10 0 text < length text) =
-        subst (λ x. x < length c.args.text.now) c.part_end-end.ensures.end c.if-text-end.false in
+    subst (λ x. x < length c.args.text.now) c.part_end-end.ensures.end c.if-text-end.false in
     let a = c.args in
     sym (scan-gone a.text.now a.name.now inner c.read_head-head.result headed c.if-head-eq0.false
     c.in-At.found (cc) c.if-head-eq1.true c.if-found-ne0.true)
@@ -44,18 +44,18 @@ returns-then-found-ne0 c =
 pub returns-in-Bad : goal.returns-in-Bad
 returns-in-Bad c =
     let headed : (let text = c.args.text.now in c.read_head-head.result ≡ read_head (take (end_of 10 0 text) text)) =
-        c.read_head-head.ensures ∙ ap (λ x. read_head (take x c.args.text.now)) c.part_end-end.ensures.end in
+    c.read_head-head.ensures ∙ ap (λ x. read_head (take x c.args.text.now)) c.part_end-end.ensures.end in
     let inner : (let text = c.args.text.now in end_of 10 0 text < length text) =
-        subst (λ x. x < length c.args.text.now) c.part_end-end.ensures.end c.if-text-end.false in
+    subst (λ x. x < length c.args.text.now) c.part_end-end.ensures.end c.if-text-end.false in
     let a = c.args in
     sym (lines-bad a.text.now a.name.now inner c.read_head-head.result headed c.if-head-eq0.false (cc))
 
 pub returns-else-found-ne0 : goal.returns-else-found-ne0
 returns-else-found-ne0 c =
     let headed : (let text = c.args.text.now in c.read_head-head.result ≡ read_head (take (end_of 10 0 text) text)) =
-        c.read_head-head.ensures ∙ ap (λ x. read_head (take x c.args.text.now)) c.part_end-end.ensures.end in
+    c.read_head-head.ensures ∙ ap (λ x. read_head (take x c.args.text.now)) c.part_end-end.ensures.end in
     let inner : (let text = c.args.text.now in end_of 10 0 text < length text) =
-        subst (λ x. x < length c.args.text.now) c.part_end-end.ensures.end c.if-text-end.false in
+    subst (λ x. x < length c.args.text.now) c.part_end-end.ensures.end c.if-text-end.false in
     let a = c.args in
     scan-found a.text.now a.name.now inner c.read_head-head.result headed c.if-head-eq0.false
     c.in-At.found (cc) (λ v. c.if-found-ne0.false)
@@ -63,9 +63,9 @@ returns-else-found-ne0 c =
 pub returns-else-head-eq1 : goal.returns-else-head-eq1
 returns-else-head-eq1 c =
     let headed : (let text = c.args.text.now in c.read_head-head.result ≡ read_head (take (end_of 10 0 text) text)) =
-        c.read_head-head.ensures ∙ ap (λ x. read_head (take x c.args.text.now)) c.part_end-end.ensures.end in
+    c.read_head-head.ensures ∙ ap (λ x. read_head (take x c.args.text.now)) c.part_end-end.ensures.end in
     let inner : (let text = c.args.text.now in end_of 10 0 text < length text) =
-        subst (λ x. x < length c.args.text.now) c.part_end-end.ensures.end c.if-text-end.false in
+    subst (λ x. x < length c.args.text.now) c.part_end-end.ensures.end c.if-text-end.false in
     let a = c.args in
     scan-found a.text.now a.name.now inner c.read_head-head.result headed c.if-head-eq0.false
     c.in-At.found (cc) (λ v. absurd (c.if-head-eq1.false v))

@@ -38,23 +38,23 @@ returns-then-line-eq0 c =
 pub overflow_add-to : goal.overflow_add-to
 overflow_add-to c =
     let inside : c.loop-at.at + c.right_line-line.result.size ≤ c.part_end-end.result =
-        let r = c.right_line-line in
-        let p = c.part_end-end in
-        let l = c.loop-at in
-        let a = c.args in
-        step-size a.text.now a.name.now a.first a.floor l.at l.from l.to l.place l.top l.invariant p.result p.ensures.end
-        c.if-text-end.false r.result r.ensures c.if-line-eq0.false in
+    let r = c.right_line-line in
+    let p = c.part_end-end in
+    let l = c.loop-at in
+    let a = c.args in
+    step-size a.text.now a.name.now a.first a.floor l.at l.from l.to l.place l.top l.invariant p.result p.ensures.end
+    c.if-text-end.false r.result r.ensures c.if-line-eq0.false in
     let s = inside in omega arith
 
 pub slice_bounds-place_next-end : goal.slice_bounds-place_next-end
 slice_bounds-place_next-end c =
     let inside : c.loop-at.at + c.right_line-line.result.size ≤ c.part_end-end.result =
-        let r = c.right_line-line in
-        let p = c.part_end-end in
-        let l = c.loop-at in
-        let a = c.args in
-        step-size a.text.now a.name.now a.first a.floor l.at l.from l.to l.place l.top l.invariant p.result p.ensures.end
-        c.if-text-end.false r.result r.ensures c.if-line-eq0.false in
+    let r = c.right_line-line in
+    let p = c.part_end-end in
+    let l = c.loop-at in
+    let a = c.args in
+    step-size a.text.now a.name.now a.first a.floor l.at l.from l.to l.place l.top l.invariant p.result p.ensures.end
+    c.if-text-end.false r.result r.ensures c.if-line-eq0.false in
     let s = inside in omega arith
 
 pub loop-at-smaller : goal.loop-at-smaller

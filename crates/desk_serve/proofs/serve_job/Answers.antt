@@ -1,5 +1,4 @@
-use Rattle.std.proofs.Common.{◌≡◌, refl, sym, ◌∙◌, ℕ, ◌*◌, arith, length, length-take-le}
-use borrow.Author.Rules.{length_unmapped}
+use Rattle.std.proofs.Common.{◌≡◌, refl, sym, ◌∙◌, ◌*◌, arith, rules, length, length-take-le}
 use Rattle.desk_job.specs.Jobs.{job_marks}
 use Rattle.desk_serve.specs.Serve.{job_recovery, job_number}
 use Rattle.desk_job.specs.JobLaws.{good-places}
@@ -24,14 +23,14 @@ returns-then-job-eq-MAX_SERVED c =
 
 pub slice_bounds-marks-end : goal.slice_bounds-marks-end
 slice_bounds-marks-end c =
-    let l : length c.args.job.marks ≡ 240 = length_unmapped ℕ c.args.job.marks 240 c.well-formed.0.1.1.1.1.1.1.1.1.0.1.0.1 in
+    let l : length c.args.job.marks ≡ 240 = search rules in
     let k = good-places c.args.job c.requires in
     omega arith
 
 pub slice_bounds-recover-end : goal.slice_bounds-recover-end
 slice_bounds-recover-end c =
     let j = c.args.job in
-    let l : length j.marks ≡ 240 = length_unmapped ℕ j.marks 240 c.well-formed.0.1.1.1.1.1.1.1.1.0.1.0.1 in
+    let l : length j.marks ≡ 240 = search rules in
     let k = good-places j c.requires in
     sym (length-take-le (j.m * j.w) j.marks (omega arith))
 
@@ -40,6 +39,9 @@ returns c =
     let a = c.args in
     let n : job_number a.job a.word.now ≡ (job_recovery a.job a.word.now).number =
     job-recovery a.job a.word.now c.if-word-n.false c.if-job-eq-MAX_SERVED.false in
-    record { answer = rw n (answers_at c.recover.ensures.answer); word = rw n (c.recover.ensures.word
+    record {
+      answer = rw n (answers_at c.recover.ensures.answer);
+      word = rw n (c.recover.ensures.word
           ∙ unless-same (job_recovery a.job a.word.now).number (job_recovery a.job a.word.now).word a.word.now
-          (recover-unchanged a.job.m a.job.w a.job.c a.word.now (job_marks a.job))) }
+          (recover-unchanged a.job.m a.job.w a.job.c a.word.now (job_marks a.job)));
+    }

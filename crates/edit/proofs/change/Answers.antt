@@ -11,25 +11,25 @@ use Rattle.edit.proofs.change.Goals as goal
 pub overflow_mul-a : goal.overflow_mul-a
 overflow_mul-a c =
     let ends : let a = c.args in let g = a.number / (a.w - a.c) in (g * a.w + a.w ≤ a.m * a.w) × (a.m * a.w ≤ 240) =
-          let a = c.args in (stretch-end a.m a.w (a.number / (a.w - a.c)) (group-less c.requires.good_in a.number c.requires.number_bound), c.requires.good_in.fits) in
+    let a = c.args in (stretch-end a.m a.w (a.number / (a.w - a.c)) (group-less c.requires.good_in a.number c.requires.number_bound), c.requires.good_in.fits) in
     let e = ends in omega arith
 
 pub overflow_add-e : goal.overflow_add-e
 overflow_add-e c =
     let ends : let a = c.args in let g = a.number / (a.w - a.c) in (g * a.w + a.w ≤ a.m * a.w) × (a.m * a.w ≤ 240) =
-          let a = c.args in (stretch-end a.m a.w (a.number / (a.w - a.c)) (group-less c.requires.good_in a.number c.requires.number_bound), c.requires.good_in.fits) in
+    let a = c.args in (stretch-end a.m a.w (a.number / (a.w - a.c)) (group-less c.requires.good_in a.number c.requires.number_bound), c.requires.good_in.fits) in
     let e = ends in omega arith
 
 pub slice_bounds-refill-end : goal.slice_bounds-refill-end
 slice_bounds-refill-end c =
     let ends : let a = c.args in let g = a.number / (a.w - a.c) in (g * a.w + a.w ≤ a.m * a.w) × (a.m * a.w ≤ 240) =
-          let a = c.args in (stretch-end a.m a.w (a.number / (a.w - a.c)) (group-less c.requires.good_in a.number c.requires.number_bound), c.requires.good_in.fits) in
+    let a = c.args in (stretch-end a.m a.w (a.number / (a.w - a.c)) (group-less c.requires.good_in a.number c.requires.number_bound), c.requires.good_in.fits) in
     let e = ends in omega arith
 
 pub refill-s-requires : goal.refill-s-requires
 refill-s-requires c =
     let long : let a = c.args in let g = a.number / (a.w - a.c) in length (take (g * a.w + a.w - g * a.w) (drop (g * a.w) a.word.now)) ≡ a.w =
-          let a = c.args in let g = a.number / (a.w - a.c) in ap length (stretch-lent a.w g a.word.now) ∙ stretch-length a.w g a.word.now (subst (λ n. suc g * a.w ≤ n) (sym c.requires.word_len) (mul-le-mul_right a.w (group-less c.requires.good_in a.number c.requires.number_bound))) in
+    let a = c.args in let g = a.number / (a.w - a.c) in ap length (stretch-lent a.w g a.word.now) ∙ stretch-length a.w g a.word.now (subst (λ n. suc g * a.w ≤ n) (sym c.requires.word_len) (mul-le-mul_right a.w (group-less c.requires.good_in a.number c.requires.number_bound))) in
     let a = c.args in
     let good = c.requires.good_in in
     let e = long in
@@ -39,7 +39,7 @@ refill-s-requires c =
 pub returns : goal.returns
 returns c =
     let long : let a = c.args in let g = a.number / (a.w - a.c) in length (take (g * a.w + a.w - g * a.w) (drop (g * a.w) a.word.now)) ≡ a.w =
-          let a = c.args in let g = a.number / (a.w - a.c) in ap length (stretch-lent a.w g a.word.now) ∙ stretch-length a.w g a.word.now (subst (λ n. suc g * a.w ≤ n) (sym c.requires.word_len) (mul-le-mul_right a.w (group-less c.requires.good_in a.number c.requires.number_bound))) in
+    let a = c.args in let g = a.number / (a.w - a.c) in ap length (stretch-lent a.w g a.word.now) ∙ stretch-length a.w g a.word.now (subst (λ n. suc g * a.w ≤ n) (sym c.requires.word_len) (mul-le-mul_right a.w (group-less c.requires.good_in a.number c.requires.number_bound))) in
     let a = c.args in
     let g = a.number / (a.w - a.c) in
     let after : List ℕ = c.refill-s.new.part in

@@ -20,9 +20,9 @@ returns-then-r-ne0 c =
 pub overflow_cast-result : goal.overflow_cast-result
 overflow_cast-result c =
     let fair : let a = c.args in number_refusal_in byte_limits a.m a.w a.c (length a.word.now) a.number ≡ 0 =
-          sym c.refusal-r.ensures ∙ c.if-r-ne0.false in
+    sym c.refusal-r.ensures ∙ c.if-r-ne0.false in
     let found : let a = c.args in c.test-tested.result ≡ tested_in byte_edition a.m a.w a.c a.word.now =
-          let a = c.args in let g = good-of-number a.m a.w a.c (length a.word.now) a.number fair in c.test-tested.ensures.value g.0 g.1 in
+    let a = c.args in let g = good-of-number a.m a.w a.c (length a.word.now) a.number fair in c.test-tested.ensures.value g.0 g.1 in
     let a = c.args in
     let g = good-of-number a.m a.w a.c (length a.word.now) a.number fair in
     omega (arith, ap (λ (x : Tested). x.group) found, broken-most byte_edition a.m a.w a.c a.word.now, g.0.few)
@@ -31,22 +31,22 @@ pub returns-then-not-tested : goal.returns-then-not-tested
 unfolding broken_group_in
 returns-then-not-tested c =
     let fair : let a = c.args in number_refusal_in byte_limits a.m a.w a.c (length a.word.now) a.number ≡ 0 =
-          sym c.refusal-r.ensures ∙ c.if-r-ne0.false in
+    sym c.refusal-r.ensures ∙ c.if-r-ne0.false in
     let found : let a = c.args in c.test-tested.result ≡ tested_in byte_edition a.m a.w a.c a.word.now =
-          let a = c.args in let g = good-of-number a.m a.w a.c (length a.word.now) a.number fair in c.test-tested.ensures.value g.0 g.1 in
+    let a = c.args in let g = good-of-number a.m a.w a.c (length a.word.now) a.number fair in c.test-tested.ensures.value g.0 g.1 in
     let a = c.args in
     let g = good-of-number a.m a.w a.c (length a.word.now) a.number fair in
     let q = edit-contradictory a.m a.w a.c a.word.now a.number a.byte fair _
-          (sym (ap (λ (x : Tested). x.codeword) found) ∙ not-true _ c.if-not-tested.true)
-          (ap (λ (x : Tested). x.group) found ∙ whole-groups byte_edition a.m a.w a.c a.word.now g.1 (λ p. (c.slice_known-1.given p).fits)) in
+    (sym (ap (λ (x : Tested). x.codeword) found) ∙ not-true _ c.if-not-tested.true)
+    (ap (λ (x : Tested). x.group) found ∙ whole-groups byte_edition a.m a.w a.c a.word.now g.1 (λ p. (c.slice_known-1.given p).fits)) in
     record { answer = q.0; number = q.1.0; word = q.1.1 }
 
 pub change-requires : goal.change-requires
 change-requires c =
     let fair : let a = c.args in number_refusal_in byte_limits a.m a.w a.c (length a.word.now) a.number ≡ 0 =
-          sym c.refusal-r.ensures ∙ c.if-r-ne0.false in
+    sym c.refusal-r.ensures ∙ c.if-r-ne0.false in
     let found : let a = c.args in c.test-tested.result ≡ tested_in byte_edition a.m a.w a.c a.word.now =
-          let a = c.args in let g = good-of-number a.m a.w a.c (length a.word.now) a.number fair in c.test-tested.ensures.value g.0 g.1 in
+    let a = c.args in let g = good-of-number a.m a.w a.c (length a.word.now) a.number fair in c.test-tested.ensures.value g.0 g.1 in
     let a = c.args in
     let g = good-of-number a.m a.w a.c (length a.word.now) a.number fair in
     let s = sold-of-number a.m a.w a.c (length a.word.now) a.number fair in
@@ -55,10 +55,10 @@ change-requires c =
 pub returns : goal.returns
 returns c =
     let fair : let a = c.args in number_refusal_in byte_limits a.m a.w a.c (length a.word.now) a.number ≡ 0 =
-          sym c.refusal-r.ensures ∙ c.if-r-ne0.false in
+    sym c.refusal-r.ensures ∙ c.if-r-ne0.false in
     let found : let a = c.args in c.test-tested.result ≡ tested_in byte_edition a.m a.w a.c a.word.now =
-          let a = c.args in let g = good-of-number a.m a.w a.c (length a.word.now) a.number fair in c.test-tested.ensures.value g.0 g.1 in
+    let a = c.args in let g = good-of-number a.m a.w a.c (length a.word.now) a.number fair in c.test-tested.ensures.value g.0 g.1 in
     let a = c.args in
     let q = edit-done a.m a.w a.c a.word.now a.number a.byte fair _
-          (sym (ap (λ (x : Tested). x.codeword) found) ∙ not-false _ c.if-not-tested.false) c.change.ensures in
+    (sym (ap (λ (x : Tested). x.codeword) found) ∙ not-false _ c.if-not-tested.false) c.change.ensures in
     record { answer = q.0; number = q.1.0; word = q.1.1 }

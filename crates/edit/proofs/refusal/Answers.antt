@@ -23,13 +23,13 @@ returns-then-length-ne0 c =
 pub overflow_sub-w : goal.overflow_sub-w
 overflow_sub-w c =
     let fair : let a = c.args in GoodIn byte_limits a.m a.w a.c =
-          let a = c.args in (good-of-word a.m a.w a.c a.lent (sym c.word_refusal-length.ensures ∙ c.if-length-ne0.false)).0 in
+    let a = c.args in (good-of-word a.m a.w a.c a.lent (sym c.word_refusal-length.ensures ∙ c.if-length-ne0.false)).0 in
     let g = fair in omega (arith, g.wide)
 
 pub overflow_mul-m : goal.overflow_mul-m
 overflow_mul-m c =
     let fair : let a = c.args in GoodIn byte_limits a.m a.w a.c =
-          let a = c.args in (good-of-word a.m a.w a.c a.lent (sym c.word_refusal-length.ensures ∙ c.if-length-ne0.false)).0 in
+    let a = c.args in (good-of-word a.m a.w a.c a.lent (sym c.word_refusal-length.ensures ∙ c.if-length-ne0.false)).0 in
     let g = fair in
     let a = c.args in
     let h : a.w - a.c ≤ 16 = omega (arith, g.narrow) in
@@ -39,19 +39,19 @@ overflow_mul-m c =
 pub overflow_sub-m : goal.overflow_sub-m
 overflow_sub-m c =
     let fair : let a = c.args in GoodIn byte_limits a.m a.w a.c =
-          let a = c.args in (good-of-word a.m a.w a.c a.lent (sym c.word_refusal-length.ensures ∙ c.if-length-ne0.false)).0 in
+    let a = c.args in (good-of-word a.m a.w a.c a.lent (sym c.word_refusal-length.ensures ∙ c.if-length-ne0.false)).0 in
     let g = fair in omega (arith, g.room)
 
 pub returns-then-m-w : goal.returns-then-m-w
 returns-then-m-w c =
     let numbered : let a = c.args in number_refusal_in byte_limits a.m a.w a.c a.lent a.number ≡ refuse 30 (leb (data_count a.m a.w a.c) a.number) =
-          let a = c.args in refused-number a.m a.w a.c a.lent a.number (sym c.sale_refusal-unsold.ensures ∙ c.if-unsold-ne0.false) (sym c.word_refusal-length.ensures ∙ c.if-length-ne0.false) in
+    let a = c.args in refused-number a.m a.w a.c a.lent a.number (sym c.sale_refusal-unsold.ensures ∙ c.if-unsold-ne0.false) (sym c.word_refusal-length.ensures ∙ c.if-length-ne0.false) in
     let a = c.args in
     sym (numbered ∙ ap (refuse 30) (le-leb (data_count a.m a.w a.c) a.number c.if-m-w.true))
 
 pub returns-else-m-w : goal.returns-else-m-w
 returns-else-m-w c =
     let numbered : let a = c.args in number_refusal_in byte_limits a.m a.w a.c a.lent a.number ≡ refuse 30 (leb (data_count a.m a.w a.c) a.number) =
-          let a = c.args in refused-number a.m a.w a.c a.lent a.number (sym c.sale_refusal-unsold.ensures ∙ c.if-unsold-ne0.false) (sym c.word_refusal-length.ensures ∙ c.if-length-ne0.false) in
+    let a = c.args in refused-number a.m a.w a.c a.lent a.number (sym c.sale_refusal-unsold.ensures ∙ c.if-unsold-ne0.false) (sym c.word_refusal-length.ensures ∙ c.if-length-ne0.false) in
     let a = c.args in
     sym (numbered ∙ ap (refuse 30) (lt-leb (data_count a.m a.w a.c) a.number c.if-m-w.false))

@@ -27,26 +27,26 @@ spread_data-requires c =
 pub slice_bounds-marks-end : goal.slice_bounds-marks-end
 slice_bounds-marks-end c =
     let fair : let a = c.args in GoodIn byte_limits a.m a.w a.c × (length a.word.now ≡ place_count a.m a.w) × (length a.bytes.now ≡ data_count a.m a.w a.c) =
-          let a = c.args in good-of-encode {L = byte_limits} a.m a.w a.c (length a.word.now) (length a.bytes.now) (cc) in
+    let a = c.args in good-of-encode {L = byte_limits} a.m a.w a.c (length a.word.now) (length a.bytes.now) (cc) in
     let placed : let a = c.args in length c.spread_data.new.word ≡ place_count a.m a.w =
-          ap length c.spread_data.ensures ∙ placed-length _ _ _ _ in
+    ap length c.spread_data.ensures ∙ placed-length _ _ _ _ in
     subst (λ n. n ≤ 240) (sym placed) (places-most fair.0)
 
 pub slice_bounds-fill_checks-end : goal.slice_bounds-fill_checks-end
 slice_bounds-fill_checks-end c =
     let fair : let a = c.args in GoodIn byte_limits a.m a.w a.c × (length a.word.now ≡ place_count a.m a.w) × (length a.bytes.now ≡ data_count a.m a.w a.c) =
-          let a = c.args in good-of-encode {L = byte_limits} a.m a.w a.c (length a.word.now) (length a.bytes.now) (cc) in
+    let a = c.args in good-of-encode {L = byte_limits} a.m a.w a.c (length a.word.now) (length a.bytes.now) (cc) in
     let placed : let a = c.args in length c.spread_data.new.word ≡ place_count a.m a.w =
-          ap length c.spread_data.ensures ∙ placed-length _ _ _ _ in
+    ap length c.spread_data.ensures ∙ placed-length _ _ _ _ in
     let most = places-most fair.0 in
     simp length-take (omega arith)
 
 pub fill_checks-requires : goal.fill_checks-requires
 fill_checks-requires c =
     let fair : let a = c.args in GoodIn byte_limits a.m a.w a.c × (length a.word.now ≡ place_count a.m a.w) × (length a.bytes.now ≡ data_count a.m a.w a.c) =
-          let a = c.args in good-of-encode {L = byte_limits} a.m a.w a.c (length a.word.now) (length a.bytes.now) (cc) in
+    let a = c.args in good-of-encode {L = byte_limits} a.m a.w a.c (length a.word.now) (length a.bytes.now) (cc) in
     let placed : let a = c.args in length c.spread_data.new.word ≡ place_count a.m a.w =
-          ap length c.spread_data.ensures ∙ placed-length _ _ _ _ in
+    ap length c.spread_data.ensures ∙ placed-length _ _ _ _ in
     record { good_in = fair.0; word_len = placed; marks_len = let most = places-most fair.0 in simp length-take (omega arith) }
 
 pub returns : goal.returns
@@ -55,5 +55,5 @@ returns c =
     let a = c.args in
     let z : encode_refusal_in byte_limits a.m a.w a.c (length a.word.now) (length a.bytes.now) ≡ 0 = cc in
     let q = leaves_by z (buffer-end bytes-sound a.m a.w a.c a.bytes.now a.word.now _ z (λ i. (c.shared_slice_known-1.given i).fits)
-          (c.fill_checks.ensures ∙ ap (λ u. (recover_in byte_edition a.m a.w a.c u (check_marks a.m a.w a.c)).word) c.spread_data.ensures)) in
+    (c.fill_checks.ensures ∙ ap (λ u. (recover_in byte_edition a.m a.w a.c u (check_marks a.m a.w a.c)).word) c.spread_data.ensures)) in
     record { answer = q.0; number = q.1.0; buffer = q.1.1 }

@@ -51,8 +51,10 @@ returns-then-r-ne0-2 c =
 pub returns-then-gather-gt1 : goal.returns-then-gather-gt1
 returns-then-gather-gt1 c =
     let g = c.args.gather in
-    rw (fair g _ _ (whole g _ c.well_formed.0) c.shape_refusal-r.ensures c.if-r-ne0.false c.marks_refusal-r.ensures c.if-r-ne0-2.false,
-    lt-ltb 1 g.finished c.if-gather-gt1.true)
+    rw (
+      fair g _ _ (whole g _ c.well_formed.0) c.shape_refusal-r.ensures c.if-r-ne0.false c.marks_refusal-r.ensures c.if-r-ne0-2.false,
+      lt-ltb 1 g.finished c.if-gather-gt1.true,
+    )
 
 pub returns-then-gather-eq1 : goal.returns-then-gather-eq1
 returns-then-gather-eq1 c =

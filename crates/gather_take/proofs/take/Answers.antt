@@ -26,7 +26,7 @@ unfolding take_of
 returns-then-number-ne0 c =
     let a = c.args in
     let e : Answer.Refused c.take_refusal-number.result ≡ c.answer_of-answer.result =
-        sym (c.answer_of-answer.ensures ∙ answer-refused _ c.if-number-ne0.true) in
+    sym (c.answer_of-answer.ensures ∙ answer-refused _ c.if-number-ne0.true) in
     subst (GatherGives (take_of a.first a.bytes.now a.gather) a.gather) e
     (rw (sym c.take_refusal-number.ensures) (gives-refused _ c.if-number-ne0.true (taken a.first a.bytes.now a.gather) a.gather))
 

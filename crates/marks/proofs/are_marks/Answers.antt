@@ -12,19 +12,19 @@ loop-i-preserved c =
     let i : ℕ = c.loop-i.i in
     let v : ℕ = c.loop-i.most in
     elim c.if-most-marks.branch [
-        | then-most-marks w ↦ (let t : v < get_or m i 0 = w.if-most-marks.true in
-    let q : c.if-most-marks.most ≡ get_or m i 0 = w.most-is in (
-      omega arith,
-      below_more (λ p. get_or m p 0 ≤ c.if-most-marks.most) i (λ p l. let k = c.loop-i.invariant.1 p l in omega arith) (omega arith),
-      λ h. (i, omega arith),
-    ))
-        | else-most-marks w ↦ (let t : get_or m i 0 ≤ v = w.if-most-marks.false in
-    let q : c.if-most-marks.most ≡ v = w.most-is in (
-      omega arith,
-      below_more (λ p. get_or m p 0 ≤ c.if-most-marks.most) i (λ p l. let k = c.loop-i.invariant.1 p l in omega arith) (omega arith),
-      λ h. c.loop-i.invariant.2 (omega arith),
-    ))
-      ]
+      | then-most-marks w ↦ (let t : v < get_or m i 0 = w.if-most-marks.true in
+          let q : c.if-most-marks.most ≡ get_or m i 0 = w.most-is in (
+            omega arith,
+            below_more (λ p. get_or m p 0 ≤ c.if-most-marks.most) i (λ p l. let k = c.loop-i.invariant.1 p l in omega arith) (omega arith),
+            λ h. (i, omega arith),
+          ))
+      | else-most-marks w ↦ (let t : get_or m i 0 ≤ v = w.if-most-marks.false in
+          let q : c.if-most-marks.most ≡ v = w.most-is in (
+            omega arith,
+            below_more (λ p. get_or m p 0 ≤ c.if-most-marks.most) i (λ p l. let k = c.loop-i.invariant.1 p l in omega arith) (omega arith),
+            λ h. c.loop-i.invariant.2 (omega arith),
+          ))
+    ]
 
 pub returns-then-most-gt1 : goal.returns-then-most-gt1
 returns-then-most-gt1 c =

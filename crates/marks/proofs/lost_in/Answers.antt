@@ -17,9 +17,9 @@ loop-i-preserved c =
     let p = c.args.part.now in
     let i = c.loop-i.i in
     elim c.if-part-i-eq1.branch [
-        | then-part-i-eq1 t ↦ (let k = count_turn i (lost p) true (eq-eqb (get_or p i 0) 1 t.if-part-i-eq1.true) in (omega arith, omega arith, omega arith))
-        | else-part-i-eq1 t ↦ (let k = count_turn i (lost p) false (ne_eqb (get_or p i 0) 1 t.if-part-i-eq1.false) in (omega arith, omega arith, omega arith))
-      ]
+      | then-part-i-eq1 t ↦ (let k = count_turn i (lost p) true (eq-eqb (get_or p i 0) 1 t.if-part-i-eq1.true) in (omega arith, omega arith, omega arith))
+      | else-part-i-eq1 t ↦ (let k = count_turn i (lost p) false (ne_eqb (get_or p i 0) 1 t.if-part-i-eq1.false) in (omega arith, omega arith, omega arith))
+    ]
 
 pub returns : goal.returns
 returns c =

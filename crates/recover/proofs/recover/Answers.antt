@@ -15,7 +15,7 @@ returns-then-r-ne0 c =
 pub returns-then-pattern_excess-gt2 : goal.returns-then-pattern_excess-gt2
 returns-then-pattern_excess-gt2 c =
     let q = recover-eight bytes-sound (accepted _ _ _ _ _ _ c.refusal-r.ensures (omega arith)) (λ p. (c.slice_known-1.given p).fits)
-          c.pattern_excess.ensures c.if-pattern_excess-gt2.true in
+    c.pattern_excess.ensures c.if-pattern_excess-gt2.true in
     record { answer = q.0; word = q.1.0; marks = q.1.1 }
 
 pub recover_determined-requires : goal.recover_determined-requires

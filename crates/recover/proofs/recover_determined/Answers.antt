@@ -32,12 +32,12 @@ pub returns-then-not-done : goal.returns-then-not-done
 returns-then-not-done c =
     let n = c.if-not-done.true in
     let q = recover-nine bytes-sound (accepted c.args.m c.args.w c.args.c c.args.word.now c.args.marks.now 0 (sym c.requires.marks_value) refl) (λ p. (c.slice_known-1.given p).fits) c.requires.marks_bound
-          c.attempt-tested.ensures n (c.clear_if.ensures.buffer_unchanged n) in
+    c.attempt-tested.ensures n (c.clear_if.ensures.buffer_unchanged n) in
     record { answer = q.0; word = q.1.0; marks = q.1.1.0; never_eight = q.1.1.1 }
 
 pub returns : goal.returns
 returns c =
     let y = c.if-not-done.false in
     let q = recover-done bytes-sound (accepted c.args.m c.args.w c.args.c c.args.word.now c.args.marks.now 0 (sym c.requires.marks_value) refl) (λ p. (c.slice_known-1.given p).fits) c.requires.marks_bound
-          c.attempt-tested.ensures y (c.clear_if.ensures.buffer_after y) in
+    c.attempt-tested.ensures y (c.clear_if.ensures.buffer_after y) in
     record { answer = q.0; word = q.1.0; marks = q.1.1.0; never_eight = q.1.1.1 }

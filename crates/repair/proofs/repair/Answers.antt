@@ -15,50 +15,50 @@ returns-then-r-ne0 c =
 pub returns-then-m-g : goal.returns-then-m-g
 returns-then-m-g c =
     let fair : let a = c.args in AcceptedIn byte_limits a.m a.w a.c a.word.now a.marks.now =
-          accepted _ _ _ _ _ _ c.refusal-r.ensures (omega arith) in
+    accepted _ _ _ _ _ _ c.refusal-r.ensures (omega arith) in
     let q = repair-seven byte_edition _ _ _ _ _ _ fair c.if-m-g.true in
     record { answer = q.0; word = q.1.0; marks = q.1.1 }
 
 pub overflow_mul-a : goal.overflow_mul-a
 overflow_mul-a c =
     let fair : let a = c.args in AcceptedIn byte_limits a.m a.w a.c a.word.now a.marks.now =
-          accepted _ _ _ _ _ _ c.refusal-r.ensures (omega arith) in
+    accepted _ _ _ _ _ _ c.refusal-r.ensures (omega arith) in
     let fits : let a = c.args in (a.g * a.w + a.w ≤ length a.word.now) × (a.g * a.w + a.w ≤ length a.marks.now) =
-          let a = c.args in let l : a.g < a.m = omega arith in stretches-within fair l in
+    let a = c.args in let l : a.g < a.m = omega arith in stretches-within fair l in
     let room : let a = c.args in a.g * a.w + a.w ≤ byte_limits.places =
-          let A = fair in omega (arith, fits.0, A.word_size, A.good.fits) in
+    let A = fair in omega (arith, fits.0, A.word_size, A.good.fits) in
     omega (arith, room)
 
 pub overflow_add-e : goal.overflow_add-e
 overflow_add-e c =
     let fair : let a = c.args in AcceptedIn byte_limits a.m a.w a.c a.word.now a.marks.now =
-          accepted _ _ _ _ _ _ c.refusal-r.ensures (omega arith) in
+    accepted _ _ _ _ _ _ c.refusal-r.ensures (omega arith) in
     let fits : let a = c.args in (a.g * a.w + a.w ≤ length a.word.now) × (a.g * a.w + a.w ≤ length a.marks.now) =
-          let a = c.args in let l : a.g < a.m = omega arith in stretches-within fair l in
+    let a = c.args in let l : a.g < a.m = omega arith in stretches-within fair l in
     let room : let a = c.args in a.g * a.w + a.w ≤ byte_limits.places =
-          let A = fair in omega (arith, fits.0, A.word_size, A.good.fits) in
+    let A = fair in omega (arith, fits.0, A.word_size, A.good.fits) in
     omega (arith, room)
 
 pub slice_bounds-repair_part-end : goal.slice_bounds-repair_part-end
 slice_bounds-repair_part-end c =
     let fair : let a = c.args in AcceptedIn byte_limits a.m a.w a.c a.word.now a.marks.now =
-          accepted _ _ _ _ _ _ c.refusal-r.ensures (omega arith) in
+    accepted _ _ _ _ _ _ c.refusal-r.ensures (omega arith) in
     let fits : let a = c.args in (a.g * a.w + a.w ≤ length a.word.now) × (a.g * a.w + a.w ≤ length a.marks.now) =
-          let a = c.args in let l : a.g < a.m = omega arith in stretches-within fair l in
+    let a = c.args in let l : a.g < a.m = omega arith in stretches-within fair l in
     omega (arith, fits.0)
 
 pub slice_bounds-repair_part-end-2 : goal.slice_bounds-repair_part-end-2
 slice_bounds-repair_part-end-2 c =
     let fair : let a = c.args in AcceptedIn byte_limits a.m a.w a.c a.word.now a.marks.now =
-          accepted _ _ _ _ _ _ c.refusal-r.ensures (omega arith) in
+    accepted _ _ _ _ _ _ c.refusal-r.ensures (omega arith) in
     let fits : let a = c.args in (a.g * a.w + a.w ≤ length a.word.now) × (a.g * a.w + a.w ≤ length a.marks.now) =
-          let a = c.args in let l : a.g < a.m = omega arith in stretches-within fair l in
+    let a = c.args in let l : a.g < a.m = omega arith in stretches-within fair l in
     omega (arith, fits.1)
 
 pub repair_part-requires : goal.repair_part-requires
 repair_part-requires c =
     let fair : let a = c.args in AcceptedIn byte_limits a.m a.w a.c a.word.now a.marks.now =
-          accepted _ _ _ _ _ _ c.refusal-r.ensures (omega arith) in
+    accepted _ _ _ _ _ _ c.refusal-r.ensures (omega arith) in
     let a = c.args in
     let l : a.g < a.m = omega arith in
     let q = stretches-given fair l (omega arith) in
@@ -67,7 +67,7 @@ repair_part-requires c =
 pub returns : goal.returns
 returns c =
     let fair : let a = c.args in AcceptedIn byte_limits a.m a.w a.c a.word.now a.marks.now =
-          accepted _ _ _ _ _ _ c.refusal-r.ensures (omega arith) in
+    accepted _ _ _ _ _ _ c.refusal-r.ensures (omega arith) in
     let e = c.repair_part.ensures in
     let q = service-lent byte_edition _ _ _ _ _ _ fair (omega arith) _ _ _ e.answers_by e.part_after e.marks_after in
     record { answer = q.0; word = q.1.0; marks = q.1.1 }

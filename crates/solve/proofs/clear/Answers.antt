@@ -8,8 +8,11 @@ loop-i-init c = (omega arith, omega arith, clear_none 8 285 _ _)
 
 pub clear_row-requires : goal.clear_row-requires
 clear_row-requires c =
-    record { x_len = (omega arith, omega arith, omega arith); b_value = (c.row_at-b.ensures ∙ clear-pivot 8 285 (rows_of c.args.x.now) c.args.j (rows_of c.loop-i.x) c.loop-i.i
-          c.loop-i.invariant.2) }
+    record {
+      x_len = (omega arith, omega arith, omega arith);
+      b_value = (c.row_at-b.ensures ∙ clear-pivot 8 285 (rows_of c.args.x.now) c.args.j (rows_of c.loop-i.x) c.loop-i.i
+          c.loop-i.invariant.2);
+    }
 
 pub loop-i-preserved : goal.loop-i-preserved
 loop-i-preserved c =

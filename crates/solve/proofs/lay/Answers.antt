@@ -17,13 +17,12 @@ put_row-requires c =
     record { x_len = (omega arith, omega arith); row_len = (array-rows w8 16 4 c.args.rows _ c.well_formed.0).1 c.loop-i.i (omega arith) }
 
 pub loop-i-preserved : goal.loop-i-preserved
-loop-i-preserved c =
-    (
-      omega arith,
-      search rules,
-      rw c.put_row.ensures (rows_more (rows_of c.loop-i.x) c.args.rows c.loop-i.i _
-          (let l = rows-length c.loop-i.x in omega arith) c.loop-i.invariant.2 refl),
-    )
+loop-i-preserved c = (
+  omega arith,
+  search rules,
+  rw c.put_row.ensures (rows_more (rows_of c.loop-i.x) c.args.rows c.loop-i.i _
+      (let l = rows-length c.loop-i.x in omega arith) c.loop-i.invariant.2 refl),
+)
 
 pub returns : goal.returns
 returns c =

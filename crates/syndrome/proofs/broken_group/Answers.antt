@@ -1,5 +1,4 @@
 use Rattle.std.proofs.Common.{◌-◌, arith}
-
 use Rattle.byte_edition.specs.Edition.{byte_edition}
 use Rattle.code_loops.specs.BrokenLaws.{broken-first, broken-found, broken-turn, broken-last}
 use Rattle.syndrome.proofs.broken_group.Goals as goal

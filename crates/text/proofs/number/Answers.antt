@@ -15,7 +15,7 @@ returns c =
     let a = c.args in
     let e = c.digits.ensures in
     let plain : 1 < length a.field.now → get_or a.field.now 0 0 ≡ 48 → ⊥ = λ l z. elim c.if-field-gt1.branch [
-        | then-field-gt1+else-field-eq48 w ↦ w.if-field-eq48.false z
-        | else-field-gt1 w ↦ omega arith
-      ] in
+      | then-field-gt1+else-field-eq48 w ↦ w.if-field-eq48.false z
+      | else-field-gt1 w ↦ omega arith
+    ] in
     record { value = e.value ∙ sym (number_digits a.bound a.field.now (omega arith) plain); most = e.most }

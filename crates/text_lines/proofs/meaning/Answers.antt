@@ -12,6 +12,6 @@ returns c =
     ∙ sym
     (meaning-number c.args.field.now
     (λ l e. elim c.if-field-eq1.branch [
-        | then-field-eq1+else-field-eq45 w ↦ w.if-field-eq45.false e
-        | else-field-eq1 w ↦ w.if-field-eq1.false l
-      ]))
+      | then-field-eq1+else-field-eq45 w ↦ w.if-field-eq45.false e
+      | else-field-eq1 w ↦ w.if-field-eq1.false l
+    ]))

@@ -15,8 +15,8 @@ bounds-out-end c =
     let n = c.put_text-at in
     let u = c.put_numbers-end in
     let f : Fed a.out.now u.new.out (line_of a.name.now a.numbers.now) u.result =
-        line-fed a.out.now a.name.now a.numbers.now n.new.out u.new.out n.result u.result c.requires n.ensures.next
-        n.ensures.out u.ensures.next u.ensures.out in
+    line-fed a.out.now a.name.now a.numbers.now n.new.out u.new.out n.result u.result c.requires n.ensures.next
+    n.ensures.out u.ensures.next u.ensures.out in
     f.room
 
 pub overflow_add-result : goal.overflow_add-result
@@ -25,8 +25,8 @@ overflow_add-result c =
     let n = c.put_text-at in
     let u = c.put_numbers-end in
     let f : Fed a.out.now u.new.out (line_of a.name.now a.numbers.now) u.result =
-        line-fed a.out.now a.name.now a.numbers.now n.new.out u.new.out n.result u.result c.requires n.ensures.next
-        n.ensures.out u.ensures.next u.ensures.out in
+    line-fed a.out.now a.name.now a.numbers.now n.new.out u.new.out n.result u.result c.requires n.ensures.next
+    n.ensures.out u.ensures.next u.ensures.out in
     search rules
 
 pub shape_of-out : goal.shape_of-out
@@ -35,8 +35,8 @@ shape_of-out c =
     let n = c.put_text-at in
     let u = c.put_numbers-end in
     let f : Fed a.out.now u.new.out (line_of a.name.now a.numbers.now) u.result =
-        line-fed a.out.now a.name.now a.numbers.now n.new.out u.new.out n.result u.result c.requires n.ensures.next
-        n.ensures.out u.ensures.next u.ensures.out in
+    line-fed a.out.now a.name.now a.numbers.now n.new.out u.new.out n.result u.result c.requires n.ensures.next
+    n.ensures.out u.ensures.next u.ensures.out in
     simp length-set f.same
 
 pub returns : goal.returns
@@ -45,6 +45,6 @@ returns c =
     let n = c.put_text-at in
     let u = c.put_numbers-end in
     let f : Fed a.out.now u.new.out (line_of a.name.now a.numbers.now) u.result =
-        line-fed a.out.now a.name.now a.numbers.now n.new.out u.new.out n.result u.result c.requires n.ensures.next
-        n.ensures.out u.ensures.next u.ensures.out in
+    line-fed a.out.now a.name.now a.numbers.now n.new.out u.new.out n.result u.result c.requires n.ensures.next
+    n.ensures.out u.ensures.next u.ensures.out in
     record { size = f.size; most = f.most; out = f.holds }

@@ -10,8 +10,8 @@ bounds-out-e c =
     let q = c.put_number-b in
     let r = c.put_number-e in
     let f : Fed a.out.now r.new.out (contradictory_word_line a.word a.group) r.result =
-        nine-fed a.out.now p.new.out q.new.out r.new.out p.result q.result r.result a.word a.group c.requires
-        p.ensures.next p.ensures.out q.ensures.next q.ensures.out r.ensures.next r.ensures.out in
+    nine-fed a.out.now p.new.out q.new.out r.new.out p.result q.result r.result a.word a.group c.requires
+    p.ensures.next p.ensures.out q.ensures.next q.ensures.out r.ensures.next r.ensures.out in
     f.room
 
 pub overflow_add-result : goal.overflow_add-result
@@ -21,8 +21,8 @@ overflow_add-result c =
     let q = c.put_number-b in
     let r = c.put_number-e in
     let f : Fed a.out.now r.new.out (contradictory_word_line a.word a.group) r.result =
-        nine-fed a.out.now p.new.out q.new.out r.new.out p.result q.result r.result a.word a.group c.requires
-        p.ensures.next p.ensures.out q.ensures.next q.ensures.out r.ensures.next r.ensures.out in
+    nine-fed a.out.now p.new.out q.new.out r.new.out p.result q.result r.result a.word a.group c.requires
+    p.ensures.next p.ensures.out q.ensures.next q.ensures.out r.ensures.next r.ensures.out in
     search rules
 
 pub shape_of-out : goal.shape_of-out
@@ -32,8 +32,8 @@ shape_of-out c =
     let q = c.put_number-b in
     let r = c.put_number-e in
     let f : Fed a.out.now r.new.out (contradictory_word_line a.word a.group) r.result =
-        nine-fed a.out.now p.new.out q.new.out r.new.out p.result q.result r.result a.word a.group c.requires
-        p.ensures.next p.ensures.out q.ensures.next q.ensures.out r.ensures.next r.ensures.out in
+    nine-fed a.out.now p.new.out q.new.out r.new.out p.result q.result r.result a.word a.group c.requires
+    p.ensures.next p.ensures.out q.ensures.next q.ensures.out r.ensures.next r.ensures.out in
     simp length-set f.same
 
 pub returns : goal.returns
@@ -43,6 +43,6 @@ returns c =
     let q = c.put_number-b in
     let r = c.put_number-e in
     let f : Fed a.out.now r.new.out (contradictory_word_line a.word a.group) r.result =
-        nine-fed a.out.now p.new.out q.new.out r.new.out p.result q.result r.result a.word a.group c.requires
-        p.ensures.next p.ensures.out q.ensures.next q.ensures.out r.ensures.next r.ensures.out in
+    nine-fed a.out.now p.new.out q.new.out r.new.out p.result q.result r.result a.word a.group c.requires
+    p.ensures.next p.ensures.out q.ensures.next q.ensures.out r.ensures.next r.ensures.out in
     record { size = f.size; most = f.most; out = f.holds }

@@ -87,5 +87,8 @@ pub returns : goal.returns
 returns c =
     let a = c.args in
     let e : c.loop-g.g ≡ 0 = omega arith in
-    let k : a.m - c.loop-g.g ≡ a.m = omega arith in record { horner_rows = subst (λ i. HornerRows wide_edition a.w a.word.now i a.m c.loop-g.x c.loop-g.y) e
-          (subst (λ i. HornerRows wide_edition a.w a.word.now c.loop-g.g i c.loop-g.x c.loop-g.y) k c.loop-g.invariant.4); x_len = (c.loop-g.invariant.2, c.loop-g.invariant.3) }
+    let k : a.m - c.loop-g.g ≡ a.m = omega arith in record {
+      horner_rows = subst (λ i. HornerRows wide_edition a.w a.word.now i a.m c.loop-g.x c.loop-g.y) e
+          (subst (λ i. HornerRows wide_edition a.w a.word.now c.loop-g.g i c.loop-g.x c.loop-g.y) k c.loop-g.invariant.4);
+      x_len = (c.loop-g.invariant.2, c.loop-g.invariant.3);
+    }

@@ -7,7 +7,11 @@ returns-then-c-gt0 c = record { first_value = λ _ _. c.short_shares.ensures.fir
 
 pub returns : goal.returns
 returns c =
-    let a = c.args in record { first_value = λ narrow few. c.first_of-first.ensures ∙ sums_first a.part.now c.power_sums-sums.result a.c _ (c.power_sums-sums.ensures.power_sums narrow (omega arith)) narrow
-          (omega arith); second_value = λ narrow few. c.doubled-second.ensures
-            ∙ sums-weighted a.part.now c.power_sums-sums.result a.c _ (c.power_sums-sums.ensures.power_sums narrow (omega arith)) narrow (omega arith) a.g _ _
-            refl c.second_of.ensures; first_value_2 = λ n. absurd (n (omega arith) (omega arith)) }
+    let a = c.args in record {
+      first_value = λ narrow few. c.first_of-first.ensures ∙ sums_first a.part.now c.power_sums-sums.result a.c _ (c.power_sums-sums.ensures.power_sums narrow (omega arith)) narrow
+          (omega arith);
+      second_value = λ narrow few. c.doubled-second.ensures
+          ∙ sums-weighted a.part.now c.power_sums-sums.result a.c _ (c.power_sums-sums.ensures.power_sums narrow (omega arith)) narrow (omega arith) a.g _ _
+          refl c.second_of.ensures;
+      first_value_2 = λ n. absurd (n (omega arith) (omega arith));
+    }

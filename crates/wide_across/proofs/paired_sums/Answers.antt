@@ -34,7 +34,7 @@ pair_sums-requires c = record {
       let r = room (length c.args.x.now) c.requires.x_len_bound in
       let M = c.multiply.ensures.each_times (same_size c.args.c (length c.args.x.now) c.coefficients-all.result c.pairs-z.result
       c.coefficients-all.ensures.size c.pairs-z.ensures.size c.requires.c_nonzero.0 c.requires.c_nonzero.1 c.requires.x_len_bound) in
-      whole-size c.pairs-z.ensures ((length c.args.x.now + 3) / 4 * 8) r.0 r.1 M
+      whole-size c.pairs-z.ensures ((length c.args.x.now + 3) / 4 * 8) r.0 r.1 M;
 }
 
 pub returns : goal.returns
@@ -51,5 +51,5 @@ returns c =
       first_value = ap (λ u. u.first) c.pair_sums.ensures
           ∙ first-sum c.pairs-z.ensures n r.0 r.1 M _ (λ j l. first-at C ((k - 1) * 32 + n) j (omega arith) (omega (arith, r.0)));
       second_value = ap (λ u. u.second) c.pair_sums.ensures
-          ∙ second-sum c.pairs-z.ensures n r.0 r.1 M _ (λ j l. second_at C ((k - 1) * 32 + n) j (omega arith) (omega (arith, r.0)))
+          ∙ second-sum c.pairs-z.ensures n r.0 r.1 M _ (λ j l. second_at C ((k - 1) * 32 + n) j (omega arith) (omega (arith, r.0)));
     }

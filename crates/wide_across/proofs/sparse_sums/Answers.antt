@@ -31,14 +31,14 @@ loop-j-preserved c =
       omega arith,
       elim c.if-v-ne0.branch [
         | then-v-ne0 w ↦ (w.first-is ∙ ⊕-bits c.loop-j.first w.multiple-first.result ∙ more j (λ k. product 16 69643 (get_or part k 0) (get_or row (2 * k) 0)) c.loop-j.invariant.1
-          w.multiple-first.ensures)
+            w.multiple-first.ensures)
         | else-v-ne0 w ↦ (w.first-is ∙ same j (λ k. product 16 69643 (get_or part k 0) (get_or row (2 * k) 0)) c.loop-j.invariant.1 (none part j (get_or row (2 * j) 0) w.if-v-ne0.false))
       ],
       elim c.if-v-ne0.branch [
         | then-v-ne0 w ↦ (w.second-is ∙ ⊕-bits c.loop-j.second w.multiple-second.result ∙ more j (λ k. product 16 69643 (get_or part k 0) (get_or row (2 * k + 1) 0)) c.loop-j.invariant.2
-          w.multiple-second.ensures)
+            w.multiple-second.ensures)
         | else-v-ne0 w ↦ (w.second-is ∙ same j (λ k. product 16 69643 (get_or part k 0) (get_or row (2 * k + 1) 0)) c.loop-j.invariant.2
-          (none part j (get_or row (2 * j + 1) 0) w.if-v-ne0.false))
+            (none part j (get_or row (2 * j + 1) 0) w.if-v-ne0.false))
       ],
     )
 

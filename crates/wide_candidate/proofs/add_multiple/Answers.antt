@@ -11,9 +11,9 @@ pub loop-i-preserved : goal.loop-i-preserved
 loop-i-preserved c =
     let T = c.loop-i.invariant in
     elim c.if-h-i-ne0.branch [
-        | then-h-i-ne0 v ↦ (add_turn T (omega arith) v.part-is (v.multiple.ensures ∙ product-comm 16 69643 _ _))
-        | else-h-i-ne0 v ↦ (add_none T (omega arith) v.part-is v.if-h-i-ne0.false)
-      ]
+      | then-h-i-ne0 v ↦ (add_turn T (omega arith) v.part-is (v.multiple.ensures ∙ product-comm 16 69643 _ _))
+      | else-h-i-ne0 v ↦ (add_none T (omega arith) v.part-is v.if-h-i-ne0.false)
+    ]
 
 pub returns : goal.returns
 returns c = add-last c.loop-i.invariant (omega arith)

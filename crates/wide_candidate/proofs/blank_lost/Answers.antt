@@ -10,9 +10,9 @@ pub loop-p-preserved : goal.loop-p-preserved
 loop-p-preserved c =
     let T = c.loop-p.invariant in
     elim c.if-marks-p-eq1.branch [
-        | then-marks-p-eq1 v ↦ (blank_turn T (omega arith) v.base-is (λ _. refl) (λ n. absurd (n v.if-marks-p-eq1.true)))
-        | else-marks-p-eq1 v ↦ (blank_turn T (omega arith) v.base-is (λ e. absurd (v.if-marks-p-eq1.false e)) (λ _. refl))
-      ]
+      | then-marks-p-eq1 v ↦ (blank_turn T (omega arith) v.base-is (λ _. refl) (λ n. absurd (n v.if-marks-p-eq1.true)))
+      | else-marks-p-eq1 v ↦ (blank_turn T (omega arith) v.base-is (λ e. absurd (v.if-marks-p-eq1.false e)) (λ _. refl))
+    ]
 
 pub returns : goal.returns
 returns c = blank-last c.loop-p.invariant (omega arith)

@@ -14,5 +14,8 @@ mend-requires c =
 
 pub returns : goal.returns
 returns c =
-    record { candidate_in = rebuilt wide-sound c.requires c.copy.ensures.to_after c.clear_free.ensures refl c.blank_lost.ensures c.fill_groups.ensures
-          (λ p. (c.shared_slice_known-1.given p).fits) (λ p. (c.slice_known-6-1.given p).fits) c.mend.ensures.mended_in; value = c.mend.ensures.value }
+    record {
+      candidate_in = rebuilt wide-sound c.requires c.copy.ensures.to_after c.clear_free.ensures refl c.blank_lost.ensures c.fill_groups.ensures
+          (λ p. (c.shared_slice_known-1.given p).fits) (λ p. (c.slice_known-6-1.given p).fits) c.mend.ensures.mended_in;
+      value = c.mend.ensures.value;
+    }

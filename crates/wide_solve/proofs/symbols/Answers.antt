@@ -5,10 +5,13 @@ use Rattle.wide_solve.proofs.symbols.Goals as goal
 
 pub returns-then-t-eq1 : goal.returns-then-t-eq1
 returns-then-t-eq1 c =
-    let a = c.args in record { has_sums = λ _ d.
+    let a = c.args in record {
+      has_sums = λ _ d.
           rw c.if-t-eq1.true
           (has_one _ (λ i. get_or (get_or a.s 0 0 ∷ 0 ∷ 0 ∷ 0 ∷ []) i 0) (λ e. get_or a.s e 0) refl
-          (array-small w16 6 a.s _ c.well_formed.1.0 0)); value = λ h. absurd (omega arith) }
+          (array-small w16 6 a.s _ c.well_formed.1.0 0));
+      value = λ h. absurd (omega arith);
+    }
 
 pub returns-then-t-eq2 : goal.returns-then-t-eq2
 returns-then-t-eq2 c =

@@ -20,7 +20,7 @@ gather-requires c =
       row_len = row-front part _ e c.requires.part_len_bound ∙ sym (ap length q);
       row = λ j l. let k : j < length part = subst (λ n. j < n) (ap length q) l in
           get_or-take (length part) _ j 0 k ∙ ap (λ r. get_or r j 0) e ∙ row_at j (omega (arith, c.requires.part_len_bound));
-      n_bound = c.requires.n_bound
+      n_bound = c.requires.n_bound;
     }
 
 pub returns : goal.returns

@@ -14,5 +14,8 @@ returns-then-c-eq1 c =
 
 pub returns : goal.returns
 returns c =
-    let a = c.args in record { value = λ narrow few. c.all_zero.ensures ∙ sums-local a.part.now c.power_sums-sums.result a.c a.c (c.power_sums-sums.ensures.power_sums narrow (omega arith))
-          (omega arith); value_2 = λ n. absurd (n (omega arith) (omega arith)) }
+    let a = c.args in record {
+      value = λ narrow few. c.all_zero.ensures ∙ sums-local a.part.now c.power_sums-sums.result a.c a.c (c.power_sums-sums.ensures.power_sums narrow (omega arith))
+          (omega arith);
+      value_2 = λ n. absurd (n (omega arith) (omega arith));
+    }

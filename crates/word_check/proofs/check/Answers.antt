@@ -15,11 +15,11 @@ overflow_cast-result c =
 pub returns-then-tested : goal.returns-then-tested
 returns-then-tested c =
     let q = check-yes byte_edition _ _ _ _ c.word_refusal-r.ensures c.if-r-ne0.false c.test-tested.ensures.value
-          (λ p. (c.shared_slice_known-1.given p).fits) c.if-tested.true in
+    (λ p. (c.shared_slice_known-1.given p).fits) c.if-tested.true in
     record { answer = q.0; number = q.1.0; figures = q.1.1 }
 
 pub returns-else-tested : goal.returns-else-tested
 returns-else-tested c =
     let q = check-no byte_edition _ _ _ _ c.word_refusal-r.ensures c.if-r-ne0.false c.test-tested.ensures.value
-          (λ p. (c.shared_slice_known-1.given p).fits) c.if-tested.false in
+    (λ p. (c.shared_slice_known-1.given p).fits) c.if-tested.false in
     record { answer = q.0; number = q.1.0; figures = q.1.1 }

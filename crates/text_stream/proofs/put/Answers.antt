@@ -1,0 +1,15 @@
+use Rattle.std.proofs.Common.{◌≡◌, sym, ◌∙◌, ◌+◌, ◌-◌, ◌≤◌, arith, length}
+use borrow.Rule.Slice.PartMut.{Post-is, mid_len}
+use Rattle.text.specs.Written.{written}
+use Rattle.text_stream.proofs.put.Goals as goal
+
+pub returns : goal.returns
+unfolding written
+returns c =
+    let a = c.args.at in
+    let text = c.args.text.now in
+    let out = c.args.out.now in
+    let h : a + length text ≤ length out = c.requires in
+    let n : a + length text - a ≡ length text = omega arith in
+    let e = c.copy.ensures.to_after (sym (mid_len a (a + length text) out h ∙ n)) in
+    rw (e, Post-is a (a + length text) out (omega arith))
