@@ -1,13 +1,13 @@
 -- What one turn reads and writes.
-use Rattle.std.proofs.Common.{◌≡◌, ℕ, ◌≤◌, ◌<◌, List, [], ◌++◌, None, Some, IfSome, Option, length, take, drop, refl, sym, ap, ◌∙◌, subst, append_assoc, take-append-drop}
+use Rattle.std.proofs.Common.{◌≡◌, ℕ, ◌≤◌, List, [], ◌++◌, None, Some, IfSome, Option, length, take, drop, refl, sym, ap, ◌∙◌, subst, append_assoc, take-append-drop}
 use Rattle.std.specs.Io.KnownBytes.{Appends, Consumes, IsAtEnd}
 use Rattle.text.specs.Written.{written}
 use Rattle.text.specs.WrittenLaws.{written-holds}
-use Rattle.text_stream.specs.Points.{Point, after_bytes, adds, closing, kept_point}
-use Rattle.text_stream.specs.CutLaws.{after-append, adds-append}
+use Rattle.text_stream.specs.Points.{Point, after_bytes, adds, closing}
+use Rattle.text_stream.specs.CutLaws.{adds-append}
 use Rattle.text_stream.specs.Whole.{at_once}
 use Rattle.text_stream.specs.WholeLaws.{front-written}
-use Rattle.axlebloom.specs.Runs.{GoesOn, Ends, WritesFront}
+use Rattle.axlebloom.specs.Runs.{WritesFront}
 
 -- what is put at the start of a buffer lies in it
 pub fits : (size : ℕ) (before out text : List ℕ) → size ≡ length text → out ≡ written before 0 text → size ≤ length out

@@ -1,6 +1,6 @@
 -- What is written is what the session's step put at the start of its buffer.
-use Rattle.std.proofs.Common.{◌≡◌, ℕ, ◌<◌, List, sym, subst, arith, length, take, length-take-le}
-use Rattle.std.specs.Io.KnownBytes.{Appends, Consumes, IsAtEnd}
+use Rattle.std.proofs.Common.{◌≡◌, ◌<◌, sym, subst, arith, length, length-take-le}
+use Rattle.std.specs.Io.KnownBytes.{Appends}
 use Rattle.text_stream.specs.WholeLaws.{front-written}
 use Rattle.axlebloom.proofs.Turns.{fits, at_end, cut, front_at_end, front_of_part}
 use Rattle.axlebloom.proofs.turn.Goals as goal
