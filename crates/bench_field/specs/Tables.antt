@@ -1,5 +1,5 @@
 -- "Powers and logarithms for all 255 nonzero bytes are kept as constants": the two tables, one test over them, and the product through them.
-use Rattle.std.specs.Prelude.{Bool, true, false, cond, List, [], ◌∷◌, ℕ, ◌+◌, ◌-◌, eqb, ltb, get_or}
+use Rattle.std.specs.Prelude.{cond, List, [], ◌∷◌, ℕ, ◌+◌, ◌-◌, eqb, ltb, get_or}
 
 -- 2 to the powers 0 to 255
 unfoldable pub powers : List ℕ

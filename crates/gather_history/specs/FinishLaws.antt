@@ -17,8 +17,8 @@ use Rattle.code_services.specs.RecoverDemandLaws.{lost-bytes}
 use Rattle.code_services.specs.Recover.{recover_in}
 use Rattle.gather_record.specs.declared.Gather.{Gather}
 use Rattle.gather_record.specs.Record.{Whole, gather_places, gather_bytes, gather_marks, gather_refusal, begun}
-use Rattle.gather_record.specs.RecordLaws.{Open, open-unrefused, marks-open, begun-whole, bytes-size, marks-size}
-use Rattle.gather_finish.specs.Finish.{finish_refusal, gather_recovery, closed, finish_by, finish_of}
+use Rattle.gather_record.specs.RecordLaws.{Open, open-unrefused, marks-open, begun-whole, bytes-size}
+use Rattle.gather_finish.specs.Finish.{finish_refusal, gather_recovery, finish_by, finish_of}
 use Rattle.gather_finish.specs.FinishLaws.{finish-fit, finish-parts}
 use Rattle.gather_history.specs.History.{Stretch, after_stretches, Unrefused, accepted, Brings}
 use Rattle.gather_history.specs.StretchOrder.{Gathered, HoldsStretches, FinishesAs, FinishHolds, FinishAmongHolds, Alike, IdleHolds}

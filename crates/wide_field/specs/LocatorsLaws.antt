@@ -1,5 +1,5 @@
 -- Laws: The 256 locators of the sixteen-bit edition: each is a symbol of the small field, a^256 = a, and no two are the same.
-use Rattle.std.specs.Prelude.{◌≡◌, refl, cond, ℕ, ◌+◌, ◌-◌, ◌*◌, ◌<◌, ◌≤◌, ltb}
+use Rattle.std.specs.Prelude.{◌≡◌, refl, ℕ, ◌+◌, ◌-◌, ◌*◌, ◌<◌, ◌≤◌}
 use Rattle.std.proofs.Common.{sym, ap, ◌∙◌, arith, lt-ltb, le-ltb, lit<}
 use Rattle.std.proofs.Math.Decide.{dec_lt}
 use Rattle.binary_field.specs.Product.{product}

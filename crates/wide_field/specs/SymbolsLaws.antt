@@ -1,6 +1,6 @@
 -- Laws: The field of 65,536 elements: 16 bits, modulo x^16 + x^12 + x^3 + x + 1, which is 69643. Its laws are those of binary_field at 16 and
 -- 69643; here stand the two tests that make it a field and the order of 2.
-use Rattle.std.specs.Prelude.{◌≡◌, refl, ℕ, T}
+use Rattle.std.specs.Prelude.{◌≡◌, refl, T}
 use Rattle.std.proofs.Common.{lit<}
 use Rattle.binary_field.specs.Xor.{◌⊕◌, masked}
 use Rattle.binary_field.specs.Product.{double, bit_sum, product}

@@ -1,7 +1,6 @@
 -- The field of 256 elements inside that of 65,536, whose elements the locators are: eight digits tell them apart, and a row has the inverse of
 -- each by those digits.
 use Rattle.std.specs.Prelude.{◌≡◌, List, [], ◌∷◌, ℕ, ◌/◌, ◌%◌, ◌^◌}
-use Rattle.std.proofs.Math.Nat
 use Rattle.binary_field.specs.Xor.{◌⊕◌}
 use Rattle.binary_field.specs.Inverse.{linear_map}
 

@@ -1,7 +1,6 @@
 -- The symbols that solve for the lost places of a group have the power sums of the rest.
 use Rattle.std.specs.Prelude.{◌≡◌, List, ℕ, ◌≤◌, ◌<◌, length, get_or}
 use Rattle.std.proofs.Common.{sym, ap, ap₂, ◌∙◌, arith}
-use Rattle.binary_field.specs.Xor.{◌⊕◌}
 use Rattle.binary_field.specs.XorLaws.{⊕-cancel}
 use Rattle.binary_field.specs.Product.{product}
 use Rattle.binary_field.specs.Power.{power}

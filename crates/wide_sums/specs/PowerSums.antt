@@ -1,7 +1,7 @@
 -- The power sums of a group's stretch: the sum over its places of symbol times locator to the power e. The first c are its local equations,
 -- the next two give its share of both sums across.
 use Rattle.std.specs.Prelude.{◌≡◌, List, ℕ, ◌<◌, length, get_or}
-use Rattle.code.specs.Edition.{Edition, times, raised}
+use Rattle.code.specs.Edition.{times, raised}
 use Rattle.code.specs.Word.{local_sum}
 use Rattle.wide_shape.specs.Edition.{wide_edition}
 

@@ -1,4 +1,4 @@
-use Rattle.std.proofs.Common.{◌≡◌, sym, ◌∙◌, List, ℕ, ◌-◌, ◌<◌, arith, length, get_or}
+use Rattle.std.proofs.Common.{◌≡◌, sym, ◌∙◌, List, ℕ, ◌<◌, arith, length, get_or}
 use Rattle.code.specs.Marks.{lost_in}
 use Rattle.block_laws.specs.PassLaws.{group-filled-at, group-named, aimed-at, group-whole, none-lost}
 use Rattle.block_laws.specs.StepsLaws.{mul-within}

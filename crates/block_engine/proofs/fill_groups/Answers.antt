@@ -1,4 +1,4 @@
-use Rattle.std.proofs.Common.{◌≡◌, refl, List, ℕ, ◌*◌, ◌-◌, arith}
+use Rattle.std.proofs.Common.{◌≡◌, refl, List, ℕ, ◌*◌, arith}
 use Rattle.code.specs.StretchLaws.{stretch-length}
 use Rattle.code.specs.LentLaws.{stretch-lent}
 use Rattle.block_laws.specs.PassLaws.{given-end, given-few, groups-more, PartsFit, parts-fit}

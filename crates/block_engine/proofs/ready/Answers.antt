@@ -1,4 +1,4 @@
-use Rattle.std.proofs.Common.{sym, ◌∙◌, true, false, true≢false, arith, length}
+use Rattle.std.proofs.Common.{sym, ◌∙◌, true≢false, arith, length}
 use Rattle.code.specs.LimitsLaws.{places-most}
 use Rattle.block_laws.specs.Ready.{Ready}
 use Rattle.block_laws.specs.ReadyLaws.{ready-word, ready-size, ready-all, ready-is}

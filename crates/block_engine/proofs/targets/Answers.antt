@@ -1,4 +1,4 @@
-use Rattle.std.proofs.Common.{◌≡◌, refl, sym, ap, ◌∙◌, true, false, List, ℕ, suc, ◌-◌, ◌+◌, arith, length, get_or, set, length-set, eq-eqb, ne_eqb}
+use Rattle.std.proofs.Common.{◌≡◌, refl, sym, ap, ◌∙◌, true, false, List, ℕ, suc, ◌+◌, arith, length, get_or, set, length-set, eq-eqb, ne_eqb}
 use Rattle.counting.specs.Count.{count_below}
 use Rattle.counting.specs.CountLaws.{total-none, count-le}
 use Rattle.code.specs.Marks.{lost, lost_in}

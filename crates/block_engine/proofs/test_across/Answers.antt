@@ -1,4 +1,4 @@
-use Rattle.std.proofs.Common.{◌≡◌, arith, rules, ℕ, ◌<◌, length, get_or}
+use Rattle.std.proofs.Common.{◌≡◌, arith, rules, length}
 use Rattle.code.specs.LimitsLaws.{places-most}
 use Rattle.block_laws.specs.RestLaws.{rows-limit, row-limit}
 use Rattle.block_laws.specs.AcrossLaws.{none-limit, one-limit, two-limit, free-as}

@@ -1,4 +1,4 @@
-use Rattle.std.proofs.Common.{◌≡◌, arith, rules, ℕ, ◌<◌, length, get_or}
+use Rattle.std.proofs.Common.{◌≡◌, arith, rules, ℕ, length}
 use Rattle.code.specs.LimitsLaws.{places-most}
 use Rattle.block_laws.specs.RestLaws.{one_written, two-written, aimed-one, aimed-two}
 use Rattle.block_laws.specs.AcrossLaws.{none_free, one-free-at, two-free-at, free-as}

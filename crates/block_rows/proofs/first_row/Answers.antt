@@ -1,4 +1,4 @@
-use Rattle.std.proofs.Common.{◌≡◌, ap, ◌∙◌, ℕ, suc, ◌-◌, arith, length, get_or, set, replicate, length-set, rules}
+use Rattle.std.proofs.Common.{◌≡◌, ap, ◌∙◌, ℕ, suc, arith, length, get_or, set, replicate, length-set, rules}
 use Rattle.binary_field.specs.Sum.{inner_product}
 use Rattle.byte_edition.specs.Rows.{first_rows, no_row}
 use Rattle.code.specs.Word.{coefficient}

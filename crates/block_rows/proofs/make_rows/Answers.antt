@@ -1,4 +1,4 @@
-use Rattle.std.proofs.Common.{◌≡◌, List, ℕ, suc, ◌≤◌, ◌*◌, ◌-◌, suc-mul, mul-le-mul_right, arith, length}
+use Rattle.std.proofs.Common.{◌≡◌, List, ℕ, suc, ◌≤◌, ◌*◌, suc-mul, mul-le-mul_right, arith, length}
 use Rattle.code.specs.StretchLaws.{stretch-length, stretch-count}
 use Rattle.code.specs.LentLaws.{stretch-lent, with-lent}
 use Rattle.block_laws.specs.PassLaws.{across-more, kept_more, kept-inside, PartsFit, parts-fit}

@@ -1,4 +1,4 @@
-use Rattle.std.proofs.Common.{◌≡◌, ap, ◌∙◌, List, ℕ, suc, ◌≤◌, ◌-◌, ◌*◌, suc-mul, arith, length}
+use Rattle.std.proofs.Common.{◌≡◌, ap, ◌∙◌, List, ℕ, suc, ◌≤◌, ◌*◌, suc-mul, arith, length}
 use Rattle.code.specs.StretchLaws.{with-length, stretch-length}
 use Rattle.code.specs.LentLaws.{stretch-lent, with-lent}
 use Rattle.code_engine.specs.Elimination.{entry}

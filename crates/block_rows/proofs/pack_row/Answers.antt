@@ -1,4 +1,4 @@
-use Rattle.std.proofs.Common.{◌≡◌, refl, sym, ap, cond, List, ℕ, ◌-◌, arith, get_or, set, length-set, eq-eqb, ne_eqb}
+use Rattle.std.proofs.Common.{◌≡◌, refl, sym, ap, cond, List, ℕ, arith, get_or, set, length-set, eq-eqb, ne_eqb}
 use Rattle.code_engine.specs.ListsLaws.{each_set}
 use Rattle.block_laws.specs.Group.{masked}
 use Rattle.block_rows.proofs.pack_row.Goals as goal

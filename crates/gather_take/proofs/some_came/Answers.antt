@@ -1,4 +1,4 @@
-use Rattle.std.proofs.Common.{◌≡◌, sym, true, ◌-◌, arith, below_none, below_more, eq-eqb, ne_eqb, eqb, get_or}
+use Rattle.std.proofs.Common.{◌≡◌, sym, true, arith, below_none, below_more, eq-eqb, ne_eqb, eqb, get_or}
 use Rattle.gather_take.specs.TakeLaws.{here-came, none_came}
 use Rattle.gather_take.proofs.some_came.Goals as goal
 

@@ -1,7 +1,6 @@
 use Rattle.std.proofs.Common.{arith, sym, ◌∙◌, ◌≡◌, ◌<◌, length, get_or}
 use Rattle.text.specs.DecimalLaws.{number-none, number-zero, number_digits}
 use Rattle.text.proofs.number.Goals as goal
-use Rattle.text.proofs.number.Goals.{then-field-gt1+else-field-eq48, else-field-gt1}
 
 pub returns-then-field-eq0 : goal.returns-then-field-eq0
 returns-then-field-eq0 c = let a = c.args in record { value = sym (number-none a.bound a.field.now (omega arith)); most = omega arith }
@@ -14,8 +13,5 @@ pub returns : goal.returns
 returns c =
     let a = c.args in
     let e = c.digits.ensures in
-    let plain : 1 < length a.field.now → get_or a.field.now 0 0 ≡ 48 → ⊥ = λ l z. elim c.if-field-gt1.branch [
-      | then-field-gt1+else-field-eq48 w ↦ w.if-field-eq48.false z
-      | else-field-gt1 w ↦ omega arith
-    ] in
+    let plain : 1 < length a.field.now → get_or a.field.now 0 0 ≡ 48 → ⊥ = λ l z. grind arith in
     record { value = e.value ∙ sym (number_digits a.bound a.field.now (omega arith) plain); most = e.most }

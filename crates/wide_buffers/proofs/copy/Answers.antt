@@ -1,4 +1,4 @@
-use Rattle.std.proofs.Common.{refl, sym, ◌∙◌, ◌-◌, arith, get_or, length-set}
+use Rattle.std.proofs.Common.{refl, sym, ◌∙◌, arith, get_or, length-set}
 use Rattle.buffers.proofs.Laws.{passed-set, passed-all}
 use Rattle.wide_buffers.proofs.copy.Goals as goal
 

@@ -1,4 +1,4 @@
-use Rattle.std.proofs.Common.{refl, sym, ◌∙◌, ℕ, ◌-◌, arith, length, replicate, length-set}
+use Rattle.std.proofs.Common.{refl, sym, ◌∙◌, ℕ, arith, length, replicate, length-set}
 use lib.ListN.{length-replicate, get_or-replicate}
 use Rattle.buffers.proofs.Laws.{passed-set, passed-all}
 use Rattle.wide_buffers.proofs.set_all.Goals as goal

@@ -1,4 +1,4 @@
-use Rattle.std.proofs.Common.{◌≡◌, sym, ap, ◌∙◌, subst, ℕ, ◌<◌, ◌-◌, mod-eq_of_lt, add-one, arith, lit<}
+use Rattle.std.proofs.Common.{◌≡◌, sym, ap, ◌∙◌, subst, ℕ, ◌<◌, mod-eq_of_lt, add-one, arith, lit<}
 use Rattle.binary_field.specs.Product.{double, product}
 use Rattle.binary_field.specs.ProductLaws.{double-low, double-lt, double-product, one_product}
 use Rattle.binary_field.specs.Power.{power}

@@ -1,4 +1,4 @@
-use Rattle.std.proofs.Common.{◌≡◌, sym, ap, ◌∙◌, List, ℕ, ◌-◌, add-one, arith, length, get_or}
+use Rattle.std.proofs.Common.{◌≡◌, sym, ap, ◌∙◌, List, ℕ, add-one, arith, length, get_or}
 use Rattle.binary_field.specs.XorLaws.{⊕-bits}
 use Rattle.binary_field.specs.Sum.{sum_below}
 use Rattle.binary_field.specs.SumLaws.{sum-none, sum-suc}

@@ -1,5 +1,4 @@
 use Rattle.std.proofs.Common.{sym, ◌∙◌, arith}
-use Rattle.code.specs.Refusals.{◌or_else◌}
 use Rattle.code.specs.RefusalsLaws.{or_else-first}
 use Rattle.code.specs.Limits.{GoodIn, word_refusal_in}
 use Rattle.code.specs.LimitsLaws.{good-of-refusal, word-of-good, word-length}

@@ -1,5 +1,4 @@
-use Rattle.std.proofs.Common.{◌≡◌, sym, ap, ◌∙◌, List, ℕ, ◌-◌, ◌%◌, ◌<◌, arith, length, get_or}
-use Rattle.binary_field.specs.Xor.{◌⊕◌}
+use Rattle.std.proofs.Common.{◌≡◌, sym, ap, ◌∙◌, List, ℕ, ◌%◌, ◌<◌, arith, length, get_or}
 use Rattle.binary_field.specs.XorLaws.{⊕-bits, ⊕-zero-l}
 use Rattle.binary_field.specs.Inverse.{linear_map}
 use Rattle.wide_solve.specs.NormLaws.{row-size, conjugate-is, map-set, map-clear, map-end}

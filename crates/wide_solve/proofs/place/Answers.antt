@@ -1,4 +1,4 @@
-use Rattle.std.proofs.Common.{◌≡◌, refl, sym, ◌-◌, add-one, arith, length-set}
+use Rattle.std.proofs.Common.{◌≡◌, refl, sym, add-one, arith, length-set}
 use Rattle.code_engine.specs.PlacedLaws.{placed-none, placed-suc}
 use Rattle.wide_solve.specs.Column.{column_of}
 use Rattle.wide_solve.specs.ColumnLaws.{column-at}

@@ -1,7 +1,6 @@
-use Rattle.std.proofs.Common.{ap, ◌∙◌, ◌<◌, arith, lit<, get_or, w16}
+use Rattle.std.proofs.Common.{ap, ◌∙◌, arith, lit<, get_or, w16}
 use Rattle.code_engine.proofs.Arrays.{array-small}
 use Rattle.binary_field.specs.Xor.{◌⊕◌}
-use Rattle.binary_field.specs.Product.{product}
 use Rattle.wide_solve.specs.PeelLaws.{has-two}
 use Rattle.wide_solve.proofs.two.Goals as goal
 

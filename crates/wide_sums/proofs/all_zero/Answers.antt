@@ -1,4 +1,4 @@
-use Rattle.std.proofs.Common.{◌≡◌, sym, ◌-◌, arith, below_none, below_more, eqb, eqb→eq, get_or}
+use Rattle.std.proofs.Common.{◌≡◌, sym, arith, below_none, below_more, eqb, eqb→eq, get_or}
 use lib.Ieee.Bits.{is_true}
 use Rattle.counting.specs.TestLaws.{all-at, all-intro}
 use Rattle.code_engine.specs.PartsLaws.{is_false}

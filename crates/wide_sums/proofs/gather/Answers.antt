@@ -1,4 +1,4 @@
-use Rattle.std.proofs.Common.{◌≡◌, refl, sym, ◌∙◌, subst, List, ℕ, suc, ◌+◌, ◌-◌, ◌<◌, arith, lit<, length, replicate, length-set}
+use Rattle.std.proofs.Common.{◌≡◌, refl, sym, ◌∙◌, subst, List, ℕ, suc, ◌+◌, ◌-◌, arith, lit<, length, replicate, length-set}
 use Rattle.code.specs.Word.{local_sum}
 use Rattle.buffers.proofs.Laws.{passed-set}
 use Rattle.wide_shape.specs.Edition.{wide_edition}

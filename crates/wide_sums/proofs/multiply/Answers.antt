@@ -1,4 +1,4 @@
-use Rattle.std.proofs.Common.{refl, ap, ◌∙◌, List, ℕ, ◌-◌, arith, get_or, length-set}
+use Rattle.std.proofs.Common.{refl, ap, ◌∙◌, List, ℕ, arith, get_or, length-set}
 use Rattle.code.specs.Edition.{times}
 use Rattle.buffers.proofs.Laws.{passed-set}
 use Rattle.wide_shape.specs.Edition.{wide_edition}
