@@ -1,5 +1,5 @@
 -- What is written of an output, and what has come of an input.
-use Rattle.std.proofs.Common.{◌≡◌, ◌⊎◌, ℕ, zero, suc, ◌+◌, ◌-◌, ◌≤◌, ◌<◌, List, [], ◌++◌, None, Some, IfSome, Option, length, take, drop, refl, sym, ap, ◌∙◌, subst, false, append-nil, length-take-le, take_all, arith}
+use Rattle.std.proofs.Common.{◌≡◌, ◌⊎◌, ℕ, zero, suc, ◌+◌, ◌-◌, ◌≤◌, List, [], ◌++◌, None, Some, IfSome, Option, length, take, drop, refl, sym, ap, ◌∙◌, subst, false, append-nil, length-take-le, take_all, arith}
 use mathlib.Core.Logic.{inl, inr}
 use Rattle.std.proofs.Math.Seq.{take-append-add}
 use Rattle.std.proofs.lemmas.List.{take_rest, take-append-le}
@@ -9,7 +9,7 @@ use Rattle.text.specs.Lines.{refused_line}
 use Rattle.block_input.specs.declared.Verdict.{Verdict}
 use Rattle.block_input.specs.Head.{head_refusal}
 use Rattle.block_input.specs.Output.{output_of, verdict_of, held_of, verdict_output}
-use Rattle.block_input.specs.Run.{room, output_for}
+use Rattle.block_input.specs.Run.{room}
 use Rattle.block_input.specs.RunLaws.{out-cut, out-more, answered-is}
 use Rattle.rebuild.specs.Runs.{WritesFront, Refuses, RefusesFront}
 

@@ -1,10 +1,10 @@
 -- The word that a 9 carries is below the length of a block, and so below 2 ^ 32.
 use Rattle.std.specs.Prelude.{◌≡◌, refl, Bool, true, false, cond, ◌&&◌, List, [], ◌∷◌, ℕ, zero, suc, ◌+◌, ◌-◌, ◌*◌, ◌≤◌, ◌<◌, eqb, leb, ltb, length, take, drop}
-use Rattle.std.proofs.Common.{ap, subst, arith, ltb-true}
+use Rattle.std.proofs.Common.{ap, arith, ltb-true}
 use Rattle.text.specs.Decimal.{is_digit, unreadable, digits_after, number_of}
 use Rattle.text.specs.Fields.{same}
 use Rattle.block_rebuild.specs.declared.Rebuilt.{Rebuilt}
-use Rattle.block_rebuild.specs.Rebuild.{rebuild_refusal, contradictory_rebuild, done_rebuild, rebuild_unless, word_outcome, contradicting_word, rebuilt_blocks, words_outcome, rebuild_of, rebuilt_at, outcome_rebuilt}
+use Rattle.block_rebuild.specs.Rebuild.{rebuild_refusal, contradictory_rebuild, done_rebuild, rebuild_unless, word_outcome, contradicting_word, rebuilt_blocks, words_outcome, rebuild_of, rebuilt_at}
 use Rattle.block_input.specs.declared.Verdict.{Verdict}
 use Rattle.block_input.specs.Length.{length_start, length_of}
 use Rattle.block_input.specs.Head.{head_refusal, input_length}
