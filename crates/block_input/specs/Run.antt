@@ -17,8 +17,8 @@ together came (part ∷ parts) = together (came ++ part) parts
 abbrev pub output_for : List ℕ → List ℕ
 output_for input = verdict_output (verdict_of input) (held_of input)
 
--- The bytes that have come, the parts that come then, and all that is written. The premises are the contracts of refusal_so_far and answer; that
--- the program calls them so, and writes what they say, is run and not proved.
+-- The bytes that have come, the parts that come then, and all that is written. The premises are the contracts of refusal_so_far and answer;
+-- the contract of the program's `run_all` says that it writes all this, where the bytes of its input and output are known.
 pub data RebuildRun : List ℕ → List (List ℕ) → List ℕ → Type 0 where
   -- the end of the input
   ended : (came : List ℕ) → RebuildRun came [] (output_for came)

@@ -15,8 +15,8 @@ in_parts p (part ∷ rest) = adds p part ++ in_parts (kept_point (after_bytes p 
 abbrev pub at_once : Point → List ℕ → List ℕ
 at_once p input = adds p input ++ closing (after_bytes p input)
 
--- A run of start, take and finish whose caller writes the first `length` bytes of out each time; the program does so, which is run and not
--- proved. A state, the parts of the input that come then, and all that is written; the premises are the contracts of take and finish.
+-- A run of start, take and finish whose caller writes the first `length` bytes of out each time; the contract of the program's `run_all` says
+-- that its output is the same, where the bytes of its input and output are known.
 pub data SessionRun : State → List (List ℕ) → List ℕ → Type 0 where
   ended : {s : State} (n : ℕ) (before out : List ℕ) → n ≡ length (closing (point_of s)) → out ≡ written before 0 (closing (point_of s))
       → SessionRun s [] (take n out)
