@@ -16,7 +16,8 @@ abbrev pub at_once : Point → List ℕ → List ℕ
 at_once p input = adds p input ++ closing (after_bytes p input)
 
 -- A run of start, take and finish whose caller writes the first `length` bytes of out each time; the contract of the program's `run_all` says
--- that its output is the same, where the bytes of its input and output are known.
+-- that its output is the same, where the bytes of its input and output are known. Here: a state, the parts of the input that come then, and all
+-- that is written; the premises are the contracts of take and finish.
 pub data SessionRun : State → List (List ℕ) → List ℕ → Type 0 where
   ended : {s : State} (n : ℕ) (before out : List ℕ) → n ≡ length (closing (point_of s)) → out ≡ written before 0 (closing (point_of s))
       → SessionRun s [] (take n out)
