@@ -67,7 +67,7 @@
  * Threads. No function keeps anything between calls, allocates memory or takes a lock. Any number
  * of threads may call at once, as long as none of them writes what another one is using.
  *
- * Stack. Calls on words, and axlebloom_text, take less than 2 KB of stack, calls on a gather less
+ * Stack. Calls on words, and axlebloom_text, take less than 3 KB of stack, calls on a gather less
  * than 4 KB, and calls on a desk less than 8 KB. This was measured, not proved: the proofs are
  * about a machine whose stack has no end. axlebloom_profile searches by recursion, at most sixteen
  * levels deep, which the figure includes; no other function is recursive. The stack pointer must be

@@ -289,7 +289,7 @@ fn shaped_line(name: &[u8], revision: u16, m: u8, w: u8, c: u8) -> Row
 // The line of a name of at most 16 bytes with its revision and its shape, or the word gone if m is 0.
 pub fn entry_line(name: &[u8], revision: u16, m: u8, w: u8, c: u8) -> Row
     requires { length name.now ≤ 16 }
-    ensures { HoldsRow result (entry_line (record { name = name.entry.now; revision = revision; m = m; w = w; c = c })) }
+    ensures { HoldsRow result (entry_line (record { name = name.now; revision = revision; m = m; w = w; c = c })) }
 {
     if m == 0 {
         return row_with(name, revision, b"\tgone\n");

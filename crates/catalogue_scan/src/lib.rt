@@ -59,7 +59,7 @@ fn place_at(at: usize) -> Place
 
 // The place after one more line, which stands from `at` to `next` and has the name `named`.
 fn place_next(place: Place, line: Line, at: usize, next: usize, named: &[u8], name: &[u8]) -> Place
-    ensures { result ≡ place_next name.entry.now at next (record { name = named.now; revision = line.revision; m = line.m; w = line.w; c = line.c }) place }
+    ensures { result ≡ place_next name.now at next (record { name = named.now; revision = line.revision; m = line.m; w = line.w; c = line.c }) place }
 {
     if catalogue_lines::is_before(named, name) {
         return place_at(next);

@@ -59,7 +59,7 @@ fn with_mark(job: Job, place: usize, mark: u8) -> Job
 fn place_refusal(desk: Desk, handle: u64, place: usize) -> u8
     ensures { result ≡ place_refusal handle place desk }
 {
-    let r = desk_record::handle_refusal(desk, handle);
+    let r = desk_record::handle_refusal(&desk, handle);
     if r != 0 {
         return r;
     }

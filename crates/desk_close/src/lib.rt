@@ -20,7 +20,7 @@ pub enum Counted {
 pub fn read(desk: Desk, handle: u64) -> Counted
     ensures { ReadGives (read_of handle desk) result }
 {
-    let r = desk_record::handle_refusal(desk, handle);
+    let r = desk_record::handle_refusal(&desk, handle);
     if r != 0 {
         return Counted::Refused(r);
     }
@@ -33,7 +33,7 @@ pub fn read(desk: Desk, handle: u64) -> Counted
 pub fn close(desk: Desk, handle: u64) -> After
     ensures { ChangeGives (close_of handle desk) result.desk result.answer }
 {
-    let r = desk_record::handle_refusal(desk, handle);
+    let r = desk_record::handle_refusal(&desk, handle);
     if r != 0 {
         return After {
             desk: desk,

@@ -53,8 +53,8 @@ fn kept(marks: &[u8]) -> [u8; Shape::MAX_PLACES]
 }
 
 // The refusal of Open; 0 if there is none.
-fn open_refusal(desk: Desk, m: usize, w: usize, c: usize, marks: &[u8]) -> u8
-    ensures { result ≡ open_number m w c marks.now desk }
+fn open_refusal(desk: &Desk, m: usize, w: usize, c: usize, marks: &[u8]) -> u8
+    ensures { result ≡ open_number m w c marks.now desk.now }
 {
     if !desk_record::is_sound(desk) {
         return 31;
@@ -64,7 +64,7 @@ fn open_refusal(desk: Desk, m: usize, w: usize, c: usize, marks: &[u8]) -> u8
         return r;
     }
     let last = desk.t == Desk::MAX_ISSUED;
-    let full = free_slot(desk) == 8;
+    let full = free_slot(*desk) == 8;
     if last {
         return 10;
     }
@@ -75,7 +75,7 @@ fn open_refusal(desk: Desk, m: usize, w: usize, c: usize, marks: &[u8]) -> u8
 pub fn open(desk: Desk, m: usize, w: usize, c: usize, marks: &[u8]) -> AfterOpen
     ensures { OpenGives (open_of m w c marks.now desk) result.desk result.answer }
 {
-    let r = open_refusal(desk, m, w, c, marks);
+    let r = open_refusal(&desk, m, w, c, marks);
     if r != 0 {
         return AfterOpen {
             desk: desk,

@@ -100,8 +100,8 @@ fn is_twice(issues: [u64; 8], s: usize) -> bool
 }
 
 // Whether a desk is sound. Slot 0, which has no lower one, is tested before the loop.
-pub fn is_sound(desk: Desk) -> bool
-    ensures { result ≡ is_sound desk }
+pub fn is_sound(desk: &Desk) -> bool
+    ensures { result ≡ is_sound desk.now }
 {
     let t = desk.t;
     if Desk::MAX_ISSUED < t {
@@ -129,8 +129,8 @@ pub fn is_sound(desk: Desk) -> bool
 }
 
 // Whether a handle is open. Its issue number is tested and its slot is taken out of it before the row is indexed.
-fn is_open(desk: Desk, handle: u64) -> bool
-    ensures { result ≡ is_open desk handle }
+fn is_open(desk: &Desk, handle: u64) -> bool
+    ensures { result ≡ is_open desk.now handle }
 {
     if !is_issued(desk.t, handle / 8) {
         return false;
@@ -144,15 +144,15 @@ fn is_open(desk: Desk, handle: u64) -> bool
 }
 
 // 31 if a desk is not sound; 0 if it is.
-fn sound_refusal(desk: Desk) -> u8
-    ensures { result ≡ sound_refusal desk }
+fn sound_refusal(desk: &Desk) -> u8
+    ensures { result ≡ sound_refusal desk.now }
 {
     if is_sound(desk) { 0 } else { 31 }
 }
 
 // The refusals of a call with a handle, in this order: 31 for a desk that is not sound, 12 for a handle that is not open; 0 if there is none.
-pub fn handle_refusal(desk: Desk, handle: u64) -> u8
-    ensures { result ≡ handle_refusal handle desk }
+pub fn handle_refusal(desk: &Desk, handle: u64) -> u8
+    ensures { result ≡ handle_refusal handle desk.now }
 {
     let open = is_open(desk, handle);
     let r = sound_refusal(desk);

@@ -60,10 +60,10 @@ fn served_once(job: Job) -> Job
 }
 
 // The service Serve. The word is recovered by a copy of the job's marks, which stay.
-pub fn serve(desk: Desk, handle: u64, word: &mut [u8]) -> AfterServe
+pub fn serve(mut desk: Desk, handle: u64, word: &mut [u8]) -> AfterServe
     ensures { ServeGives (serve_of handle word.old desk) word.new result.desk result.answer }
 {
-    let r = desk_record::handle_refusal(desk, handle);
+    let r = desk_record::handle_refusal(&desk, handle);
     if r != 0 {
         return AfterServe {
             desk: desk,
@@ -71,22 +71,21 @@ pub fn serve(desk: Desk, handle: u64, word: &mut [u8]) -> AfterServe
         };
     }
     let s = (handle % 8) as usize;
-    let mut d = desk;
-    let job = d.jobs[s];
+    let job = desk.jobs[s];
     match serve_job(job, word) {
         Mending::Refused(r) => AfterServe {
-            desk: d,
+            desk: desk,
             answer: Mending::Refused(r),
         },
         Mending::Contradictory(group) => AfterServe {
-            desk: d,
+            desk: desk,
             answer: Mending::Contradictory(group),
         },
         Mending::Done => {
             let raised = served_once(job);
-            d.jobs[s] = raised;
+            desk.jobs[s] = raised;
             AfterServe {
-                desk: d,
+                desk: desk,
                 answer: Mending::Done,
             }
         }

@@ -11,14 +11,14 @@ use Rattle.desk_open.proofs.open_refusal.Goals as goal
 pub returns-then-not-is_sound : goal.returns-then-not-is_sound
 unfolding open_number
 returns-then-not-is_sound c =
-    let e : is_sound c.args.desk ≡ false = sym c.is_sound.ensures ∙ c.if-not-is_sound.true in
+    let e : is_sound c.args.desk.now ≡ false = sym c.is_sound.ensures ∙ c.if-not-is_sound.true in
     simp e
 
 pub returns-then-r-ne0 : goal.returns-then-r-ne0
 unfolding open_number
 returns-then-r-ne0 c =
     let a = c.args in
-    let e : is_sound a.desk ≡ true = sym c.is_sound.ensures ∙ c.if-not-is_sound.false in
+    let e : is_sound a.desk.now ≡ true = sym c.is_sound.ensures ∙ c.if-not-is_sound.false in
     let j = c.judged-r.ensures in
     simp e (j ∙ sym (or_else-first _ _ (λ z. c.if-r-ne0.true (j ∙ z))))
 
@@ -26,9 +26,9 @@ pub returns-then-last : goal.returns-then-last
 unfolding open_number
 returns-then-last c =
     let a = c.args in
-    let e : is_sound a.desk ≡ true = sym c.is_sound.ensures ∙ c.if-not-is_sound.false in
+    let e : is_sound a.desk.now ≡ true = sym c.is_sound.ensures ∙ c.if-not-is_sound.false in
     let z : judged_number_in byte_limits a.m a.w a.c a.marks.now ≡ 0 = sym c.judged-r.ensures ∙ c.if-r-ne0.false in
-    let t : eqb a.desk.t 65535 ≡ true = eq-eqb _ _ c.if-last.true in
+    let t : eqb a.desk.now.t 65535 ≡ true = eq-eqb _ _ c.if-last.true in
     simp (e, z, t)
 
 -- none of 31, 1 to 8 and 10: 11 by the search for a free slot
@@ -40,11 +40,11 @@ late m w c marks desk v e z t f = simp (e, z, t, f)
 pub returns-then-full : goal.returns-then-full
 returns-then-full c =
     let a = c.args in
-    sym (late a.m a.w a.c a.marks.now a.desk true (sym c.is_sound.ensures ∙ c.if-not-is_sound.false) (sym c.judged-r.ensures ∙ c.if-r-ne0.false)
+    sym (late a.m a.w a.c a.marks.now a.desk.now true (sym c.is_sound.ensures ∙ c.if-not-is_sound.false) (sym c.judged-r.ensures ∙ c.if-r-ne0.false)
     (ne_eqb _ _ c.if-last.false) (ap (λ s. eqb s 8) (sym c.free_slot-full.ensures) ∙ eq-eqb _ _ c.if-full.true))
 
 pub returns-else-full : goal.returns-else-full
 returns-else-full c =
     let a = c.args in
-    sym (late a.m a.w a.c a.marks.now a.desk false (sym c.is_sound.ensures ∙ c.if-not-is_sound.false) (sym c.judged-r.ensures ∙ c.if-r-ne0.false)
+    sym (late a.m a.w a.c a.marks.now a.desk.now false (sym c.is_sound.ensures ∙ c.if-not-is_sound.false) (sym c.judged-r.ensures ∙ c.if-r-ne0.false)
     (ne_eqb _ _ c.if-last.false) (ap (λ s. eqb s 8) (sym c.free_slot-full.ensures) ∙ ne_eqb _ _ c.if-full.false))

@@ -61,17 +61,17 @@ unfolding is_twice
 lowest desk = and-false (is_taken (job_at desk 0))
 
 pub returns-then-t-gt-MAX_ISSUED : goal.returns-then-t-gt-MAX_ISSUED
-returns-then-t-gt-MAX_ISSUED c = sym (unsound c.args.desk (λ S. let k = S.few in omega (arith, c.if-t-gt-MAX_ISSUED.true)))
+returns-then-t-gt-MAX_ISSUED c = sym (unsound c.args.desk.now (λ S. let k = S.few in omega (arith, c.if-t-gt-MAX_ISSUED.true)))
 
 pub returns-then-not-is_sound_slot : goal.returns-then-not-is_sound_slot
 returns-then-not-is_sound_slot c =
-    let d = c.args.desk in
+    let d = c.args.desk.now in
     let h : is_sound_slot d.t 0 (job_at d 0) ≡ false = sym c.is_sound_slot.ensures ∙ c.if-not-is_sound_slot.true in
     sym (unsound d (λ S. true≢false (sym (S.slots 0 (omega arith)) ∙ h)))
 
 pub loop-s-init : goal.loop-s-init
 loop-s-init c =
-    let d = c.args.desk in
+    let d = c.args.desk.now in
     let g : is_sound_slot d.t 0 (job_at d 0) ≡ true = sym c.is_sound_slot.ensures ∙ c.if-not-is_sound_slot.false in (
       omega arith,
       omega arith,
@@ -82,13 +82,13 @@ loop-s-init c =
 
 pub returns-then-not-is_sound_slot-2 : goal.returns-then-not-is_sound_slot-2
 returns-then-not-is_sound_slot-2 c =
-    let d = c.args.desk in
+    let d = c.args.desk.now in
     let h : is_sound_slot d.t c.loop-s.s (job_at d c.loop-s.s) ≡ false = sym c.is_sound_slot-in-loop-s.ensures ∙ c.if-not-is_sound_slot-2.true in
     sym (unsound d (λ S. true≢false (sym (S.slots c.loop-s.s (omega arith)) ∙ h)))
 
 pub returns-then-is_twice : goal.returns-then-is_twice
 returns-then-is_twice c =
-    let d = c.args.desk in
+    let d = c.args.desk.now in
     let x = set c.loop-s.issues c.loop-s.s c.issue_in-in-loop-s.result in
     let K : Kept d (c.loop-s.s + 1) x = kept_more d c.loop-s.s c.loop-s.issues c.loop-s.invariant.2 (omega arith) c.issue_in-in-loop-s.ensures in
     let g : is_sound_slot d.t c.loop-s.s (job_at d c.loop-s.s) ≡ true
@@ -98,7 +98,7 @@ returns-then-is_twice c =
 
 pub loop-s-preserved : goal.loop-s-preserved
 loop-s-preserved c =
-    let d = c.args.desk in
+    let d = c.args.desk.now in
     let x = set c.loop-s.issues c.loop-s.s c.issue_in-in-loop-s.result in
     let K : Kept d (c.loop-s.s + 1) x = kept_more d c.loop-s.s c.loop-s.issues c.loop-s.invariant.2 (omega arith) c.issue_in-in-loop-s.ensures in
     let g : is_sound_slot d.t c.loop-s.s (job_at d c.loop-s.s) ≡ true
@@ -108,7 +108,7 @@ loop-s-preserved c =
 
 pub returns : goal.returns
 returns c =
-    let d = c.args.desk in
+    let d = c.args.desk.now in
     let q : c.loop-s.s ≡ 8 = omega arith in
     sym
     (sound-of d

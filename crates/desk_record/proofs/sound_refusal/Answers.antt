@@ -4,10 +4,10 @@ use Rattle.desk_record.proofs.sound_refusal.Goals as goal
 
 pub returns-then-is_sound : goal.returns-then-is_sound
 returns-then-is_sound c =
-    let e : is_sound c.args.desk ≡ true = sym c.is_sound.ensures ∙ c.if-is_sound.true in
+    let e : is_sound c.args.desk.now ≡ true = sym c.is_sound.ensures ∙ c.if-is_sound.true in
     simp e
 
 pub returns-else-is_sound : goal.returns-else-is_sound
 returns-else-is_sound c =
-    let e : is_sound c.args.desk ≡ false = sym c.is_sound.ensures ∙ c.if-is_sound.false in
+    let e : is_sound c.args.desk.now ≡ false = sym c.is_sound.ensures ∙ c.if-is_sound.false in
     simp e
