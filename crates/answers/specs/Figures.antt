@@ -1,56 +1,50 @@
 -- What Describe, Judge and Check answer, by the paper's numbers and figures.
-use Rattle.std.specs.Prelude.{List, [], ◌∷◌, ℕ, zero, suc, Bool, true, false}
+use Rattle.std.specs.Prelude.{List, [], ◌∷◌, ℕ, zero, suc, Bool, true, false, Result, Ok, Err, Option, Some, None}
 use Rattle.code.specs.Refusals.{unless_refused}
 use Rattle.code.specs.Limits.{Limits, place_count, data_count, sure_count, shape_refusal_in}
-use Rattle.answers.specs.declared.Described.{Described}
-use Rattle.answers.specs.declared.Judged.{Judged}
-use Rattle.answers.specs.declared.Checked.{Checked}
+use Rattle.answers.specs.declared.Refusal.{Refusal}
+use Rattle.answers.specs.declared.Figures.{Figures}
+use Rattle.answers.specs.Answers.{refused_number, refusal_at, given_at, answer_at}
 
 -- "Describe: n, k and the sure count of a shape."
-abbrev pub described_at : ℕ → ℕ → ℕ → ℕ → Described
-described_at zero n k sure = Described.Figures n k sure
-described_at (suc r) n k sure = Described.Refused (suc r)
+abbrev pub described_at : ℕ → ℕ → ℕ → ℕ → Result Figures Refusal
+described_at r n k sure = given_at r (record { n = n; k = k; sure = sure })
 
 -- the number given back, 0 for done
-abbrev pub described_number : Described → ℕ
-described_number (Described.Figures n k sure) = 0
-described_number (Described.Refused r) = r
+abbrev pub described_number : Result Figures Refusal → ℕ
+described_number = refused_number
 
 -- and the figures, none on a refusal
-abbrev pub described_figures : Described → List ℕ
-described_figures (Described.Figures n k sure) = n ∷ k ∷ sure ∷ []
-described_figures (Described.Refused r) = []
+abbrev pub described_figures : Result Figures Refusal → List ℕ
+described_figures (Ok f) = f.n ∷ f.k ∷ f.sure ∷ []
+described_figures (Err e) = []
 
 -- the answer by its number
-abbrev pub judged_at : ℕ → Judged
-judged_at zero = Judged.Determined
-judged_at (suc r) = Judged.Refused (suc r)
+abbrev pub judged_at : ℕ → Result Unit Refusal
+judged_at = answer_at
 
 -- the number given back, 0 for determined
-abbrev pub judged_number : Judged → ℕ
-judged_number Judged.Determined = 0
-judged_number (Judged.Refused r) = r
+abbrev pub judged_number : Result Unit Refusal → ℕ
+judged_number = refused_number
 
--- yes, or no with a group, or the number of a refusal
-abbrev pub checked_at : ℕ → Bool → ℕ → Checked
-checked_at zero true group = Checked.Codeword
-checked_at zero false group = Checked.Other group
-checked_at (suc r) b group = Checked.Refused (suc r)
+-- yes, which is no group that contradicts, or no with a group, or a refusal
+abbrev pub checked_at : ℕ → Bool → ℕ → Result (Option ℕ) Refusal
+checked_at zero true group = Ok None
+checked_at zero false group = Ok (Some group)
+checked_at (suc r) b group = Err (refusal_at (suc r) 0)
 
 -- the number given back, 0 for an answer
-abbrev pub checked_number : Checked → ℕ
-checked_number Checked.Codeword = 0
-checked_number (Checked.Other group) = 0
-checked_number (Checked.Refused r) = r
+abbrev pub checked_number : Result (Option ℕ) Refusal → ℕ
+checked_number = refused_number
 
 -- and the figures, 1 for yes, 0 and the group for no; none on a refusal. (C gets a no as 9 with its group.)
-abbrev pub checked_figures : Checked → List ℕ
-checked_figures Checked.Codeword = 1 ∷ []
-checked_figures (Checked.Other group) = 0 ∷ group ∷ []
-checked_figures (Checked.Refused r) = []
+abbrev pub checked_figures : Result (Option ℕ) Refusal → List ℕ
+checked_figures (Ok None) = 1 ∷ []
+checked_figures (Ok (Some group)) = 0 ∷ group ∷ []
+checked_figures (Err e) = []
 
 -- "Describe: n, k and the sure count of a shape" of three numbers of any size; a refused shape has no figures
-unfoldable pub described_in : Limits → ℕ → ℕ → ℕ → Described
+unfoldable pub described_in : Limits → ℕ → ℕ → ℕ → Result Figures Refusal
 described_in L m w c = described_at (shape_refusal_in L m w c) (place_count m w) (data_count m w c) (sure_count w c)
 
 -- the figures of three numbers of any size, none where they are refused

@@ -7,6 +7,8 @@ ghost use Rattle.std.specs.Io.KnownBytes.{Appends};
 ghost use Rattle.text_stream.specs.Session.{session_of};
 ghost use Rattle.text_stream.specs.States.{point_of};
 ghost use Rattle.text_stream.specs.Whole.{at_once};
+ghost use Rattle.text_stream.specs.declared.State.{State};
+ghost use Rattle.axlebloom.specs.declared.Run.TheVariants.{On, Over};
 ghost use Rattle.axlebloom.specs.Runs.{GoesOn, Ends, WritesFront};
 
 use program_io::{Outputs, Request};
@@ -22,12 +24,11 @@ fn put<O: Write, E: Write, C: Clock>(to: &mut Outputs<O, E, C>, bytes: &[u8]) ->
     program_io::write_out(to, bytes, b"axlebloom: standard output")
 }
 
-// The state of the session, whether the run goes on, and whether it has come to the end of the input with all of its answers written.
+// The run goes on, with the state of the session; or it is over, and the bool tells whether it has come to the end of the input with all of its answers written.
 #[derive(Clone, Copy)]
-struct Run {
-    state: State,
-    on: bool,
-    whole: bool,
+enum Run {
+    On(State),
+    Over(bool),
 }
 
 // Reads once, and writes what the bytes add to the output, or the end of the input does.
@@ -36,8 +37,8 @@ fn turn<I: Read, O: Write, E: Write, C: Clock>(
     to: &mut Outputs<O, E, C>,
     state: State,
 ) -> Run
-    ensures on { result.on ≡ true → GoesOn (I.remaining input.old) (I.remaining input.new) (O.contents to.old.output) (O.contents to.new.output) (point_of state) (point_of result.state) }
-    ensures whole { result.whole ≡ true → Ends (I.remaining input.old) (O.contents to.old.output) (O.contents to.new.output) (point_of state) }
+    ensures on { (next : State) → result ≡ On next → GoesOn (I.remaining input.old) (I.remaining input.new) (O.contents to.old.output) (O.contents to.new.output) (point_of state) (point_of next) }
+    ensures whole { result ≡ Over true → Ends (I.remaining input.old) (O.contents to.old.output) (O.contents to.new.output) (point_of state) }
     ensures front { IfSome (I.remaining input.old) (λ xs. WritesFront (O.contents to.old.output) (O.contents to.new.output) (at_once (point_of state) xs)) }
 {
     let mut bytes = [0u8; 1024];
@@ -45,51 +46,39 @@ fn turn<I: Read, O: Write, E: Write, C: Clock>(
     match program_io::read_some(input, &to.clock, &mut bytes) {
         Err(e) => {
             program_io::fail(&mut to.errors, b"axlebloom: standard input", e);
-            Run {
-                state,
-                on: false,
-                whole: false,
-            }
+            Run::Over(false)
         }
         Ok(0) => {
             let size = text_stream::finish(state, &mut out);
             let whole = put(to, &out[..size]);
-            Run {
-                state,
-                on: false,
-                whole,
-            }
+            Run::Over(whole)
         }
         Ok(count) => {
             let step = text_stream::take(state, &bytes, count, &mut out);
             let size = step.length;
-            let on = put(to, &out[..size]);
-            Run {
-                state: step.state,
-                on,
-                whole: false,
+            if put(to, &out[..size]) {
+                Run::On(step.state)
+            } else {
+                Run::Over(false)
             }
         }
     }
 }
 
 // Answers the input to its end, and tells whether all of it was written; if not, standard error says why.
-// A proved loop must terminate, but the input might not end, so the loop counts down from a number that no run can exhaust.
+// A proved loop must terminate, but the input might not end, so the loop goes over a range that no run can exhaust.
 fn run_all<I: Read, O: Write, E: Write, C: Clock>(input: &mut I, to: &mut Outputs<O, E, C>) -> bool
     ensures whole { result ≡ true → IfSome (I.remaining input.old) (λ xs. Appends (O.contents to.old.output) (O.contents to.new.output) (session_of xs)) }
     ensures front { IfSome (I.remaining input.old) (λ xs. WritesFront (O.contents to.old.output) (O.contents to.new.output) (session_of xs)) }
 {
-    let mut run = Run {
-        state: text_stream::start(),
-        on: true,
-        whole: false,
-    };
-    let mut turns = u64::MAX;
-    while turns > 0 && run.on {
-        run = turn(input, to, run.state);
-        turns -= 1;
+    let mut state = text_stream::start();
+    for _ in 0..u64::MAX {
+        match turn(input, to, state) {
+            Run::On(next) => state = next,
+            Run::Over(whole) => return whole,
+        }
     }
-    run.whole
+    false
 }
 
 // Writes what --help asks for.

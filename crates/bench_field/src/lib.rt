@@ -2,7 +2,7 @@
 
 #![tactic(auto)]
 
-ghost use Rattle.std.specs.Prelude.{◌<◌, ◌≡◌};
+ghost use Rattle.std.specs.Prelude.{◌≡◌};
 ghost use Rattle.binary_field.specs.Product.{product};
 ghost use Rattle.bench_field.specs.Tables.{powers, logs, through_tables};
 
@@ -16,12 +16,8 @@ pub extern "C" fn bench_dot_tables(u: &[u8], v: &[u8]) -> u8 {
     let p = powers();
     let l = logs();
     let mut r: u8 = 0;
-    let mut i: usize = 0;
-    while i < u.len() {
-        if i < v.len() {
-            r = r ^ product_in(&p, &l, u[i], v[i]);
-        }
-        i += 1;
+    for (a, b) in u.iter().zip(v) {
+        r ^= product_in(&p, &l, *a, *b);
     }
     r
 }
@@ -29,36 +25,18 @@ pub extern "C" fn bench_dot_tables(u: &[u8], v: &[u8]) -> u8 {
 // Each byte of a row times f, by shifts.
 #[unsafe(no_mangle)]
 pub extern "C" fn bench_row_shifts(row: &mut [u8], f: u8) {
-    let mut i: usize = 0;
-    while i < row.len() {
-        row[i] = gf256::shifted_product(row[i], f);
-        i += 1;
+    for x in row.iter_mut() {
+        *x = gf256::shifted_product(*x, f);
     }
 }
 
 // f times 0 to 15.
 fn multiples(f: u8) -> [u8; 16] {
     let mut r = [0u8; 16];
-    let mut n: u8 = 0;
-    let mut i: usize = 0;
-    while i < 16 {
-        r[i] = gf256::shifted_product(n, f);
-        n = (n % 16) + 1;
-        i += 1;
+    for n in 0u8..16 {
+        r[usize::from(n)] = gf256::shifted_product(n, f);
     }
     r
-}
-
-fn low_half(x: u8) -> usize
-    ensures { result < 16 }
-{
-    (x % 16) as usize
-}
-
-fn high_half(x: u8) -> usize
-    ensures { result < 16 }
-{
-    (x / 16) as usize
 }
 
 // The same from two rows of sixteen made for f: its multiples by 0 to 15, and by 0, 16, .., 240.
@@ -66,12 +44,8 @@ fn high_half(x: u8) -> usize
 pub extern "C" fn bench_row_halves(row: &mut [u8], f: u8) {
     let low = multiples(f);
     let high = multiples(gf256::shifted_product(16, f));
-    let mut i: usize = 0;
-    while i < row.len() {
-        let l = low_half(row[i]);
-        let h = high_half(row[i]);
-        row[i] = low[l] ^ high[h];
-        i += 1;
+    for x in row.iter_mut() {
+        *x = low[usize::from(*x % 16)] ^ high[usize::from(*x / 16)];
     }
 }
 
@@ -123,12 +97,6 @@ pub fn logs() -> [u8; 256]
     LOGS
 }
 
-fn wide(x: u8) -> usize
-    ensures { (result ≡ x) × (result < 256) }
-{
-    x as usize
-}
-
 // The product through tables that the caller holds and lends, so that none is laid out anew in a loop.
 pub fn product_in(p: &[u8; 256], l: &[u8; 256], a: u8, b: u8) -> u8
     ensures { result ≡ through_tables p.now l.now a b }
@@ -139,9 +107,7 @@ pub fn product_in(p: &[u8; 256], l: &[u8; 256], a: u8, b: u8) -> u8
     if b == 0 {
         return 0;
     }
-    let i = wide(a);
-    let j = wide(b);
-    let s = wide(l[i]) + wide(l[j]);
+    let s = usize::from(l[usize::from(a)]) + usize::from(l[usize::from(b)]);
     if s < 255 { p[s] } else { p[s - 255] }
 }
 

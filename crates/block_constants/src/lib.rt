@@ -11,17 +11,15 @@ ghost use Rattle.code.specs.Marks.{lost_in};
 ghost use Rattle.code_engine.specs.Elimination.{entry};
 ghost use Rattle.block_constants.specs.Reduced.{ReducedTo, Pivoted};
 ghost use Rattle.block_constants.specs.Equations.{equation_of};
-ghost use Rattle.block_constants.specs.FreeRows.{first_of, second_of, Cleared, Mixed, one_test, one_value, two_first, two_second, OneRow, TwoRows};
+ghost use Rattle.block_constants.specs.FreeRows.{with_at, mixed, first_of, second_of, Cleared, Mixed, one_test, one_value, two_first, two_second, OneRow, TwoRows};
 
 // A row plus f times the row b.
 fn add(row: [u8; 16], b: [u8; 16], f: u8) -> [u8; 16]
     ensures { (j : ℕ) → j < 16 → get_or result j 0 ≡ get_or row j 0 ⊕ times byte_edition (get_or b j 0) f }
 {
     let mut r = row;
-    let mut j: usize = 0;
-    while j < 16 {
-        r[j] = row[j] ^ gf256::shifted_product(b[j], f);
-        j += 1;
+    for (j, x) in r.iter_mut().enumerate() {
+        *x = row[j] ^ gf256::shifted_product(b[j], f);
     }
     r
 }
@@ -30,8 +28,7 @@ fn add(row: [u8; 16], b: [u8; 16], f: u8) -> [u8; 16]
 pub fn scale(row: [u8; 16], f: u8) -> [u8; 16]
     ensures { (j : ℕ) → j < 16 → get_or result j 0 ≡ times byte_edition (get_or row j 0) f }
 {
-    let zero = [0u8; 16];
-    add(zero, row, f)
+    add([0u8; 16], row, f)
 }
 
 // The pivot row b in place of row t, and each other row plus its entry in column p times b.
@@ -41,16 +38,12 @@ fn clear(rows: [[u8; 16]; 6], b: [u8; 16], t: usize, p: usize) -> [[u8; 16]; 6]
     ensures by_index_2 { (i : ℕ) → i < 6 → (i ≡ t → ⊥) → (j : ℕ) → j < 16 → entry result i j ≡ entry rows i j ⊕ times byte_edition (get_or b j 0) (entry rows i p) }
 {
     let mut r = rows;
-    let mut i: usize = 0;
-    while i < 6 {
-        if i == t {
-            r[i] = b;
+    for i in 0..6 {
+        r[i] = if i == t {
+            b
         } else {
-            let row = rows[i];
-            let new = add(row, b, row[p]);
-            r[i] = new;
-        }
-        i += 1;
+            add(rows[i], b, rows[i][p])
+        };
     }
     r
 }
@@ -86,16 +79,12 @@ pub fn group_rows(bound: &[u8], first: [u8; 16], second: [u8; 16]) -> [[u8; 16];
         return rows;
     }
     let mut t: usize = 0;
-    let mut p: usize = 0;
-    while p < bound.len() {
-        if bound[p] == 1 {
-            if t < 4 {
-                let next = pivot(rows, t, p);
-                rows = next;
-                t += 1;
-            }
+    for (p, b) in bound.iter().enumerate() {
+        if *b == 1 && t < 4 {
+            let next = pivot(rows, t, p);
+            rows = next;
+            t += 1;
         }
-        p += 1;
     }
     rows
 }
@@ -117,12 +106,19 @@ fn mix(n: usize, start: usize, rows: [u8; 480], f: u8, h: u8, out: [u8; 480]) ->
     ensures { Mixed n start f h rows out result }
 {
     let mut r = out;
-    let mut i: usize = 0;
-    while i < n {
+    for i in 0..n {
         r[start + i] = gf256::shifted_product(rows[i], f) ^ gf256::shifted_product(rows[n + i], h);
-        i += 1;
     }
     r
+}
+
+// One row, a mixture of the two without place p.
+fn mix_one(n: usize, p: usize, across: [u8; 480], f: u8, h: u8) -> [u8; 480]
+    requires { (n ≤ 240) × (p < n) }
+    ensures { OneRow n (mixed f h (with_at p 0 (first_of across)) (with_at p 0 (second_of n across))) result }
+{
+    let rows = clear_place(n, p, across);
+    mix(n, 0, rows, f, h, [0u8; 480])
 }
 
 // The constants of the test that is left with the one free place p; the rows as they are if n or p is out of range.
@@ -130,16 +126,11 @@ pub fn test_row(n: usize, p: usize, across: [u8; 480]) -> [u8; 480]
     ensures one_row { n ≤ 240 → p < n → OneRow n (one_test p (first_of across) (second_of n across)) result }
     ensures value { (n ≤ 240 → p < n → ⊥) → result ≡ across }
 {
-    if 240 < n {
-        return across;
-    }
-    if n <= p {
+    if 240 < n || n <= p {
         return across;
     }
     let f = gf256::shifted_product(across[n + p], gf256::inverse(across[p]));
-    let rows = clear_place(n, p, across);
-    let zero = [0u8; 480];
-    mix(n, 0, rows, f, 1, zero)
+    mix_one(n, p, across, f, 1)
 }
 
 // The constants of the symbol at the one free place p; the rows as they are if n or p is out of range.
@@ -147,16 +138,11 @@ pub fn value_row(n: usize, p: usize, across: [u8; 480]) -> [u8; 480]
     ensures one_row { n ≤ 240 → p < n → OneRow n (one_value p (first_of across) (second_of n across)) result }
     ensures value { (n ≤ 240 → p < n → ⊥) → result ≡ across }
 {
-    if 240 < n {
-        return across;
-    }
-    if n <= p {
+    if 240 < n || n <= p {
         return across;
     }
     let f = gf256::inverse(across[p]);
-    let rows = clear_place(n, p, across);
-    let zero = [0u8; 480];
-    mix(n, 0, rows, f, 0, zero)
+    mix_one(n, p, across, f, 0)
 }
 
 // Two rows, the constants of the symbols of two free places.
@@ -171,14 +157,13 @@ fn mix_two(n: usize, p: usize, q: usize, across: [u8; 480]) -> [u8; 480]
     let i = gf256::inverse(gf256::shifted_product(a, d) ^ gf256::shifted_product(c, b));
     let one = clear_place(n, p, across);
     let rows = clear_place(n, q, one);
-    let zero = [0u8; 480];
     let half = mix(
         n,
         0,
         rows,
         gf256::shifted_product(i, d),
         gf256::shifted_product(i, c),
-        zero,
+        [0u8; 480],
     );
     mix(
         n,
@@ -195,13 +180,7 @@ pub fn value_rows(n: usize, p: usize, q: usize, across: [u8; 480]) -> [u8; 480]
     ensures two_rows { n ≤ 240 → p < n → q < n → TwoRows n (two_first p (first_of across) (second_of n across) q) (two_second p (first_of across) (second_of n across) q) result }
     ensures value { (n ≤ 240 → p < n → q < n → ⊥) → result ≡ across }
 {
-    if 240 < n {
-        return across;
-    }
-    if n <= p {
-        return across;
-    }
-    if n <= q {
+    if 240 < n || n <= p || n <= q {
         return across;
     }
     mix_two(n, p, q, across)

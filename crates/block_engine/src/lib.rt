@@ -14,6 +14,8 @@ ghost use Rattle.block_laws.specs.Free.{Completable};
 ghost use Rattle.block_laws.specs.Ready.{Ready, Recoverable, FreeWritten, Restored, Mended};
 ghost use Rattle.block_laws.specs.Steps.{Given, Limit, place_symbol, AcrossRows, GroupKept, KeptUpTo, Targets, GroupFilled, GroupsFilled};
 
+use shape::Bytes;
+
 // The lowest word below the limit that has no mending in group g; the limit if there is none.
 fn test_group(
     c: usize,
@@ -36,9 +38,8 @@ fn test_group(
     }
     let count = c - t;
     let a = t * w;
-    let e = a + count * w;
     let from = g * w;
-    block_sums::zero_until(blocks, size, from, w, count, &kept[a..e], limit)
+    block_sums::zero_until(blocks, size, from, w, count, &kept[a..a + count * w], limit)
 }
 
 // The lowest word that has no mending in some group; the length of a block if there is none.
@@ -57,14 +58,10 @@ fn test_groups(
 {
     let v = 4 * w;
     let mut limit = size;
-    let mut g: usize = 0;
-    while g < m {
+    for g in 0..m {
         let a = g * w;
-        let e = a + w;
         let b = g * v;
-        let f = b + v;
-        limit = test_group(c, g, size, blocks, &bound[a..e], &kept[b..f], limit);
-        g += 1;
+        limit = test_group(c, g, size, blocks, &bound[a..a + w], &kept[b..b + v], limit);
     }
     limit
 }
@@ -76,15 +73,13 @@ fn targets(base: usize, bound: &[u8]) -> [usize; 4]
 {
     let mut to = [0usize; 4];
     let mut n: usize = 0;
-    let mut j: usize = 0;
-    while j < bound.len() {
-        if bound[j] == 1 {
+    for (j, b) in bound.iter().enumerate() {
+        if *b == 1 {
             if n < 4 {
                 to[n] = base + j;
             }
             n += 1;
         }
-        j += 1;
     }
     to
 }
@@ -121,14 +116,10 @@ fn fill_groups(
     ensures { GroupsFilled w c size m bound.now blocks.old blocks.new }
 {
     let v = 4 * w;
-    let mut g: usize = 0;
-    while g < m {
+    for g in 0..m {
         let a = g * w;
-        let e = a + w;
         let b = g * v;
-        let f = b + v;
-        fill_group(c, g, size, blocks, &bound[a..e], &kept[b..f]);
-        g += 1;
+        fill_group(c, g, size, blocks, &bound[a..a + w], &kept[b..b + v]);
     }
 }
 
@@ -198,7 +189,7 @@ fn bind(m: usize, w: usize, c: usize, marks: &[u8], bound: &mut [u8])
     requires marks_len { (length marks.now ≡ m * w) × (length bound.old ≡ m * w) }
     ensures { BoundAll m w c marks.now bound.new }
 {
-    buffers::copy(marks, bound);
+    buffers::copy_from_slice(bound, marks);
     erasures::clear_free(w, c, bound);
 }
 
@@ -207,7 +198,7 @@ fn ready(m: usize, w: usize, c: usize, size: usize, lent: usize, marks: &[u8]) -
     ensures ready { result ≡ true → Ready m w c size lent marks.now }
     ensures fact { result ≡ false → Ready m w c size lent marks.now → ⊥ }
 {
-    if shape::word_refusal(m, w, c, marks.len()) != 0 {
+    if shape::word_refusal::<Bytes>(m, w, c, marks.len()).is_err() {
         return false;
     }
     if size == 0 {

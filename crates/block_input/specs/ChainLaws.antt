@@ -65,7 +65,8 @@ module _ (refusal : List ℕ → ℕ) (long : (line : List ℕ) → 1024 < lengt
           rw (long (until_line_feed (xs ++ ys)) (omega arith)) (ap refused_line e)
 
       go : (f : Bool) → has_feed xs ≡ f → (l : Bool) → ltb 1024 (length xs) ≡ l
-          → cond (f || l) (refusal (until_line_feed xs) or_else early (until_line_feed xs) (after_line xs)) 0 ≡ suc q → on_line (xs ++ ys) ≡ refused_line (suc q)
+          → cond (f || l) (refusal (until_line_feed xs) or_else early (until_line_feed xs) (after_line xs)) 0 ≡ suc q
+          → on_line (xs ++ ys) ≡ refused_line (suc q)
       go true h l k d = rw (more-line xs ys h, more-after xs ys h) (fed h (refusal (until_line_feed xs)) refl d)
       go false h true k d = alone h (ltb-true 1024 (length xs) k) d
       go false h false k d = absurd (omega arith)

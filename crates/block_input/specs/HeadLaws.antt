@@ -12,8 +12,10 @@ use Rattle.text.specs.PaddedLaws.{padded-length}
 use Rattle.text_lines.specs.HeldLaws.{byte_at}
 use Rattle.code_services.specs.Marks.{marks_refusal_in}
 use Rattle.text.specs.Records.{line_kind, line_bytes}
+use Rattle.text_lines.specs.declared.Kind.{Kind}
 use Rattle.text_lines.specs.declared.Record.{Record}
 use Rattle.text_lines.specs.declared.Numbers.{Numbers}
+use Rattle.text_lines.specs.Kinds.{kind_number}
 use Rattle.text_lines.specs.Held.{HoldsRecord}
 use Rattle.text_lines.specs.Numbers.{is_numbers, HoldsNumbers}
 use Rattle.block_input.specs.declared.ShapeLine.{ShapeLine}
@@ -28,30 +30,30 @@ use Rattle.block_input.specs.Head.{input_shape, later_line, line_refused}
 use Rattle.block_input.specs.Parts.{Back, ReadMarks, ReadsLength, ReadsMarks, ReadsHead}
 
 -- ---- a shape line
-module _ (line : List ℕ) (read : Record) (k : read.kind ≡ line_kind line) where
-  pub shape-unread : (read.kind ≡ 1 → ⊥) → record { refusal = 14; m = 0; w = 0; c = 0 } ≡ shape_line_of line
+module _ (line : List ℕ) where
+  pub shape-unread : (kind : ℕ) → kind ≡ line_kind line → (kind ≡ 1 → ⊥) → record { refusal = 14; m = 0; w = 0; c = 0 } ≡ shape_line_of line
   unfolding shape_line_of
-  shape-unread n = rw (← k, ne_eqb read.kind 1 n)
+  shape-unread kind k n = rw (← k, ne_eqb kind 1 n)
 
-  pub shape-read : read.kind ≡ 1 → ((read.kind ≡ 0 → ⊥) → HoldsRecord read line)
+  pub shape-read : (read : Record) → kind_number read.kind ≡ line_kind line → HoldsRecord read line → read.kind ≡ Kind.Shape
       → (r : ℕ) → r ≡ shape_refusal_in byte_limits (get_or read.bytes 0 0) (get_or read.bytes 1 0) (get_or read.bytes 2 0)
       → record { refusal = r; m = get_or read.bytes 0 0; w = get_or read.bytes 1 0; c = get_or read.bytes 2 0 } ≡ shape_line_of line
   unfolding shape_line_of
-  shape-read e held r is =
-      let b = byte_at line read (held (λ z. let q : ◌≡◌ {A = ℕ} 1 0 = sym e ∙ z in omega arith)) in
-      let z : line_kind line ≡ 1 = sym k ∙ e in
+  shape-read read k held e r is =
+      let b = byte_at line read held in
+      let z : line_kind line ≡ 1 = sym k ∙ ap kind_number e in
       rw (is, z, b 0, b 1, b 2)
 
 -- ---- a marks line
-module _ (line : List ℕ) (m w c : ℕ) (numbers : Numbers) (is : numbers.read ≡ is_numbers marks_name line) where
-  pub marks-unread : numbers.read ≡ false → (row : List ℕ) → ReadMarks line m w c (record { refusal = 14; count = 0; marks = row })
+module _ (line : List ℕ) (m w c : ℕ) where
+  pub marks-unread : false ≡ is_numbers marks_name line → (row : List ℕ) → ReadMarks line m w c (record { refusal = 14; count = 0; marks = row })
   unfolding marks_line_refusal
-  marks-unread e row = record {
-    refusal = rw (← is, e);
+  marks-unread is row = record {
+    refusal = rw (← is);
     marks = λ z. let q : ◌≡◌ {A = ℕ} 14 0 = z in absurd (omega arith);
   }
 
-  module _ (h : HoldsNumbers numbers line) where
+  module _ (numbers : Numbers) (h : HoldsNumbers numbers line) where
     pub marks-room : numbers.count ≤ length numbers.bytes
     marks-room =
         let s = h.count in
@@ -61,11 +63,11 @@ module _ (line : List ℕ) (m w c : ℕ) (numbers : Numbers) (is : numbers.read 
     pub marks-front : take numbers.count numbers.bytes ≡ line_bytes line
     marks-front = rw h.bytes (take_at (line_bytes line) _ numbers.count (sym h.count))
 
-    pub marks-read : numbers.read ≡ true → (r : ℕ) → r ≡ marks_refusal_in byte_limits m w c (take numbers.count numbers.bytes)
+    pub marks-read : true ≡ is_numbers marks_name line → (r : ℕ) → r ≡ marks_refusal_in byte_limits m w c (take numbers.count numbers.bytes)
         → ReadMarks line m w c (record { refusal = r; count = numbers.count; marks = numbers.bytes })
     unfolding marks_line_refusal
-    marks-read e r f = record {
-      refusal = f ∙ ap (marks_refusal_in byte_limits m w c) marks-front ∙ rw (← is, e);
+    marks-read is r f = record {
+      refusal = f ∙ ap (marks_refusal_in byte_limits m w c) marks-front ∙ rw (← is);
       marks = λ _. record { fits = marks-room; front = marks-front };
     }
 
@@ -191,7 +193,8 @@ refusal_at (suc (suc (suc n))) input = length_line_refusal (until_line_feed (aft
 pub line-named : (ended : Bool) (input : List ℕ) (r : ℕ) → head_refusal ended input ≡ suc r → refusal_at (line_refused input) input ≡ suc r
 unfolding head_refusal marks_part length_part later_line line_refused
 line-named ended input r =
-    go (settled ended input) (settled ended (after_line input)) (settled ended (after_line (after_line input))) (refusal_at 1 input) (refusal_at 2 input) refl refl
+    go (settled ended input) (settled ended (after_line input)) (settled ended (after_line (after_line input)))
+    (refusal_at 1 input) (refusal_at 2 input) refl refl
   where
     go : (p q s : Bool) (a b : ℕ) → a ≡ refusal_at 1 input → b ≡ refusal_at 2 input
         → cond p (a or_else cond q (b or_else cond s (refusal_at 3 input) 0) 0) 0 ≡ suc r → refusal_at (cond (eqb a 0) (cond (eqb b 0) 3 2) 1) input ≡ suc r

@@ -1,5 +1,7 @@
 -- Laws: A whole run, as the code says it.
-use Rattle.std.specs.Prelude.{◌≡◌, drop}
+use Rattle.std.specs.Prelude.{◌≡◌, drop, Result, Err}
+use Rattle.std.specs.Result.{IsErr, IsErrAnd}
+use Rattle.std.proofs.lemmas.Result.{err_from_is_err_and}
 use Rattle.std.proofs.Math.Path.{refl, sym, ap}
 use Rattle.std.proofs.Common.{ap₂, ◌∙◌, drop_of_length-le}
 use Rattle.std.proofs.Math.Bool.{true}
@@ -9,9 +11,9 @@ use native.Mathlib.Omega.{arith}
 use Rattle.std.proofs.Math.ListN.{length, take, length-drop}
 use Rattle.std.proofs.Math.Seq.{take_all}
 use Rattle.code.specs.RefusalsLaws.{unless-refused}
-use Rattle.block_rebuild.specs.declared.Rebuilt.{Rebuilt}
+use Rattle.block_rebuild.specs.declared.Failure.{Failure}
 use Rattle.block_rebuild.specs.Rebuild.{RebuildOutcome, rebuild_of, outcome_rebuilt}
-use Rattle.block_input.specs.declared.Verdict.{Verdict}
+use Rattle.block_input.specs.declared.InputFailure.{InputFailure}
 use Rattle.block_input.specs.declared.Head.{Head}
 use Rattle.block_input.specs.Head.{head_refusal, input_blocks}
 use Rattle.block_input.specs.Parts.{ReadsHead}
@@ -19,17 +21,21 @@ use Rattle.block_input.specs.Output.{input_outcome, start_of, rebuilt_verdict, v
 
 -- refused by one of the lines
 module _ (input : List ℕ) (r : ℕ) (is : r ≡ head_refusal true input) (n : r ≡ 0 → ⊥) where
-  pub verdict-refused : Verdict.Refused r ≡ verdict_of input
+  pub verdict-refused : Err (InputFailure.Line r) ≡ verdict_of input
   unfolding verdict_of
   verdict-refused = go (head_refusal true input) is
     where
-      go : (q : ℕ) → r ≡ q → Verdict.Refused r ≡ verdict_unless q (rebuilt_verdict (start_of input) (outcome_rebuilt (input_outcome input)))
+      go : (q : ℕ) → r ≡ q → Err (InputFailure.Line r) ≡ verdict_unless q (rebuilt_verdict (start_of input) (outcome_rebuilt (input_outcome input)))
       go zero e = absurd (n e)
-      go (suc q) e = ap Verdict.Refused e
+      go (suc q) e = ap (λ k. Err (InputFailure.Line k)) e
 
   pub held-refused : input ≡ held_of input
   unfolding held_of
   held-refused = sym (unless-refused (head_refusal true input) _ input (λ z. n (is ∙ z)))
+
+-- what the exit of a `?` returns: the failure of the rebuild
+pub passed-on : {f : Failure} {r : Result ℕ InputFailure} → IsErr r × IsErrAnd r (λ y. y ≡ InputFailure.Blocks f) → r ≡ Err (InputFailure.Blocks f)
+passed-on {f} {r} E = let p = err_from_is_err_and r E.1 in p.1 ∙ ap Err p.2
 
 -- the lines read
 module _ (input : List ℕ) (head : Head) (H : ReadsHead true input head) (none : head.refusal ≡ 0) where
@@ -61,7 +67,7 @@ module _ (input : List ℕ) (head : Head) (H : ReadsHead true input head) (none 
         H.blocks.back,
       )
 
-  pub verdict-is : (b : Rebuilt) → b ≡ outcome_rebuilt called → rebuilt_verdict head.start b ≡ verdict_of input
+  pub verdict-is : (b : Result Unit Failure) → b ≡ outcome_rebuilt called → rebuilt_verdict head.start b ≡ verdict_of input
   unfolding verdict_of
   verdict-is b e = rw (sym H.refusal ∙ none) (ap₂ rebuilt_verdict start_is (e ∙ ap outcome_rebuilt called_is))
 

@@ -1,5 +1,5 @@
 -- Laws: A run of the program: however the input is cut into parts, what is written is the output of the whole input.
-use Rattle.std.specs.Prelude.{◌≡◌, refl, Bool, true, false, cond, List, [], ◌∷◌, ◌++◌, eqb, length, take}
+use Rattle.std.specs.Prelude.{◌≡◌, refl, Bool, true, false, cond, List, [], ◌∷◌, ◌++◌, eqb, length, take, Result, Ok, Err}
 use Rattle.std.proofs.Common.{sym, ◌∙◌, append_assoc, append-nil, take_all, length-take-le, drop_at}
 use Rattle.std.proofs.Math.Path.{ap}
 use Prim.Native.Nat.{ℕ, zero, suc, ◌*◌, ◌≤◌, ◌<◌}
@@ -14,7 +14,8 @@ use Rattle.text.specs.Records.{line_bytes}
 use Rattle.text.specs.RecordLaws.{kind-long}
 use Rattle.text.specs.Lines.{refused_line}
 use Rattle.text_lines.proofs.LineKinds.{numbers-long}
-use Rattle.block_rebuild.specs.declared.Rebuilt.{Rebuilt}
+use Rattle.answers.specs.Answers.{refusal_at}
+use Rattle.block_rebuild.specs.declared.Failure.{Failure}
 use Rattle.block_rebuild.specs.Rebuild.{blocks_refusal, rebuild_refusal, refused_rebuild, rebuild_of, outcome_rebuilt}
 use Rattle.block_rebuild.proofs.RebuildLaws.{blocks-other, blocks-many, rebuild-refused}
 use Rattle.block_input.specs.declared.ShapeLine.{ShapeLine}
@@ -82,7 +83,8 @@ module _ (m w c size : ℕ) (marks : List ℕ) where
   large-refusal lent l = rw (← large lent l)
 
   large-out : (blocks : List ℕ) → 65536 < length blocks
-      → blocks_out m w c marks size blocks ≡ rebuilt_output (outcome_rebuilt (refused_rebuild (marks_refusal_in byte_limits m w c marks or_else 27) blocks marks))
+      → blocks_out m w c marks size blocks
+      ≡ rebuilt_output (outcome_rebuilt (refused_rebuild (marks_refusal_in byte_limits m w c marks or_else 27) blocks marks))
       blocks
   unfolding blocks_out
   large-out blocks l =
@@ -99,12 +101,13 @@ module _ (m w c size : ℕ) (marks : List ℕ) where
     | yes h ↦ ap (blocks_out m w c marks size) (take_all k blocks h)
     | no h ↦
         (let e = length-take-le k blocks (omega arith) in
-        large-out (take k blocks) (omega arith) ∙ alike (marks_refusal_in byte_limits m w c marks) (take k blocks) blocks ∙ sym (large-out blocks (omega arith)))
+        large-out (take k blocks) (omega arith) ∙ alike (marks_refusal_in byte_limits m w c marks) (take k blocks) blocks
+        ∙ sym (large-out blocks (omega arith)))
   ]
     where
       which : (b : Bool) (r : ℕ) (xs ys : List ℕ)
-          → rebuilt_output (cond b (Rebuilt.Contradictory 0 0) (Rebuilt.Refused r)) xs
-          ≡ rebuilt_output (cond b (Rebuilt.Contradictory 0 0) (Rebuilt.Refused r)) ys
+          → rebuilt_output (cond b (Err (Failure.Contradictory 0 0)) (Err (Failure.Refused (refusal_at r 0)))) xs
+          ≡ rebuilt_output (cond b (Err (Failure.Contradictory 0 0)) (Err (Failure.Refused (refusal_at r 0)))) ys
       which true r xs ys = refl
       which false r xs ys = refl
 
@@ -148,14 +151,14 @@ pub answered-is : (input : List ℕ) → output_for input ≡ output_of input
 unfolding verdict_of held_of output_of
 answered-is input = go (head_refusal true input) (outcome_rebuilt (input_outcome input))
   where
-    go : (r : ℕ) (b : Rebuilt)
+    go : (r : ℕ) (b : Result Unit Failure)
         → verdict_output (verdict_unless r (rebuilt_verdict (start_of input) b))
         (unless_refused r (take (start_of input) input ++ (input_outcome input).blocks) input)
         ≡ output_unless r (rebuilt_output b (input_outcome input).blocks)
-    go zero Rebuilt.Done = drop_at (take (start_of input) input) (input_outcome input).blocks (start_of input)
+    go zero (Ok done) = drop_at (take (start_of input) input) (input_outcome input).blocks (start_of input)
         (length-take-le (start_of input) input (omega arith))
-    go zero (Rebuilt.Contradictory x g) = refl
-    go zero (Rebuilt.Refused r) = refl
+    go zero (Err (Failure.Contradictory x g)) = refl
+    go zero (Err (Failure.Refused e)) = refl
     go (suc r) b = refl
 
 -- ---- a whole run

@@ -3,16 +3,23 @@
 #![tactic(auto)]
 
 ghost use Rattle.std.specs.Prelude.{◌≡◌, true, false, cond, ◌||◌, ◌+◌, ◌≤◌, ◌<◌, ltb, length, take, drop};
+ghost use Rattle.answers.specs.Answers.{refused_number};
+ghost use Rattle.code.specs.Refusals.{◌or_else◌};
 ghost use Rattle.text.specs.Records.{line_bytes};
 ghost use Rattle.text_lines.specs.Holds.{HoldsLine};
+ghost use Rattle.block_input.specs.declared.InputFailure.TheVariants.{Blocks};
 ghost use Rattle.block_input.specs.Lines.{until_line_feed, next_start};
 ghost use Rattle.block_input.specs.Length.{length_of};
 ghost use Rattle.block_input.specs.Head.{shape_line_of, marks_line_refusal, head_refusal, later_line, line_refused};
 ghost use Rattle.block_input.specs.Parts.{ReadMarks, ReadsLength, ReadsMarks, ReadsHead};
 ghost use Rattle.block_input.specs.Output.{verdict_of, held_of};
 
-use block_rebuild::Rebuilt;
+use answers::Refusal;
+use block_rebuild::Failure;
+use shape::Bytes;
 use text_lines::Line;
+
+// The refusal stands beside the values, in no `Result`: `shape_line_of`, `ReadsLength` and `ReadsHead` (specs) say the values of refused lines too.
 
 // The shape of a shape line, and its refusal, 0 for none.
 #[derive(Clone, Copy)]
@@ -62,12 +69,36 @@ pub struct Head {
     pub start: usize,
 }
 
-// What becomes of an input: its blocks are mended and stand from a place on, or the refusal.
-#[derive(Clone, Copy)]
-pub enum Verdict {
-    Mended(usize),
-    Contradictory { word: usize, group: u8 },
-    Refused(u8),
+// Why the blocks of an input are not mended: one of its lines is refused, by its number (14 is no `Refusal`), or the blocks are.
+#[derive(Clone, Copy, Debug, PartialEq, Eq)]
+pub enum InputFailure {
+    Line(u8),
+    Blocks(Failure),
+}
+
+impl From<Failure> for InputFailure {
+    ghost from_gives = { λ failure unmended. unmended ≡ Blocks failure };
+
+    fn from(failure: Failure) -> InputFailure {
+        InputFailure::Blocks(failure)
+    }
+}
+
+// The number of a refusal, 0 for none. A line that cannot be read is 14 here, which no answer is, so the lines keep numbers.
+fn number(answer: Result<(), Refusal>) -> u8
+    ensures { result ≡ refused_number answer }
+{
+    match answer {
+        Ok(()) => 0,
+        Err(e) => e.number(),
+    }
+}
+
+// The first of two refusals, 0 being none.
+fn or_else(first: u8, second: u8) -> u8
+    ensures { result ≡ first or_else second }
+{
+    if first != 0 { first } else { second }
 }
 
 // The length of the first line.
@@ -88,34 +119,31 @@ fn next_start(end: usize, size: usize) -> usize
 fn is_settled(ended: bool, end: usize, size: usize) -> bool
     ensures { result ≡ (ended || (ltb end size || ltb 1024 size)) }
 {
-    if ended {
-        return true;
-    }
-    if end < size {
-        return true;
-    }
-    1024 < size
+    ended || end < size || 1024 < size
 }
 
 // Reads a shape line.
 fn read_shape(line: &[u8]) -> ShapeLine
     ensures { result ≡ shape_line_of line.now }
 {
-    let record = text_lines::parse(line);
-    if record.kind != 1 {
-        return ShapeLine {
-            refusal: 14,
-            m: 0,
-            w: 0,
-            c: 0,
-        };
-    }
+    let unread = ShapeLine {
+        refusal: 14,
+        m: 0,
+        w: 0,
+        c: 0,
+    };
+    let Some(record) = text_lines::parse(line) else {
+        return unread;
+    };
+    let text_lines::Kind::Shape = record.kind else {
+        return unread;
+    };
     let bytes = record.bytes;
     let m = bytes[0] as usize;
     let w = bytes[1] as usize;
     let c = bytes[2] as usize;
     ShapeLine {
-        refusal: shape::shape_refusal(m, w, c),
+        refusal: number(shape::shape_refusal::<Bytes>(m, w, c)),
         m,
         w,
         c,
@@ -126,18 +154,17 @@ fn read_shape(line: &[u8]) -> ShapeLine
 fn read_marks(line: &[u8], m: usize, w: usize, c: usize) -> MarksLine
     ensures { ReadMarks line.now m w c result }
 {
-    let numbers = text_lines::read_numbers(line, b"marks");
-    let marks = numbers.bytes;
-    let count = numbers.count;
-    if !numbers.read {
+    let Some(numbers) = text_lines::read_numbers(line, b"marks") else {
         return MarksLine {
             refusal: 14,
             count: 0,
-            marks,
+            marks: [0; 1024],
         };
-    }
+    };
+    let marks = numbers.bytes;
+    let count = numbers.count;
     MarksLine {
-        refusal: marks::marks_refusal(m, w, c, &marks[..count]),
+        refusal: number(marks::marks_refusal::<Bytes>(m, w, c, &marks[..count])),
         count,
         marks,
     }
@@ -150,13 +177,10 @@ fn read_length(line: &[u8]) -> usize
     if 1024 < line.len() {
         return 65538;
     }
-    if line.len() < 7 {
-        return 65538;
+    match line.strip_prefix(b"length\t") {
+        Some(number) => text::number(number, 65537),
+        None => 65538,
     }
-    if !text::is_same(&line[..7], b"length\t") {
-        return 65538;
-    }
-    text::number(&line[7..], 65537)
 }
 
 // A refusal where it applies, else 0.
@@ -191,7 +215,7 @@ fn read_marks_part(ended: bool, rest: &[u8], m: usize, w: usize, c: usize) -> Ma
     let start = next_start(end, rest.len());
     let after = read_length_part(ended, &rest[start..]);
     let settled = is_settled(ended, end, rest.len());
-    let refusal = answers::or_else(line.refusal, after.refusal);
+    let refusal = or_else(line.refusal, after.refusal);
     let marks = line.marks;
     MarksPart {
         refusal: refusal_if(settled, refusal),
@@ -211,7 +235,7 @@ fn read_head(ended: bool, input: &[u8]) -> Head
     let start = next_start(end, input.len());
     let after = read_marks_part(ended, &input[start..], line.m, line.w, line.c);
     let settled = is_settled(ended, end, input.len());
-    let refusal = answers::or_else(line.refusal, after.refusal);
+    let refusal = or_else(line.refusal, after.refusal);
     let marks = after.marks;
     Head {
         refusal: refusal_if(settled, refusal),
@@ -255,29 +279,26 @@ pub fn line_refused(input: &[u8]) -> u8
     later_line(&input[start..], line.m, line.w, line.c)
 }
 
-// The verdict on a whole input; its blocks are mended in place.
-pub fn answer(input: &mut [u8]) -> Verdict
+// The verdict on a whole input: where its blocks start, which are mended in place.
+pub fn answer(input: &mut [u8]) -> Result<usize, InputFailure>
     ensures verdict { result ≡ verdict_of input.old }
     ensures input { input.new ≡ held_of input.old }
 {
     let head = read_head(true, input);
     let refusal = head.refusal;
     if refusal != 0 {
-        return Verdict::Refused(refusal);
+        return Err(InputFailure::Line(refusal));
     }
     let mut marks = head.marks;
     let count = head.count;
     let start = head.start;
-    match block_rebuild::rebuild(
+    block_rebuild::rebuild(
         head.m,
         head.w,
         head.c,
         head.size,
         &mut input[start..],
         &mut marks[..count],
-    ) {
-        Rebuilt::Done => Verdict::Mended(start),
-        Rebuilt::Contradictory { word, group } => Verdict::Contradictory { word, group },
-        Rebuilt::Refused(r) => Verdict::Refused(r),
-    }
+    )?;
+    Ok(start)
 }

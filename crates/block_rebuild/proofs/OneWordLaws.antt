@@ -28,7 +28,8 @@ use Rattle.block_rebuild.proofs.CasesLaws.{before, nine, done, ends, recovers, r
 use Rattle.block_rebuild.proofs.CasesLaws as Cases
 
 -- a word of n bytes is refused only by its shape and marks
-same-refusal : (m w c : ℕ) (word marks : List ℕ) → length word ≡ m * w → recover_refusal_in byte_limits m w c word marks ≡ marks_refusal_in byte_limits m w c marks
+same-refusal : (m w c : ℕ) (word marks : List ℕ) → length word ≡ m * w
+    → recover_refusal_in byte_limits m w c word marks ≡ marks_refusal_in byte_limits m w c marks
 unfolding recover_refusal_in marks_refusal_in word_refusal_in
 same-refusal m w c word marks e = rw (eq-eqb (length word) (m * w) e) (go (shape_refusal_in byte_limits m w c) _ _)
   where
@@ -67,7 +68,8 @@ module _ (m w c : ℕ) (blocks marks : List ℕ) (long : length blocks ≡ place
         eight-of : (r : ℕ) → r ≡ judged_number_in byte_limits m w c marks → (r ≡ 0 → ⊥) → r ≡ 8
         eight-of r j n = ⊎_elim (λ z. absurd (n (j ∙ z))) (λ z. j ∙ z) (judged-two m w c marks marked)
 
-  refused-alike : (r : ℕ) → r ≡ rebuild_refusal m w c 1 (length blocks) marks → (r ≡ 0 → ⊥) → recover_in byte_edition m w c blocks marks ≡ refused r blocks marks
+  refused-alike : (r : ℕ) → r ≡ rebuild_refusal m w c 1 (length blocks) marks → (r ≡ 0 → ⊥)
+      → recover_in byte_edition m w c blocks marks ≡ refused r blocks marks
   unfolding rebuild_refusal
   refused-alike r e n = elim (ℕ_discrete (marks_refusal_in byte_limits m w c marks) 0) [
     | yes z ↦ refused-by-judge z r e n
@@ -101,7 +103,8 @@ module _ (m w c : ℕ) (blocks marks : List ℕ) (long : length blocks ≡ place
         | Cases.done y _ d ↦ absurd (let v : ◌≡◌ {A = ℕ} 0 9 = sym (ap (λ (o : Outcome). o.number) d) ∙ k in omega arith)
       ]
 
-      rebuilt : (z : rebuild_refusal m w c 1 (length blocks) marks ≡ 0) → rebuilt_blocks m w c 1 blocks marks ≡ (recover_in byte_edition m w c blocks marks).word
+      rebuilt : (z : rebuild_refusal m w c 1 (length blocks) marks ≡ 0)
+          → rebuilt_blocks m w c 1 blocks marks ≡ (recover_in byte_edition m w c blocks marks).word
       rebuilt z =
           sym (single (place_count m w) (rebuilt_blocks m w c 1 blocks marks) (rebuilt-size m w c 1 blocks marks z ∙ long))
           ∙ rebuilt-at m w c 1 blocks marks z 0 (omega arith) ∙ ap (λ (o : Outcome). o.word) the_word

@@ -1,23 +1,27 @@
 -- Laws: Request 9, block rebuild: what it answers, and what blocks and marks hold then.
-use Rattle.std.specs.Prelude.{◌≡◌, refl, Bool, true, false, cond, not, ◌||◌, List, eqb, ltb, length}
+use Rattle.std.specs.Prelude.{◌≡◌, refl, Bool, true, false, cond, not, ◌||◌, List, eqb, ltb, length, Result, Err}
 use Rattle.std.proofs.Math.Path.{sym, ap}
 use Rattle.std.proofs.Common.{◌∙◌, mul-le-mul_right, one-mul}
 use Prim.Native.Nat.{ℕ, zero, suc, ◌*◌, ◌≤◌, ◌<◌}
 use native.Mathlib.Omega.{arith}
 use borrow.Author.Tests.{eq-eqb, ne_eqb, lt-ltb, le-ltb, eqb-true, ltb-false, eqb-false, not-false}
+use Rattle.std.specs.Result.{IsErr, IsErrAnd}
+use Rattle.std.proofs.lemmas.Result.{err_from_is_err_and}
 use Rattle.counting.specs.First.{first_below}
 use Rattle.counting.specs.FirstLaws.{first-is, first-none}
-use Rattle.code.specs.Refusals.{refuse, ◌or_else◌}
+use Rattle.code.specs.Refusals.{refuse}
 use Rattle.code.specs.RefusalsLaws.{refuse-zero, or_else-zero, or_else-first}
 use Rattle.shape.specs.Shapes.{byte_limits}
 use Rattle.code.specs.Limits.{place_count}
 use Rattle.code.specs.LimitsLaws.{places-most}
-use Rattle.marks.specs.NumbersLaws.{marks-most}
 use Rattle.code_services.specs.MarksLaws.{good-of-marks}
-use Rattle.code.specs.Marks.{excess}
 use Rattle.code_services.specs.Marks.{marks_refusal_in}
 use Rattle.code_services.specs.Judge.{judged_number_in}
-use Rattle.block_rebuild.specs.declared.Rebuilt.{Rebuilt}
+use Rattle.answers.specs.declared.Refusal.{Refusal}
+use Rattle.answers.specs.Answers.{refusal_number, refusal_at, Plain}
+use Rattle.answers.specs.AnswersLaws.{refusal-at, refusal-no-group, refusal-some, plain-refuse, plain-else}
+use Rattle.code_services.specs.PlainLaws.{marks-plain, judged-plain}
+use Rattle.block_rebuild.specs.declared.Failure.{Failure}
 use Rattle.block_rebuild.specs.Rebuild.{blocks_refusal, rebuild_refusal, RebuildOutcome, refused_rebuild, contradictory_rebuild, done_rebuild}
 use Rattle.block_rebuild.specs.Rebuild.{rebuild_unless, word_outcome, contradicting_word, rebuilt_blocks, words_outcome, rebuild_of, rebuilt_at}
 use Rattle.block_rebuild.specs.Steps.{Lent}
@@ -111,30 +115,38 @@ lent_of m w c size blocks marks z =
     (record { good = M.good; marks-size = M.size; some = f.1; blocks-size = f.0; most = let e = f.0 in let l = f.2 in omega arith }, b.1)
 
 -- ---- the whole call
-pub rebuilt-refused : (r : ℕ) → (r ≡ 0 → ⊥) → (r ≡ 9 → ⊥) → rebuilt_at r 0 0 ≡ Rebuilt.Refused r
+pub rebuilt-refused : (r : ℕ) → (r ≡ 0 → ⊥) → (r ≡ 9 → ⊥) → rebuilt_at r 0 0 ≡ Err (Failure.Refused (refusal_at r 0))
 rebuilt-refused zero n k = absurd (n refl)
-rebuilt-refused (suc r) n k = ap (λ b. cond b (Rebuilt.Contradictory 0 0) (Rebuilt.Refused (suc r))) (ne_eqb (suc r) 9 k)
+rebuilt-refused (suc r) n k = ap (λ b. cond b (Err (Failure.Contradictory 0 0)) (Err (Failure.Refused (refusal_at (suc r) 0)))) (ne_eqb (suc r) 9 k)
 
--- the refusals before the words are looked at are never 9
+-- a refusal by its number
+pub refusal-is : (e : Refusal) (r : ℕ) → refusal_number e ≡ r → (r ≡ 9 → ⊥) → refusal_at r 0 ≡ e
+refusal-is e r is n =
+    ap (λ k. refusal_at k 0) (sym is) ∙ ap (refusal_at (refusal_number e)) (sym (refusal-no-group e (λ z. n (sym is ∙ z)))) ∙ refusal-at e
+
+-- the refusals before the words are looked at are refusals without a group
+pub rebuild-plain : (m w c size lent : ℕ) (marks : List ℕ) → Plain (rebuild_refusal m w c size lent marks)
+unfolding rebuild_refusal blocks_refusal
+rebuild-plain m w c size lent marks =
+    plain-else (marks_refusal_in byte_limits m w c marks) _ (marks-plain byte_limits m w c marks)
+    (plain-else (blocks_refusal (place_count m w) size lent) _
+    (plain-refuse 27 (not (eqb lent (m * w * size)) || eqb size 0 || ltb 65536 (m * w * size)) (refl, λ z. omega arith))
+    (judged-plain byte_limits m w c marks))
+
+-- and so never 9
 pub refusal-never-nine : (m w c size lent : ℕ) (marks : List ℕ) → rebuild_refusal m w c size lent marks ≡ 9 → ⊥
-unfolding rebuild_refusal blocks_refusal judged_number_in
-refusal-never-nine m w c size lent marks e =
-    first (marks_refusal_in byte_limits m w c marks) (marks-most m w c marks) _
-    (second (not (eqb lent (m * w * size)) || eqb size 0 || ltb 65536 (m * w * size)) _
-    (third (marks_refusal_in byte_limits m w c marks) (marks-most m w c marks) (ltb 2 (excess m w c marks)))) e
-  where
-    third : (r : ℕ) → r ≤ 6 → (b : Bool) → (r or_else refuse 8 b) ≡ 9 → ⊥
-    third zero l true e = omega arith
-    third zero l false e = omega arith
-    third (suc r) l b e = omega arith
+refusal-never-nine m w c size lent marks = (rebuild-plain m w c size lent marks).1
 
-    second : (b : Bool) (s : ℕ) → (s ≡ 9 → ⊥) → (refuse 27 b or_else s) ≡ 9 → ⊥
-    second true s n e = omega arith
-    second false s n e = n e
+-- what the exit of a `?` returns: the refusal of the call
+pub passed-on : {e : Refusal} {r : Result Unit Failure} → IsErr r × IsErrAnd r (λ y. y ≡ Failure.Refused e) → r ≡ Err (Failure.Refused e)
+passed-on {e} {r} E = let p = err_from_is_err_and r E.1 in p.1 ∙ ap Err p.2
 
-    first : (r : ℕ) → r ≤ 6 → (s : ℕ) → (s ≡ 9 → ⊥) → (r or_else s) ≡ 9 → ⊥
-    first zero l s n e = n e
-    first (suc r) l s n e = omega arith
+-- the answer of such a refusal
+pub refused-answer : (m w c size lent : ℕ) (marks : List ℕ) (e : Refusal) → refusal_number e ≡ rebuild_refusal m w c size lent marks
+    → Err (Failure.Refused e) ≡ rebuilt_at (refusal_number e) 0 0
+refused-answer m w c size lent marks e is =
+    let n : refusal_number e ≡ 9 → ⊥ = λ z. refusal-never-nine m w c size lent marks (sym is ∙ z) in
+    ap (λ x. Err (Failure.Refused x)) (sym (refusal-is e (refusal_number e) refl n)) ∙ sym (rebuilt-refused (refusal_number e) (refusal-some e) n)
 
 module _ (m w c size : ℕ) (blocks marks : List ℕ) where
   pub rebuild-refused : (r : ℕ) → r ≡ rebuild_refusal m w c size (length blocks) marks → (r ≡ 0 → ⊥) → rebuild_of m w c size blocks marks

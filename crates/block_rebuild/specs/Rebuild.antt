@@ -1,5 +1,5 @@
 -- Request 9, block rebuild: what it answers, and what blocks and marks hold then.
-use Rattle.std.specs.Prelude.{cond, not, ◌||◌, List, ℕ, zero, suc, ◌*◌, eqb, ltb, length, replicate}
+use Rattle.std.specs.Prelude.{cond, not, ◌||◌, List, ℕ, zero, suc, ◌*◌, eqb, ltb, length, replicate, Result, Ok, Err}
 use Rattle.counting.specs.First.{first_below}
 use Rattle.code.specs.Refusals.{refuse, ◌or_else◌}
 use Rattle.shape.specs.Shapes.{byte_limits}
@@ -9,7 +9,8 @@ use Rattle.byte_edition.specs.Edition.{byte_edition}
 use Rattle.code_services.specs.Marks.{marks_refusal_in}
 use Rattle.code_services.specs.Judge.{judged_number_in}
 use Rattle.code_services.specs.Recover.{recover_in}
-use Rattle.block_rebuild.specs.declared.Rebuilt.{Rebuilt}
+use Rattle.answers.specs.Answers.{refusal_number, refusal_at}
+use Rattle.block_rebuild.specs.declared.Failure.{Failure}
 use Rattle.block_rebuild.specs.Columns.{block_word, blocks_of}
 
 -- 27: "length is not n·L with those bounds": the bytes lent are not n·L, L is 0 or n·L above 65,536
@@ -71,28 +72,28 @@ module _ (m w c size : ℕ) (blocks marks : List ℕ) where
   rebuild_of = rebuild_unless (rebuild_refusal m w c size (length blocks) marks) words_outcome blocks marks
 
 -- the answer with its figures, by the number, the word and the group
-abbrev pub rebuilt_at : ℕ → ℕ → ℕ → Rebuilt
-rebuilt_at zero x group = Rebuilt.Done
-rebuilt_at (suc r) x group = cond (eqb (suc r) 9) (Rebuilt.Contradictory x group) (Rebuilt.Refused (suc r))
+abbrev pub rebuilt_at : ℕ → ℕ → ℕ → Result Unit Failure
+rebuilt_at zero x group = Ok tt
+rebuilt_at (suc r) x group = cond (eqb (suc r) 9) (Err (Failure.Contradictory x group)) (Err (Failure.Refused (refusal_at (suc r) 0)))
 
 -- the number given back, 0 for done
-abbrev pub rebuilt_number : Rebuilt → ℕ
-rebuilt_number Rebuilt.Done = 0
-rebuilt_number (Rebuilt.Contradictory x group) = 9
-rebuilt_number (Rebuilt.Refused r) = r
+abbrev pub rebuilt_number : Result Unit Failure → ℕ
+rebuilt_number (Ok done) = 0
+rebuilt_number (Err (Failure.Contradictory x group)) = 9
+rebuilt_number (Err (Failure.Refused e)) = refusal_number e
 
 -- the word that a 9 carries; 0 with any other number
-abbrev pub rebuilt_word : Rebuilt → ℕ
-rebuilt_word Rebuilt.Done = 0
-rebuilt_word (Rebuilt.Contradictory x group) = x
-rebuilt_word (Rebuilt.Refused r) = 0
+abbrev pub rebuilt_word : Result Unit Failure → ℕ
+rebuilt_word (Ok done) = 0
+rebuilt_word (Err (Failure.Contradictory x group)) = x
+rebuilt_word (Err (Failure.Refused e)) = 0
 
 -- the group that a 9 carries; 0 with any other number
-abbrev pub rebuilt_group : Rebuilt → ℕ
-rebuilt_group Rebuilt.Done = 0
-rebuilt_group (Rebuilt.Contradictory x group) = group
-rebuilt_group (Rebuilt.Refused r) = 0
+abbrev pub rebuilt_group : Result Unit Failure → ℕ
+rebuilt_group (Ok done) = 0
+rebuilt_group (Err (Failure.Contradictory x group)) = group
+rebuilt_group (Err (Failure.Refused e)) = 0
 
 -- the answer of an outcome
-abbrev pub outcome_rebuilt : RebuildOutcome → Rebuilt
+abbrev pub outcome_rebuilt : RebuildOutcome → Result Unit Failure
 outcome_rebuilt o = rebuilt_at o.number o.word o.group

@@ -3,59 +3,70 @@
 #![tactic(auto)]
 
 ghost use Rattle.std.specs.Prelude.{◌≡◌, ◌*◌, ◌≤◌, ◌<◌, length};
-ghost use Rattle.answers.specs.Answers.{mending_at};
+ghost use Rattle.answers.specs.Answers.{refused_number, mending_at};
 ghost use Rattle.code.specs.Limits.{place_count};
 ghost use Rattle.byte_edition.specs.Edition.{byte_edition};
 ghost use Rattle.code_services.specs.Recover.{recover_in};
+ghost use Rattle.block_rebuild.specs.declared.Failure.TheVariants.{Refused};
 ghost use Rattle.block_rebuild.specs.Columns.{block_word};
 ghost use Rattle.block_rebuild.specs.Rebuild.{blocks_refusal, rebuild_refusal, word_outcome, rebuild_of, outcome_rebuilt};
 ghost use Rattle.block_rebuild.specs.Rebuild.{rebuilt_number, rebuilt_word, rebuilt_group};
 ghost use Rattle.block_rebuild.specs.Steps.{Room};
 
-use answers::{Judged, Mending};
+use answers::Refusal;
+use shape::Bytes;
 
-// The answer of a rebuild: done, contradictory with the lowest word that contradicts and its group, or the number of another refusal.
-#[derive(Clone, Copy)]
-pub enum Rebuilt {
-    Done,
+// Why a rebuild is not done: a word contradicts, the lowest that does and its group, or another refusal.
+#[derive(Clone, Copy, Debug, PartialEq, Eq)]
+pub enum Failure {
     Contradictory { word: usize, group: u8 },
-    Refused(u8),
+    Refused(Refusal),
 }
 
-// 27 if n blocks of this length are not the bytes lent, or are none or too many; else 0.
-fn blocks_refusal(n: usize, size: usize, lent: usize) -> u8
+impl From<Refusal> for Failure {
+    ghost from_gives = { λ refusal failure. failure ≡ Refused refusal };
+
+    fn from(refusal: Refusal) -> Failure {
+        Failure::Refused(refusal)
+    }
+}
+
+// Refuses n blocks of this length as 27 if they are not the bytes lent, or are none or too many.
+fn blocks_refusal(n: usize, size: usize, lent: usize) -> Result<(), Refusal>
     requires { (1 ≤ n) × (n ≤ 240) }
-    ensures { result ≡ blocks_refusal n size lent }
+    ensures { refused_number result ≡ blocks_refusal n size lent }
 {
     if size == 0 {
-        return 27;
+        return Err(Refusal::BlocksLength);
     }
     if 65536 < size {
-        return 27;
+        return Err(Refusal::BlocksLength);
     }
     let all = n * size;
     if 65536 < all {
-        return 27;
+        return Err(Refusal::BlocksLength);
     }
-    if lent == all { 0 } else { 27 }
+    if lent == all {
+        Ok(())
+    } else {
+        Err(Refusal::BlocksLength)
+    }
 }
 
-// The refusal of a call, 1 to 6, 27, then 8; 0 if there is none.
-fn refusal(m: usize, w: usize, c: usize, size: usize, lent: usize, marks: &[u8]) -> u8
-    ensures { result ≡ rebuild_refusal m w c size lent marks.now }
+// Refuses a call, as 1 to 6, 27, then 8.
+fn refusal(
+    m: usize,
+    w: usize,
+    c: usize,
+    size: usize,
+    lent: usize,
+    marks: &[u8],
+) -> Result<(), Refusal>
+    ensures { refused_number result ≡ rebuild_refusal m w c size lent marks.now }
 {
-    let r = marks::marks_refusal(m, w, c, marks);
-    if r != 0 {
-        return r;
-    }
-    let s = blocks_refusal(marks.len(), size, lent);
-    if s != 0 {
-        return s;
-    }
-    match judge::judge(m, w, c, marks) {
-        Judged::Determined => 0,
-        Judged::Refused(r) => r,
-    }
+    marks::marks_refusal::<Bytes>(m, w, c, marks)?;
+    blocks_refusal(marks.len(), size, lent)?;
+    judge::judge::<Bytes>(m, w, c, marks)
 }
 
 // Copies word x of the blocks.
@@ -63,11 +74,8 @@ fn gather(blocks: &[u8], size: usize, x: usize, word: &mut [u8])
     requires { (x < size) × (length word.old * size ≡ length blocks.now) × (length blocks.now ≤ 65536) }
     ensures { word.new ≡ block_word (length word.old) size blocks.now x }
 {
-    let mut p: usize = 0;
-    while p < word.len() {
-        let from = p * size + x;
-        word[p] = blocks[from];
-        p += 1;
+    for (p, byte) in word.iter_mut().enumerate() {
+        *byte = blocks[p * size + x];
     }
 }
 
@@ -79,12 +87,12 @@ fn recover_by(
     word: &mut [u8],
     marks: &[u8],
     lost: &mut [u8],
-) -> Mending
+) -> Result<(), Refusal>
     requires { length lost.old ≡ length marks.now }
     ensures value { result ≡ mending_at (recover_in byte_edition m w c word.old marks.now).number (recover_in byte_edition m w c word.old marks.now).group }
     ensures word_after { word.new ≡ (recover_in byte_edition m w c word.old marks.now).word }
 {
-    buffers::copy(marks, lost);
+    buffers::copy_from_slice(lost, marks);
     recover::recover(m, w, c, word, lost)
 }
 
@@ -98,7 +106,7 @@ fn recover_word(
     blocks: &[u8],
     marks: &[u8],
     word: &mut [u8],
-) -> Mending
+) -> Result<(), Refusal>
     requires room { Room m w c size x blocks.now marks.now }
     requires word_len { length word.old ≡ place_count m w }
     ensures value { result ≡ mending_at (word_outcome m w c size blocks.now marks.now x).number (word_outcome m w c size blocks.now marks.now x).group }
@@ -118,11 +126,10 @@ fn group_at(m: usize, w: usize, c: usize, size: usize, x: usize, blocks: &[u8], 
 {
     let n = marks.len();
     let mut word = [0u8; 240];
-    let answer = recover_word(m, w, c, size, x, blocks, marks, &mut word[..n]);
-    if let Mending::Contradictory(g) = answer {
-        return g;
+    match recover_word(m, w, c, size, x, blocks, marks, &mut word[..n]).unwrap_err() {
+        Refusal::Contradictory(group) => group,
+        _ => unreachable!(),
     }
-    0
 }
 
 // Recovers all words of the blocks and clears the marks, or refuses and changes nothing.
@@ -133,7 +140,7 @@ pub fn rebuild(
     size: usize,
     blocks: &mut [u8],
     marks: &mut [u8],
-) -> Rebuilt
+) -> Result<(), Failure>
     ensures answer { result ≡ outcome_rebuilt (rebuild_of m w c size blocks.old marks.old) }
     ensures blocks { blocks.new ≡ (rebuild_of m w c size blocks.old marks.old).blocks }
     ensures marks { marks.new ≡ (rebuild_of m w c size blocks.old marks.old).marks }
@@ -141,15 +148,12 @@ pub fn rebuild(
     ensures word { rebuilt_word result ≡ (rebuild_of m w c size blocks.old marks.old).word }
     ensures group { rebuilt_group result ≡ (rebuild_of m w c size blocks.old marks.old).group }
 {
-    let r = refusal(m, w, c, size, blocks.len(), marks);
-    if r != 0 {
-        return Rebuilt::Refused(r);
-    }
+    refusal(m, w, c, size, blocks.len(), marks)?;
     let x = block_engine::mend(m, w, c, size, blocks, marks);
     if x < size {
         let group = group_at(m, w, c, size, x, blocks, marks);
-        return Rebuilt::Contradictory { word: x, group };
+        return Err(Failure::Contradictory { word: x, group });
     }
-    buffers::clear_if(true, marks);
-    Rebuilt::Done
+    marks.fill(0);
+    Ok(())
 }

@@ -24,19 +24,28 @@ fn unit(j: usize) -> [u8; 16]
     e
 }
 
+// The coefficient of place j in the first sum across for c = i + 1.
+fn first_coefficient(i: usize, j: usize) -> u8
+    requires { (i < 4) × (j < 16) }
+    ensures { result ≡ coefficient byte_edition (suc i) j }
+{
+    byte_edition::first_sum(&unit(j), i)
+}
+
 // The coefficients of the first sum across for c = i + 1.
 pub fn first_row(i: usize) -> [u8; 16]
     requires { i < 4 }
     ensures { (j : ℕ) → j < 16 → get_or result j 0 ≡ coefficient byte_edition (suc i) j }
 {
-    let mut r = [0u8; 16];
-    let mut j: usize = 0;
-    while j < 16 {
-        let e = unit(j);
-        r[j] = byte_edition::first_sum(&e, i);
-        j += 1;
-    }
-    r
+    std::array::from_fn(|j| first_coefficient(i, j))
+}
+
+// The coefficient of place j in the second sum across for c = i + 1, without the group's factor.
+fn second_coefficient(i: usize, j: usize) -> u8
+    requires { (i < 4) × (j < 16) }
+    ensures { result ≡ raised byte_edition (coefficient byte_edition (suc i) j) 16 }
+{
+    byte_edition::second_sum(&unit(j), i)
 }
 
 // The coefficients of the second sum across for c = i + 1, without the group's factor.
@@ -44,14 +53,7 @@ pub fn second_row(i: usize) -> [u8; 16]
     requires { i < 4 }
     ensures { (j : ℕ) → j < 16 → get_or result j 0 ≡ raised byte_edition (coefficient byte_edition (suc i) j) 16 }
 {
-    let mut r = [0u8; 16];
-    let mut j: usize = 0;
-    while j < 16 {
-        let e = unit(j);
-        r[j] = byte_edition::second_sum(&e, i);
-        j += 1;
-    }
-    r
+    std::array::from_fn(|j| second_coefficient(i, j))
 }
 
 // The equations of group g, reduced at its bound places.
@@ -71,14 +73,8 @@ fn pack_row(row: [u8; 16], bound: &[u8], out: &mut [u8])
     ensures out_len_unchanged { length out.new ≡ length out.old }
     ensures by_index { (j : ℕ) → j < length bound.now → get_or out.new j 0 ≡ masked bound.now (λ i. get_or row i 0) j }
 {
-    let mut j: usize = 0;
-    while j < bound.len() {
-        if bound[j] == 1 {
-            out[j] = 0;
-        } else {
-            out[j] = row[j];
-        }
-        j += 1;
+    for (j, x) in out.iter_mut().enumerate() {
+        *x = if bound[j] == 1 { 0 } else { row[j] };
     }
 }
 
@@ -89,13 +85,9 @@ fn pack(rows: [[u8; 16]; 6], bound: &[u8], out: &mut [u8])
     ensures by_index { (r : ℕ) → r < 4 → (j : ℕ) → j < length bound.now → get_or out.new (r * length bound.now + j) 0 ≡ masked bound.now (entry rows r) j }
 {
     let w = bound.len();
-    let mut r: usize = 0;
-    while r < 4 {
-        let row = rows[r];
+    for r in 0..4 {
         let a = r * w;
-        let e = a + w;
-        pack_row(row, bound, &mut out[a..e]);
-        r += 1;
+        pack_row(rows[r], bound, &mut out[a..a + w]);
     }
 }
 
@@ -120,11 +112,9 @@ fn put_group(
     let rows = group_rows(c, g, bound, first, second);
     pack(rows, bound, kept);
     let a = g * w;
-    let e = a + w;
-    pack_row(rows[4], bound, &mut out[a..e]);
+    pack_row(rows[4], bound, &mut out[a..a + w]);
     let b = (m + g) * w;
-    let f = b + w;
-    pack_row(rows[5], bound, &mut out[b..f]);
+    pack_row(rows[5], bound, &mut out[b..b + w]);
 }
 
 // Writes the reduced rows of every group: the first four of each to kept, the two rows across to out, with 0 at the bound places.
@@ -145,13 +135,18 @@ pub fn make_rows(
     ensures across_rows { AcrossRows m w c bound.now out.new }
 {
     let v = 4 * w;
-    let mut g: usize = 0;
-    while g < m {
+    for g in 0..m {
         let a = g * w;
-        let e = a + w;
         let b = g * v;
-        let f = b + v;
-        put_group(m, c, g, &bound[a..e], first, second, &mut kept[b..f], out);
-        g += 1;
+        put_group(
+            m,
+            c,
+            g,
+            &bound[a..a + w],
+            first,
+            second,
+            &mut kept[b..b + v],
+            out,
+        );
     }
 }

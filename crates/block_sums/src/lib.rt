@@ -14,10 +14,8 @@ fn add_rows(t: &mut [u8], a1: usize, a2: usize, b: usize)
     requires { (a1 + 96 ≤ b) × (a2 + 96 ≤ b) × (b + 96 ≤ 1536) × (length t.old ≡ 1536) }
     ensures { RowMade a1 a2 b t.old t.new }
 {
-    let mut i: usize = 0;
-    while i < 96 {
+    for i in 0..96 {
         t[b + i] = t[a1 + i] ^ t[a2 + i];
-        i += 1;
     }
 }
 
@@ -26,10 +24,8 @@ fn more_rows(t: &mut [u8], h: usize)
     requires { (h ≤ 8) × (length t.old ≡ 1536) }
     ensures { RowsMade h t.old t.new }
 {
-    let mut u: usize = 1;
-    while u < h {
+    for u in 1..h {
         add_rows(t, h * 96, u * 96, (h + u) * 96);
-        u += 1;
     }
 }
 
@@ -39,11 +35,7 @@ fn copy_part(blocks: &[u8], from: usize, n: usize, t: &mut [u8], h: usize)
     requires n_in_bounds { (from + n ≤ length blocks.now) × (h + n ≤ length t.old) }
     ensures { PartCopied from n h blocks.now t.old t.new }
 {
-    let mut i: usize = 0;
-    while i < n {
-        t[h + i] = blocks[from + i];
-        i += 1;
-    }
+    buffers::copy_from_slice(&mut t[h..h + n], &blocks[from..from + n]);
 }
 
 // Copies the first bytes of up to four blocks, from a place on, to the rows 1, 2, 4, 8.
@@ -52,13 +44,10 @@ fn load(blocks: &[u8], size: usize, at: usize, have: usize, n: usize, t: &mut [u
     requires by_index { (e : ℕ) → e < 4 → e < have → at + e * size + n ≤ length blocks.now }
     ensures { Loaded size at have n blocks.now t.old t.new }
 {
-    let few = buffers::smaller(have, 4);
-    let mut e: usize = 0;
     let mut h: usize = 96;
-    while e < few {
+    for e in 0..have.min(4) {
         copy_part(blocks, at + e * size, n, t, h);
-        h = h * 2;
-        e += 1;
+        h *= 2;
     }
 }
 
@@ -82,13 +71,17 @@ fn make_tables(blocks: &[u8], size: usize, at: usize, have: usize, n: usize, t: 
     requires tables { IsTables t.old }
     ensures { TablesMade size at have n blocks.now t.new }
 {
-    let mut s: usize = 0;
-    while s * 4 < have {
+    for s in 0..have.div_ceil(4) {
         let j = s * 4;
         let a = s * 1536;
-        let e = a + 1536;
-        make_table(blocks, size, at + j * size, have - j, n, &mut t[a..e]);
-        s += 1;
+        make_table(
+            blocks,
+            size,
+            at + j * size,
+            have - j,
+            n,
+            &mut t[a..a + 1536],
+        );
     }
 }
 
@@ -98,10 +91,8 @@ fn step(r: &mut [u8], t: &[u8], a: usize, b: usize, c: usize, d: usize)
     requires a_bound { (a ≤ 6048) × (b ≤ 6048) × (c ≤ 6048) × (d ≤ 6048) }
     ensures { Stepped t.now a b c d r.old r.new }
 {
-    let mut i: usize = 0;
-    while i < 96 {
+    for i in 0..96 {
         r[i] = gf256::double(r[i]) ^ t[a + i] ^ t[b + i] ^ t[c + i] ^ t[d + i];
-        i += 1;
     }
 }
 
@@ -122,8 +113,7 @@ fn row_sums(t: &[u8], a: u32, b: u32, c: u32, d: u32) -> [u8; 96]
     let mut q = b;
     let mut u = c;
     let mut v = d;
-    let mut n: usize = 0;
-    while n < 8 {
+    for _ in 0..8usize {
         step(
             &mut r,
             t,
@@ -132,11 +122,10 @@ fn row_sums(t: &[u8], a: u32, b: u32, c: u32, d: u32) -> [u8; 96]
             row_start(u) + 3072,
             row_start(v) + 4608,
         );
-        p = p / 16;
-        q = q / 16;
-        u = u / 16;
-        v = v / 16;
-        n += 1;
+        p /= 16;
+        q /= 16;
+        u /= 16;
+        v /= 16;
     }
     r
 }
@@ -147,10 +136,8 @@ fn add_row(t: &[u8], a: u32, b: u32, c: u32, d: u32, out: &mut [u8])
     ensures { RowAdded t.now a b c d out.old out.new }
 {
     let r = row_sums(t, a, b, c, d);
-    let mut i: usize = 0;
-    while i < 96 {
-        out[i] = out[i] ^ r[i];
-        i += 1;
+    for (i, x) in out.iter_mut().enumerate() {
+        *x ^= r[i];
     }
 }
 
@@ -160,20 +147,17 @@ fn add_every_row(t: &[u8], found: &[u32], q: usize, rows: usize, sums: &mut [u8]
     requires q_bound { (q ≤ 56) × (rows ≤ 4) }
     ensures { RowsAdded t.now found.now q rows sums.old sums.new }
 {
-    let mut r: usize = 0;
-    while r < rows {
+    for r in 0..rows {
         let s = r * 60 + q;
         let a = r * 96;
-        let e = a + 96;
         add_row(
             t,
             found[s],
             found[s + 1],
             found[s + 2],
             found[s + 3],
-            &mut sums[a..e],
+            &mut sums[a..a + 96],
         );
-        r += 1;
     }
 }
 
@@ -196,13 +180,12 @@ fn strip_sums(
     ensures t_len { (length t.new ≡ 6144) × IsTables t.new × (length sums.new ≡ 384) }
     ensures by_index { (constants : List ℕ) → rows * count ≤ length constants → ((p : ℕ) → get_or constants p 0 < 256) → Selectors count rows constants found.now → StripSums size blocks.now first count rows constants x n sums.new }
 {
-    buffers::set_all(sums, 0);
-    let mut j: usize = 0;
-    while j < count {
-        let have = buffers::smaller(count - j, 16);
+    sums.fill(0);
+    for s in 0..count.div_ceil(16) {
+        let j = s * 16;
+        let have = (count - j).min(16);
         make_tables(blocks, size, (first + j) * size + x, have, n, t);
         add_every_row(t, found, j / 4, rows, sums);
-        j += 16;
     }
 }
 
@@ -212,12 +195,10 @@ fn zero_at(sums: &[u8], rows: usize, i: usize) -> bool
     ensures i_value { result ≡ true → (k : ℕ) → k < rows → get_or sums.now (k * 96 + i) 0 ≡ 0 }
     ensures fact { result ≡ false → ((k : ℕ) → k < rows → get_or sums.now (k * 96 + i) 0 ≡ 0) → ⊥ }
 {
-    let mut k: usize = 0;
-    while k < rows {
+    for k in 0..rows {
         if sums[k * 96 + i] != 0 {
             return false;
         }
-        k += 1;
     }
     true
 }
@@ -227,12 +208,10 @@ fn zero_strip(sums: &[u8], rows: usize, n: usize) -> usize
     requires { (length sums.now ≡ 384) × (rows ≤ 4) × (n ≤ 96) }
     ensures { ZeroStrip rows n sums.now result }
 {
-    let mut i: usize = 0;
-    while i < n {
+    for i in 0..n {
         if !zero_at(sums, rows, i) {
             return i;
         }
-        i += 1;
     }
     n
 }
@@ -254,9 +233,9 @@ fn zero_strips(
     let found = block_tables::selectors(count, rows, constants);
     let mut t = [0u8; 6144];
     let mut sums = [0u8; 384];
-    let mut x: usize = 0;
-    while x < limit {
-        let n = buffers::smaller(limit - x, 96);
+    for q in 0..limit.div_ceil(96) {
+        let x = q * 96;
+        let n = (limit - x).min(96);
         strip_sums(
             blocks, size, first, count, rows, &found, x, n, &mut t, &mut sums,
         );
@@ -264,7 +243,6 @@ fn zero_strips(
         if i < n {
             return x + i;
         }
-        x += n;
     }
     limit
 }
@@ -274,22 +252,7 @@ fn named(lent: usize, size: usize, first: usize, count: usize, rows: usize, laid
     ensures le_size { result ≡ true → (1 ≤ size) × (size ≤ 65536) × (lent ≤ 65536) × ((first + count) * size ≤ lent) × (count ≤ 240) × (rows ≤ 4) × (rows * count ≤ laid) }
     ensures fact { result ≡ false → 1 ≤ size → size ≤ 65536 → lent ≤ 65536 → (first + count) * size ≤ lent → count ≤ 240 → rows ≤ 4 → rows * count ≤ laid → ⊥ }
 {
-    if size == 0 {
-        return false;
-    }
-    if 65536 < size {
-        return false;
-    }
-    if 65536 < lent {
-        return false;
-    }
-    if 65536 < first {
-        return false;
-    }
-    if 240 < count {
-        return false;
-    }
-    if 4 < rows {
+    if size == 0 || 65536 < size || 65536 < lent || 65536 < first || 240 < count || 4 < rows {
         return false;
     }
     if laid < rows * count {
@@ -334,10 +297,8 @@ fn write_strip(
     requires aimed { Aimed size blocks.old rows to }
     ensures { StripWritten size x n rows sums.now to blocks.old blocks.new }
 {
-    let mut i: usize = 0;
-    while i < rows {
+    for i in 0..rows {
         copy_part(sums, i * 96, n, blocks, to[i] * size + x);
-        i += 1;
     }
 }
 
@@ -358,14 +319,13 @@ fn write_strips(
     let found = block_tables::selectors(count, rows, constants);
     let mut t = [0u8; 6144];
     let mut sums = [0u8; 384];
-    let mut x: usize = 0;
-    while x < size {
-        let n = buffers::smaller(size - x, 96);
+    for q in 0..size.div_ceil(96) {
+        let x = q * 96;
+        let n = (size - x).min(96);
         strip_sums(
             blocks, size, first, count, rows, &found, x, n, &mut t, &mut sums,
         );
         write_strip(&sums, rows, size, x, n, to, blocks);
-        x += n;
     }
 }
 
@@ -375,16 +335,11 @@ fn aimed(lent: usize, size: usize, rows: usize, to: [usize; 4]) -> bool
     ensures size_bound { result ≡ true → (i : ℕ) → i < rows → (get_or to i 0 + 1) * size ≤ lent }
     ensures fact { result ≡ false → ((i : ℕ) → i < rows → (get_or to i 0 + 1) * size ≤ lent) → ⊥ }
 {
-    let mut i: usize = 0;
-    while i < rows {
+    for i in 0..rows {
         let p = to[i];
-        if lent < p {
+        if lent < p || lent < (p + 1) * size {
             return false;
         }
-        if lent < (p + 1) * size {
-            return false;
-        }
-        i += 1;
     }
     true
 }

@@ -11,18 +11,18 @@ const HALVES: [u32; 16] = [
     0, 4096, 256, 4352, 16, 4112, 272, 4368, 1, 4097, 257, 4353, 17, 4113, 273, 4369,
 ];
 
-fn half(v: usize) -> u32
+fn half(v: u8) -> u32
     requires { v < 16 }
     ensures { result ≡ get_or halves v 0 }
 {
-    HALVES[v]
+    HALVES[usize::from(v)]
 }
 
 // The bits of k as digits of 16, the highest bit as the lowest digit: those of the low four bits above those of the high four.
 fn spaced(k: u8) -> u32
-    ensures { result ≡ spaced 8 k }
+    ensures { (result ≡ spaced 8 k) × (result ≤ 286331153) }
 {
-    half((k % 16) as usize) * 65536 + half((k / 16) as usize)
+    half(k % 16) * 65536 + half(k / 16)
 }
 
 // The same of four constants: a digit has a bit of each.
@@ -36,7 +36,7 @@ fn selector(a: u8, b: u8, c: u8, d: u8) -> u32
 fn constant(k: &[u8], j: usize) -> u8
     ensures { result ≡ get_or k.now j 0 }
 {
-    if j < k.len() { k[j] } else { 0 }
+    k.get(j).copied().unwrap_or(0)
 }
 
 // The selectors of a row of constants, written over zeros.
@@ -45,8 +45,7 @@ fn row_selectors(k: &[u8], found: &mut [u32])
     requires by_index { (s : ℕ) → s < 60 → get_or found.old s 0 ≡ 0 }
     ensures { (s : ℕ) → s < 60 → get_or found.new s 0 ≡ selector_at k.now s }
 {
-    let mut s: usize = 0;
-    while s * 4 < k.len() {
+    for s in 0..k.len().div_ceil(4) {
         let j = s * 4;
         found[s] = selector(
             constant(k, j),
@@ -54,7 +53,6 @@ fn row_selectors(k: &[u8], found: &mut [u32])
             constant(k, j + 2),
             constant(k, j + 3),
         );
-        s += 1;
     }
 }
 
@@ -64,14 +62,10 @@ fn selectors_of(count: usize, rows: usize, constants: &[u8]) -> [u32; 240]
     ensures { Selectors count rows constants.now result }
 {
     let mut found = [0u32; 240];
-    let mut r: usize = 0;
-    while r < rows {
+    for r in 0..rows {
         let a = r * count;
-        let e = a + count;
         let b = r * 60;
-        let f = b + 60;
-        row_selectors(&constants[a..e], &mut found[b..f]);
-        r += 1;
+        row_selectors(&constants[a..a + count], &mut found[b..b + 60]);
     }
     found
 }
@@ -82,13 +76,7 @@ pub fn selectors(count: usize, rows: usize, constants: &[u8]) -> [u32; 240]
     ensures value { (count ≤ 240 → rows ≤ 4 → rows * count ≤ length constants.now → ⊥) → result ≡ replicate 240 0 }
 {
     let none = [0u32; 240];
-    if 240 < count {
-        return none;
-    }
-    if 4 < rows {
-        return none;
-    }
-    if constants.len() < rows * count {
+    if 240 < count || 4 < rows || constants.len() < rows * count {
         return none;
     }
     selectors_of(count, rows, constants)

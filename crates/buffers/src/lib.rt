@@ -4,30 +4,35 @@
 
 ghost use Rattle.std.specs.Prelude.{◌≡◌, true, false, min, length, replicate};
 
+// Copies one buffer over another of the same length. Not the library's copy_from_slice, which calls memmove: this loop becomes memcpy, and
+// axlebloom.h says that only memcpy and memset are called.
+pub fn copy_from_slice<T: Copy>(to: &mut [T], from: &[T])
+    requires { length to.old ≡ length from.now }
+    ensures len { length to.new ≡ length to.old }
+    ensures after { to.new ≡ from.now }
+{
+    for (i, x) in to.iter_mut().enumerate() {
+        *x = from[i];
+    }
+}
+
 // Copies one buffer over another of the same length; one of another length is left as it is.
-pub fn copy(from: &[u8], to: &mut [u8])
+pub fn copy<T: Copy>(from: &[T], to: &mut [T])
     ensures to_after { length from.now ≡ length to.old → to.new ≡ from.now }
     ensures to_len_unchanged { length to.new ≡ length to.old }
     ensures to_unchanged { (length from.now ≡ length to.old → ⊥) → to.new ≡ to.old }
 {
-    if from.len() != to.len() {
-        return;
-    }
-    let mut i: usize = 0;
-    while i < to.len() {
-        to[i] = from[i];
-        i += 1;
+    if from.len() == to.len() {
+        copy_from_slice(to, from);
     }
 }
 
-// Sets every byte to v.
-pub fn set_all(buffer: &mut [u8], v: u8)
+// Sets every element to v.
+pub fn set_all<T: Copy>(buffer: &mut [T], v: T)
     ensures { buffer.new ≡ replicate (length buffer.old) v }
 {
-    let mut i: usize = 0;
-    while i < buffer.len() {
-        buffer[i] = v;
-        i += 1;
+    for x in buffer.iter_mut() {
+        *x = v;
     }
 }
 
@@ -37,7 +42,7 @@ pub fn clear_if(test: bool, buffer: &mut [u8])
     ensures buffer_unchanged { test ≡ false → buffer.new ≡ buffer.old }
 {
     if test {
-        set_all(buffer, 0);
+        buffer.fill(0);
     }
 }
 
@@ -45,5 +50,5 @@ pub fn clear_if(test: bool, buffer: &mut [u8])
 pub fn smaller(a: usize, b: usize) -> usize
     ensures { result ≡ min a b }
 {
-    if a < b { a } else { b }
+    a.min(b)
 }

@@ -62,17 +62,14 @@ const NONE: [u8; 16] = [0; 16];
 pub fn padded(part: &[u8]) -> [u8; 16]
     ensures { Padded part.now result }
 {
-    let n = buffers::smaller(part.len(), 16);
+    let n = part.len().min(16);
     let mut x = [0u8; 16];
-    let mut i: usize = 0;
-    while i < n {
-        x[i] = part[i];
-        i += 1;
-    }
+    buffers::copy_from_slice(&mut x[..n], &part[..n]);
     x
 }
 
 // The locators of the sixteen places to the power e, for e below 4; zeros for any other e.
+#[tactic(auto, unfolding(crate::specs::Rows::power_rows))]
 pub fn power_row(e: usize) -> [u8; 16]
     ensures { result ≡ get_or power_rows e no_row }
 {
@@ -86,6 +83,7 @@ pub fn power_row(e: usize) -> [u8; 16]
 }
 
 // The sum of the bytes of a part; past the sixteenth they don't count.
+#[tactic(auto, unfolding(crate::specs::Rows::power_rows))]
 fn plain_sum(part: &[u8]) -> u8
     ensures { result ≡ inner_product 8 285 (length part.now) part.now (get_or power_rows 0 no_row) }
 {
@@ -97,6 +95,7 @@ fn plain_sum(part: &[u8]) -> u8
 }
 
 // The inner product of a part with the locators to the power e, without a product where e is 0.
+#[tactic(auto, unfolding(crate::specs::Rows::power_rows))]
 pub fn power_sum(part: &[u8], e: usize) -> u8
     ensures { result ≡ inner_product 8 285 (length part.now) part.now (get_or power_rows e no_row) }
 {
@@ -110,6 +109,7 @@ pub fn power_sum(part: &[u8], e: usize) -> u8
 }
 
 // The inner product of a part with the coefficients of the first sum across for c local checks, c from 1 to 4; i is c - 1.
+#[tactic(auto, unfolding(crate::specs::Rows::first_rows))]
 pub fn first_sum(part: &[u8], i: usize) -> u8
     ensures { result ≡ inner_product 8 285 (length part.now) part.now (get_or first_rows i no_row) }
 {
@@ -123,6 +123,7 @@ pub fn first_sum(part: &[u8], i: usize) -> u8
 }
 
 // The inner product of a part with the coefficients of the second sum across, the sixteenth powers of the first sum's; i is c - 1.
+#[tactic(auto, unfolding(crate::specs::Rows::second_rows))]
 pub fn second_sum(part: &[u8], i: usize) -> u8
     ensures { result ≡ inner_product 8 285 (length part.now) part.now (get_or second_rows i no_row) }
 {

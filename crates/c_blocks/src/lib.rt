@@ -4,10 +4,10 @@
 
 ghost use Rattle.std.specs.Prelude.{◌≡◌};
 ghost use Rattle.block_rebuild.specs.Rebuild.{rebuild_of};
-ghost use Rattle.c_blocks.specs.RebuildAnswer.{outcome_answer, rebuilt_answer};
+ghost use Rattle.c_blocks.specs.RebuildAnswer.{outcome_answer};
 ghost use Rattle.release.specs.Version.{library_version};
 
-use block_rebuild::Rebuilt;
+use block_rebuild::Failure;
 
 // What a rebuild gives to C: the number, 0 for done, and the word and the group that a 9 carries; 0 with any other number.
 #[repr(C)]
@@ -16,29 +16,6 @@ pub struct RebuildAnswer {
     pub word: usize,
     pub number: u8,
     pub group: u8,
-}
-
-// The number of an answer, with the word and the group of a 9.
-fn answer_of(rebuilt: Rebuilt) -> RebuildAnswer
-    ensures { result ≡ rebuilt_answer rebuilt }
-{
-    match rebuilt {
-        Rebuilt::Done => RebuildAnswer {
-            word: 0,
-            number: 0,
-            group: 0,
-        },
-        Rebuilt::Contradictory { word, group } => RebuildAnswer {
-            word,
-            number: 9,
-            group,
-        },
-        Rebuilt::Refused(r) => RebuildAnswer {
-            word: 0,
-            number: r,
-            group: 0,
-        },
-    }
 }
 
 #[unsafe(no_mangle)]
@@ -54,7 +31,23 @@ pub extern "C" fn axlebloom_rebuild(
     ensures blocks { blocks.new ≡ (rebuild_of m w c length blocks.old marks.old).blocks }
     ensures marks { marks.new ≡ (rebuild_of m w c length blocks.old marks.old).marks }
 {
-    answer_of(block_rebuild::rebuild(m, w, c, length, blocks, marks))
+    match block_rebuild::rebuild(m, w, c, length, blocks, marks) {
+        Ok(()) => RebuildAnswer {
+            word: 0,
+            number: 0,
+            group: 0,
+        },
+        Err(Failure::Contradictory { word, group }) => RebuildAnswer {
+            word,
+            number: 9,
+            group,
+        },
+        Err(Failure::Refused(e)) => RebuildAnswer {
+            word: 0,
+            number: e.number(),
+            group: 0,
+        },
+    }
 }
 
 #[unsafe(no_mangle)]

@@ -8,8 +8,8 @@ ghost use Rattle.catalogue_calls.specs.Calls.{remove_refusal, remove_figures, re
 ghost use Rattle.catalogue_compact.specs.Compaction.{compact_refusal, compact_figures, compact_buffer, compacted_number, compacted_figures};
 ghost use Rattle.c_catalogue.specs.Answers.{lookup_answer, change_answer, compact_answer};
 
-use catalogue_calls::{Changed, Looked};
-use catalogue_compact::Compacted;
+use answers::Refusal;
+use catalogue_calls::{Changed, Stored};
 
 // What Lookup gives to C: the number, 0 for done, and the shape and the revision; 0 on a refusal.
 #[repr(C)]
@@ -40,19 +40,19 @@ pub struct CompactAnswer {
 }
 
 // The number and the figures of what Lookup answers.
-fn lookup_answer(looked: Looked) -> LookupAnswer
+fn lookup_answer(looked: Result<Stored, Refusal>) -> LookupAnswer
     ensures { result ≡ lookup_answer (looked_number looked) (looked_figures looked) }
 {
     match looked {
-        Looked::Found { revision, m, w, c } => LookupAnswer {
+        Ok(stored) => LookupAnswer {
             number: 0,
-            m,
-            w,
-            c,
-            revision,
+            m: stored.m,
+            w: stored.w,
+            c: stored.c,
+            revision: stored.revision,
         },
-        Looked::Refused(r) => LookupAnswer {
-            number: r,
+        Err(refusal) => LookupAnswer {
+            number: refusal.number(),
             m: 0,
             w: 0,
             c: 0,
@@ -62,17 +62,17 @@ fn lookup_answer(looked: Looked) -> LookupAnswer
 }
 
 // The number and the figures of what Put and Remove answer.
-fn change_answer(changed: Changed) -> ChangeAnswer
+fn change_answer(changed: Result<Changed, Refusal>) -> ChangeAnswer
     ensures { result ≡ change_answer (changed_number changed) (changed_figures changed) }
 {
     match changed {
-        Changed::Done { size, revision } => ChangeAnswer {
+        Ok(done) => ChangeAnswer {
             number: 0,
-            revision,
-            size,
+            revision: done.revision,
+            size: done.size,
         },
-        Changed::Refused(r) => ChangeAnswer {
-            number: r,
+        Err(refusal) => ChangeAnswer {
+            number: refusal.number(),
             revision: 0,
             size: 0,
         },
@@ -80,12 +80,15 @@ fn change_answer(changed: Changed) -> ChangeAnswer
 }
 
 // The number and the length of what Compact answers.
-fn compact_answer(compacted: Compacted) -> CompactAnswer
+fn compact_answer(compacted: Result<usize, Refusal>) -> CompactAnswer
     ensures { result ≡ compact_answer (compacted_number compacted) (compacted_figures compacted) }
 {
     match compacted {
-        Compacted::Done(size) => CompactAnswer { number: 0, size },
-        Compacted::Refused(r) => CompactAnswer { number: r, size: 0 },
+        Ok(size) => CompactAnswer { number: 0, size },
+        Err(refusal) => CompactAnswer {
+            number: refusal.number(),
+            size: 0,
+        },
     }
 }
 

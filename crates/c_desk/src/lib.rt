@@ -11,34 +11,33 @@ ghost use Rattle.desk_serve.specs.Serve.{serve_of};
 ghost use Rattle.desk_change.specs.Change.{lose_of, find_of};
 ghost use Rattle.c_desk.specs.DeskCalls.{OpensNumber, handle_or, ReadsNumber, served_or, ServesMended, ChangesNumber};
 
+use answers::Refusal;
 use c_answers::Mended;
-use desk_close::Counted;
-use desk_open::Opened;
 use desk_record::Desk;
 
 // The number of what Open answers, with the handle written where it is wanted.
-fn opened_number(opened: Opened, handle: &mut u64) -> u8
+fn opened_number(opened: Result<u64, Refusal>, handle: &mut u64) -> u8
     ensures { (result ≡ opened_number opened) × (handle.new ≡ handle_or opened handle.old) }
 {
     match opened {
-        Opened::Handle(h) => {
+        Ok(h) => {
             *handle = h;
             0
         }
-        Opened::Refused(r) => r,
+        Err(unopened) => unopened.number(),
     }
 }
 
 // The number of what Read answers, with the served count written where it is wanted.
-fn counted_number(counted: Counted, served: &mut u32) -> u8
+fn counted_number(counted: Result<u32, Refusal>, served: &mut u32) -> u8
     ensures { (result ≡ counted_number counted) × (served.new ≡ served_or counted served.old) }
 {
     match counted {
-        Counted::Served(n) => {
+        Ok(n) => {
             *served = n;
             0
         }
-        Counted::Refused(r) => r,
+        Err(unread) => unread.number(),
     }
 }
 

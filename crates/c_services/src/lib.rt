@@ -21,35 +21,37 @@ ghost use Rattle.edit.specs.Edit.{edit_in, edited_buffer_in};
 ghost use Rattle.release.specs.Version.{library_version, desk_layout, gather_layout};
 ghost use Rattle.release.specs.Texts.{number_text, lent_text};
 
+use answers::Refusal;
 use c_answers::Mended;
-use profile::Profiled;
+use profile::PlaceSet;
+use shape::Bytes;
 
 #[unsafe(no_mangle)]
 pub extern "C" fn axlebloom_describe(m: usize, w: usize, c: usize) -> u8
     ensures { result ≡ shape_refusal_in byte_limits m w c }
 {
-    c_answers::described_number(shape::describe(m, w, c))
+    c_answers::described_number(shape::describe::<Bytes>(m, w, c))
 }
 
 #[unsafe(no_mangle)]
 pub extern "C" fn axlebloom_places(m: usize, w: usize, c: usize) -> usize
     ensures { result ≡ get_or (figures_in byte_limits m w c) 0 0 }
 {
-    c_answers::described_places(shape::describe(m, w, c))
+    c_answers::described_places(shape::describe::<Bytes>(m, w, c))
 }
 
 #[unsafe(no_mangle)]
 pub extern "C" fn axlebloom_data(m: usize, w: usize, c: usize) -> usize
     ensures { result ≡ get_or (figures_in byte_limits m w c) 1 0 }
 {
-    c_answers::described_data(shape::describe(m, w, c))
+    c_answers::described_data(shape::describe::<Bytes>(m, w, c))
 }
 
 #[unsafe(no_mangle)]
 pub extern "C" fn axlebloom_sure(m: usize, w: usize, c: usize) -> usize
     ensures { result ≡ get_or (figures_in byte_limits m w c) 2 0 }
 {
-    c_answers::described_sure(shape::describe(m, w, c))
+    c_answers::described_sure(shape::describe::<Bytes>(m, w, c))
 }
 
 #[unsafe(no_mangle)]
@@ -84,7 +86,7 @@ pub extern "C" fn axlebloom_extract(
     ensures number { result ≡ buffer_refusal_in byte_limits m w c (length word.now) (length bytes.old) }
     ensures buffer { bytes.new ≡ extracted_data_in byte_limits m w c word.now bytes.old }
 {
-    c_answers::number(places::extract(m, w, c, word, bytes))
+    c_answers::number(places::extract::<Bytes>(m, w, c, word, bytes))
 }
 
 #[unsafe(no_mangle)]
@@ -92,14 +94,14 @@ pub extern "C" fn axlebloom_check_marks(m: usize, w: usize, c: usize, marks: &mu
     ensures number { result ≡ check_marks_refusal_in byte_limits m w c (length marks.old) }
     ensures marks { marks.new ≡ check_marks_buffer_in byte_limits m w c marks.old }
 {
-    c_answers::number(places::check_marks(m, w, c, marks))
+    c_answers::number(places::check_marks::<Bytes>(m, w, c, marks))
 }
 
 #[unsafe(no_mangle)]
 pub extern "C" fn axlebloom_judge(m: usize, w: usize, c: usize, marks: &[u8]) -> u8
     ensures { result ≡ judged_number_in byte_limits m w c marks.now }
 {
-    c_answers::judged_number(judge::judge(m, w, c, marks))
+    c_answers::judged_number(judge::judge::<Bytes>(m, w, c, marks))
 }
 
 #[unsafe(no_mangle)]
@@ -135,7 +137,7 @@ pub extern "C" fn axlebloom_recover(
 
 // What the judge of the profile gives to C: the number, 0 for yes, and the set of place numbers that shows it; on a refusal all else is 0.
 #[repr(C)]
-#[derive(Clone, Copy)]
+#[derive(Clone, Copy, Debug, PartialEq, Eq)]
 pub struct ProfileAnswer {
     pub number: u8,
     pub count: u8,
@@ -146,11 +148,11 @@ pub struct ProfileAnswer {
 }
 
 // The number and the set of what the judge of the profile answers.
-fn profile_answer(profiled: Profiled) -> ProfileAnswer
+fn profile_answer(profiled: Result<PlaceSet, Refusal>) -> ProfileAnswer
     ensures { result ≡ profile_answer profiled }
 {
     match profiled {
-        Profiled::Places(p) => ProfileAnswer {
+        Ok(p) => ProfileAnswer {
             number: 0,
             count: p.count,
             first: p.first,
@@ -158,8 +160,8 @@ fn profile_answer(profiled: Profiled) -> ProfileAnswer
             third: p.third,
             fourth: p.fourth,
         },
-        Profiled::Refused(r) => ProfileAnswer {
-            number: r,
+        Err(e) => ProfileAnswer {
+            number: e.number(),
             count: 0,
             first: 0,
             second: 0,

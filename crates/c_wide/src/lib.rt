@@ -17,33 +17,34 @@ ghost use Rattle.c_answers.specs.Numbers.{checked_mended};
 ghost use Rattle.answers.specs.Figures.{figures_in};
 
 use c_answers::Mended;
+use wide_shape::Wide;
 
 #[unsafe(no_mangle)]
 pub extern "C" fn axlebloom_wide_describe(m: usize, w: usize, c: usize) -> u8
     ensures { result ≡ shape_refusal_in wide_limits m w c }
 {
-    c_answers::described_number(wide_shape::describe(m, w, c))
+    c_answers::described_number(shape::describe::<Wide>(m, w, c))
 }
 
 #[unsafe(no_mangle)]
 pub extern "C" fn axlebloom_wide_places(m: usize, w: usize, c: usize) -> usize
     ensures { result ≡ get_or (figures_in wide_limits m w c) 0 0 }
 {
-    c_answers::described_places(wide_shape::describe(m, w, c))
+    c_answers::described_places(shape::describe::<Wide>(m, w, c))
 }
 
 #[unsafe(no_mangle)]
 pub extern "C" fn axlebloom_wide_data(m: usize, w: usize, c: usize) -> usize
     ensures { result ≡ get_or (figures_in wide_limits m w c) 1 0 }
 {
-    c_answers::described_data(wide_shape::describe(m, w, c))
+    c_answers::described_data(shape::describe::<Wide>(m, w, c))
 }
 
 #[unsafe(no_mangle)]
 pub extern "C" fn axlebloom_wide_sure(m: usize, w: usize, c: usize) -> usize
     ensures { result ≡ get_or (figures_in wide_limits m w c) 2 0 }
 {
-    c_answers::described_sure(wide_shape::describe(m, w, c))
+    c_answers::described_sure(shape::describe::<Wide>(m, w, c))
 }
 
 #[unsafe(no_mangle)]
@@ -78,7 +79,7 @@ pub extern "C" fn axlebloom_wide_extract(
     ensures number { result ≡ buffer_refusal_in wide_limits m w c (length word.now) (length symbols.old) }
     ensures buffer { symbols.new ≡ extracted_data_in wide_limits m w c word.now symbols.old }
 {
-    c_answers::number(wide_places::extract(m, w, c, word, symbols))
+    c_answers::number(places::extract::<Wide>(m, w, c, word, symbols))
 }
 
 #[unsafe(no_mangle)]
@@ -86,14 +87,14 @@ pub extern "C" fn axlebloom_wide_check_marks(m: usize, w: usize, c: usize, marks
     ensures number { result ≡ check_marks_refusal_in wide_limits m w c (length marks.old) }
     ensures marks { marks.new ≡ check_marks_buffer_in wide_limits m w c marks.old }
 {
-    c_answers::number(wide_places::check_marks(m, w, c, marks))
+    c_answers::number(places::check_marks::<Wide>(m, w, c, marks))
 }
 
 #[unsafe(no_mangle)]
 pub extern "C" fn axlebloom_wide_judge(m: usize, w: usize, c: usize, marks: &[u8]) -> u8
     ensures { result ≡ judged_number_in wide_limits m w c marks.now }
 {
-    c_answers::judged_number(wide_shape::judge(m, w, c, marks))
+    c_answers::judged_number(judge::judge::<Wide>(m, w, c, marks))
 }
 
 #[unsafe(no_mangle)]

@@ -14,34 +14,15 @@ ghost use Rattle.code.specs.Lone.{lone};
 ghost use Rattle.code.specs.Stretch.{stretch};
 ghost use Rattle.syndrome.specs.Across.{across_of, no_sums};
 ghost use Rattle.code_engine.specs.BoundGroups.{BoundAll};
-ghost use Rattle.code_engine.specs.CandidateSteps.{Blanked, ZeroFrom, GroupsFilledIn, DirectionIn, AddedIn};
+ghost use Rattle.code_engine.specs.CandidateSteps.{ZeroFrom, GroupsFilledIn, DirectionIn, AddedIn};
 ghost use Rattle.code.specs.Pair.{MetIn};
 ghost use Rattle.code_engine.specs.Mended.{BoundFew, MendedOneIn, MendedTwoIn, MendedIn, IsCandidateIn};
 
+use shape::Bytes;
 use syndrome::Sums;
 
-// A byte, and 0 where its mark says that it is lost.
-fn unless_lost(mark: u8, byte: u8) -> u8
-    ensures value { mark ≡ 1 → result ≡ 0 }
-    ensures value_2 { (mark ≡ 1 → ⊥) → result ≡ byte }
-{
-    if mark == 1 { 0 } else { byte }
-}
-
-// Writes word into base, with 0 in the lost places.
-fn blank_lost(word: &[u8], marks: &[u8], base: &mut [u8])
-    requires marks_len { length marks.now ≡ length word.now }
-    requires base_len { length base.old ≡ length word.now }
-    ensures { Blanked marks.now word.now base.new }
-{
-    let mut p: usize = 0;
-    while p < word.len() {
-        base[p] = unless_lost(marks[p], word[p]);
-        p += 1;
-    }
-}
-
 // Fills the bound places of every group by its own equations.
+// A function in each edition: a generic one needs a trait with fill, its edition and its words as numbers, with laws of slices, for a loop of three lines.
 fn fill_groups(m: usize, w: usize, c: usize, bound: &[u8], base: &mut [u8])
     requires good_in { GoodIn byte_limits m w c }
     requires base_len { length base.old ≡ m * w }
@@ -49,12 +30,10 @@ fn fill_groups(m: usize, w: usize, c: usize, bound: &[u8], base: &mut [u8])
     requires by_index { (g : ℕ) → g < m → lost_in w bound.now g ≤ c }
     ensures { GroupsFilledIn byte_edition m w bound.now base.old base.new }
 {
-    let mut g: usize = 0;
-    while g < m {
+    for g in 0..m {
         let a = g * w;
         let e = a + w;
         fill::fill(&mut base[a..e], &bound[a..e]);
-        g += 1;
     }
 }
 
@@ -79,10 +58,8 @@ fn add_multiple(u: u8, h: &[u8], part: &mut [u8])
     requires { length h.now ≡ length part.old }
     ensures { AddedIn byte_edition u h.now part.old part.new }
 {
-    let mut i: usize = 0;
-    while i < part.len() {
-        part[i] = part[i] ^ gf256::shifted_product(u, h[i]);
-        i += 1;
+    for (i, byte) in part.iter_mut().enumerate() {
+        *byte ^= gf256::shifted_product(u, h[i]);
     }
 }
 
@@ -242,7 +219,7 @@ fn rebuild(
 {
     buffers::copy(marks, bound);
     erasures::clear_free(w, c, bound);
-    blank_lost(word, marks, out);
+    erasures::blank_lost(0, word, marks, out);
     fill_groups(m, w, c, bound, out);
     mend(m, w, c, marks, bound, out)
 }
@@ -260,7 +237,7 @@ pub fn candidate(m: usize, w: usize, c: usize, word: &[u8], marks: &[u8], out: &
         first: 0,
         second: 0,
     };
-    if shape::word_refusal(m, w, c, word.len()) != 0 {
+    if shape::word_refusal::<Bytes>(m, w, c, word.len()).is_err() {
         return none;
     }
     if marks.len() != word.len() {

@@ -1,5 +1,7 @@
 -- Lookup, Put and Remove of named shapes, in a text that stands at the start of a lent buffer.
-use Rattle.std.specs.Prelude.{◌≡◌, not, ◌||◌, List, [], ◌∷◌, ℕ, eqb, ltb, length}
+use Rattle.std.specs.Prelude.{◌≡◌, not, ◌||◌, List, [], ◌∷◌, ℕ, eqb, ltb, length, Result, Ok, Err}
+use Rattle.answers.specs.declared.Refusal.{Refusal}
+use Rattle.answers.specs.Answers.{refused_number}
 use Rattle.code.specs.Refusals.{refuse, ◌or_else◌, unless_refused}
 use Rattle.shape.specs.Shapes.{byte_limits}
 use Rattle.code.specs.Limits.{sale_refusal_in}
@@ -7,7 +9,7 @@ use Rattle.catalogue_text.specs.Names.{good_name}
 use Rattle.catalogue_text.specs.Catalogue.{Entry, is_gone, catalogue_text}
 use Rattle.catalogue_text.specs.Changes.{entry_in, found_revision, last_revision, next_entry, changed_by}
 use Rattle.catalogue_text.specs.Buffers.{formed, catalogue_in, with_text}
-use Rattle.catalogue_calls.specs.declared.Looked.{Looked}
+use Rattle.catalogue_calls.specs.declared.Stored.{Stored}
 use Rattle.catalogue_calls.specs.declared.Changed.{Changed}
 
 -- "16 text not of this form"
@@ -39,14 +41,13 @@ unfoldable pub lookup_figures : List ℕ → ℕ → List ℕ → List ℕ
 lookup_figures buffer size name = unless_refused (lookup_refusal buffer size name) (entry_figures (stored buffer size name)) []
 
 -- the number of an answer to a lookup, 0 for done
-abbrev pub looked_number : Looked → ℕ
-looked_number (Looked.Found revision m w c) = 0
-looked_number (Looked.Refused r) = r
+abbrev pub looked_number : Result Stored Refusal → ℕ
+looked_number = refused_number
 
 -- the figures of an answer to a lookup: revision, m, w and c, none on a refusal
-abbrev pub looked_figures : Looked → List ℕ
-looked_figures (Looked.Found revision m w c) = revision ∷ m ∷ w ∷ c ∷ []
-looked_figures (Looked.Refused r) = []
+abbrev pub looked_figures : Result Stored Refusal → List ℕ
+looked_figures (Ok s) = s.revision ∷ s.m ∷ s.w ∷ s.c ∷ []
+looked_figures (Err e) = []
 
 -- "its line takes the shape put", or the word gone with zeros, "and the stored revision rises by one"
 abbrev pub changed_entry : List ℕ → ℕ → List ℕ → ℕ → ℕ → ℕ → Entry
@@ -106,17 +107,16 @@ remove_buffer name expected buffer size =
     unless_refused (remove_refusal name expected buffer size) (with_text (changed_text buffer size name 0 0 0) buffer) buffer
 
 -- the number of an answer to a put or a remove, 0 for done
-abbrev pub changed_number : Changed → ℕ
-changed_number (Changed.Done size revision) = 0
-changed_number (Changed.Refused r) = r
+abbrev pub changed_number : Result Changed Refusal → ℕ
+changed_number = refused_number
 
 -- the figures of an answer to a put or a remove: the new length and the revision, none on a refusal
-abbrev pub changed_figures : Changed → List ℕ
-changed_figures (Changed.Done size revision) = size ∷ revision ∷ []
-changed_figures (Changed.Refused r) = []
+abbrev pub changed_figures : Result Changed Refusal → List ℕ
+changed_figures (Ok d) = d.size ∷ d.revision ∷ []
+changed_figures (Err e) = []
 
 -- Of a put, a remove, or what is left of them after 16 to 19: the number, the figures and the buffer afterwards, by the number of the refusal.
-abbrev pub ChangeLeaves : ℕ → List ℕ → ℕ → List ℕ → ℕ → ℕ → ℕ → Changed → List ℕ → Type 0
+abbrev pub ChangeLeaves : ℕ → List ℕ → ℕ → List ℕ → ℕ → ℕ → ℕ → Result Changed Refusal → List ℕ → Type 0
 ChangeLeaves refusal buffer size name m w c r after =
     (changed_number r ≡ refusal) × ((changed_figures r ≡ unless_refused refusal (change_figures buffer size name m w c) [])
     × (after ≡ unless_refused refusal (with_text (changed_text buffer size name m w c) buffer) buffer))

@@ -1,5 +1,5 @@
 -- Lookup, Put and Remove by what a scan finds.
-use Rattle.std.specs.Prelude.{◌≡◌, true, false, cond, ◌||◌, ◌&&◌, List, [], ◌∷◌, ◌++◌, eqb, leb, ltb, take, drop}
+use Rattle.std.specs.Prelude.{◌≡◌, true, false, cond, ◌||◌, ◌&&◌, List, [], ◌∷◌, ◌++◌, eqb, leb, ltb, take, drop, Result, Ok, Err}
 use Rattle.std.proofs.Math.Path.{refl, subst}
 use Rattle.std.proofs.Common.{sym, ap, ap₂, ◌∙◌, append_assoc, leb→le, length-drop, length-take-le, take-take}
 use Prim.Native.Nat.{ℕ, zero, suc, ◌+◌, ◌-◌, ◌≤◌, ◌<◌}
@@ -7,7 +7,10 @@ use native.Mathlib.Omega.{arith}
 use borrow.Author.Tests.{lt-ltb, le-ltb, eq-eqb, ne_eqb}
 use Rattle.std.proofs.Math.ListN.{length, length-append}
 use Rattle.counting.specs.TestLaws.{and_l, and_r}
-use Rattle.code.specs.Refusals.{refuse}
+use Rattle.code.specs.Refusals.{refuse, ◌or_else◌}
+use Rattle.answers.specs.declared.Refusal.{Refusal}
+use Rattle.answers.specs.Answers.{refusal_number}
+use Rattle.answers.specs.AnswersLaws.{refusal-some, else-first}
 use Rattle.shape.specs.Shapes.{byte_limits}
 use Rattle.code.specs.Limits.{sale_refusal_in}
 use Rattle.text.specs.Written.{written}
@@ -24,33 +27,52 @@ use Rattle.catalogue_scan.specs.PlacesLaws.{Spot, spot_of}
 use Rattle.catalogue_scan.specs.Places.{FoundIn}
 use Rattle.catalogue_lines.specs.Splice.{SpliceFits, spliced_in}
 use Rattle.catalogue_lines.specs.SpliceLaws.{first_fits, first_spliced, drop-take}
-use Rattle.catalogue_calls.specs.declared.Looked.{Looked}
+use Rattle.catalogue_calls.specs.declared.Stored.{Stored}
 use Rattle.catalogue_calls.specs.declared.Changed.{Changed}
 use Rattle.catalogue_calls.specs.Calls.{text_refusal, name_refusal, stored, found_refusal, lookup_refusal, lookup_figures, looked_number, looked_figures}
 use Rattle.catalogue_calls.specs.Calls.{changed_entry, changed_text, expected_refusal, change_refusal, put_refusal, remove_refusal, put_figures, put_buffer}
 use Rattle.catalogue_calls.specs.Calls.{remove_figures, remove_buffer, changed_number, changed_figures, ChangeLeaves}
 
+-- the text and the name are tested before all else
+else-else : (r s t : ℕ) → ((r or_else s) or_else t) ≡ (r or_else s or_else t)
+else-else zero s t = refl
+else-else (suc r) s t = refl
+
+module _ (buffer : List ℕ) (size : ℕ) (name : List ℕ) where
+  pub find-bad : formed buffer size ≡ false → 16 ≡ (text_refusal buffer size or_else name_refusal name)
+  unfolding text_refusal
+  find-bad e = rw e refl
+
+  pub find-unnamed : formed buffer size ≡ true → good_name name ≡ false → 17 ≡ (text_refusal buffer size or_else name_refusal name)
+  unfolding text_refusal name_refusal
+  find-unnamed e g = rw (e, g) refl
+
+  pub find-good : formed buffer size ≡ true → good_name name ≡ true → 0 ≡ (text_refusal buffer size or_else name_refusal name)
+  unfolding text_refusal name_refusal
+  find-good e g = rw (e, g) refl
+
 -- ---- Lookup
 module _ (buffer : List ℕ) (size : ℕ) (name : List ℕ) where
-  abbrev Looks : Looked → Type 0
+  abbrev Looks : Result Stored Refusal → Type 0
   Looks r = (looked_number r ≡ lookup_refusal buffer size name) × (looked_figures r ≡ lookup_figures buffer size name)
 
-  unfound : (r : ℕ) → lookup_refusal buffer size name ≡ suc r → Looks (Looked.Refused (suc r))
+  unfound : (e : Refusal) → refusal_number e ≡ lookup_refusal buffer size name → Looks (Err e)
   unfolding lookup_figures
-  unfound r e = rw e (refl, refl)
+  unfound e is = go (refusal_number e) refl
+    where
+      go : (r : ℕ) → refusal_number e ≡ r → Looks (Err e)
+      go zero z = absurd (refusal-some e z)
+      go (suc r) z = rw (sym is ∙ z) (z, refl)
 
-  pub looked-bad : formed buffer size ≡ false → Looks (Looked.Refused 16)
-  unfolding lookup_refusal text_refusal
-  looked-bad e = unfound 15 (rw e)
+  -- a text of another form, or a bad name
+  pub looked-unfound : (e : Refusal) → refusal_number e ≡ (text_refusal buffer size or_else name_refusal name) → Looks (Err e)
+  unfolding lookup_refusal
+  looked-unfound e is = unfound e (else-first e is (found_refusal buffer size name) ∙ else-else (text_refusal buffer size) (name_refusal name) _)
 
   module _ (whole : formed buffer size ≡ true) where
-    pub looked-unnamed : good_name name ≡ false → Looks (Looked.Refused 17)
-    unfolding lookup_refusal text_refusal name_refusal
-    looked-unnamed e = unfound 16 (rw (whole, e))
-
-    pub looked-none : good_name name ≡ true → (stored buffer size name).m ≡ 0 → Looks (Looked.Refused 18)
+    pub looked-none : good_name name ≡ true → (stored buffer size name).m ≡ 0 → Looks (Err Refusal.NoSuchName)
     unfolding lookup_refusal text_refusal name_refusal found_refusal
-    looked-none e z = unfound 17 (rw (whole, e, eq-eqb (stored buffer size name).m 0 z))
+    looked-none e z = unfound Refusal.NoSuchName (rw (whole, e, eq-eqb (stored buffer size name).m 0 z))
 
     looked-zero : good_name name ≡ true → ((stored buffer size name).m ≡ 0 → ⊥) → lookup_refusal buffer size name ≡ 0
     unfolding lookup_refusal text_refusal name_refusal found_refusal
@@ -64,9 +86,13 @@ name-short name e =
     (and_l (leb (length name) 16) _ (and_r (leb 1 (length name)) _ (true-is (leb 1 (length name) && (leb (length name) 16 && name_bytes name)) e)))
 
 -- ---- a refusal, of a change, a put or a remove
-refused : (buffer : List ℕ) (size : ℕ) (name : List ℕ) (m w c refusal r : ℕ) → refusal ≡ suc r
-    → ChangeLeaves refusal buffer size name m w c (Changed.Refused (suc r)) buffer
-refused buffer size name m w c refusal r e = rw e (refl, (refl, refl))
+refused : (buffer : List ℕ) (size : ℕ) (name : List ℕ) (m w c refusal : ℕ) (e : Refusal) → refusal_number e ≡ refusal
+    → ChangeLeaves refusal buffer size name m w c (Err e) buffer
+refused buffer size name m w c refusal e is = go (refusal_number e) refl
+  where
+    go : (r : ℕ) → refusal_number e ≡ r → ChangeLeaves refusal buffer size name m w c (Err e) buffer
+    go zero z = absurd (refusal-some e z)
+    go (suc r) z = rw (sym is ∙ z) (z, (refl, refl))
 
 module _ (found : Found) (buffer : List ℕ) (size : ℕ) (name : List ℕ) (p : FoundIn found buffer size name) where
   abbrev cat : Catalogue
@@ -104,7 +130,8 @@ module _ (found : Found) (buffer : List ℕ) (size : ℕ) (name : List ℕ) (p :
       let g = first-grows cat.version cat.floor cat.floor cat.list (cat-version cat (formed-good buffer size p.whole)) (omega arith) in
       (s.order, omega arith, held.held, held.most, rw (first-is, floor-is) g)
 
-  pub looked-place : good_name name ≡ true → (place.m ≡ 0 → ⊥) → Looks buffer size name (Looked.Found place.revision place.m place.w place.c)
+  pub looked-place : good_name name ≡ true → (place.m ≡ 0 → ⊥) → Looks buffer size name
+      (Ok (record { revision = place.revision; m = place.m; w = place.w; c = place.c }))
   unfolding lookup_figures
   looked-place e n =
       let s = spot in
@@ -117,10 +144,10 @@ module _ (found : Found) (buffer : List ℕ) (size : ℕ) (name : List ℕ) (p :
   last-revision = let s = spot in rw (s.revision, floor-is)
 
   pub change-last : (m w c last : ℕ) → last ≡ last_revision cat.floor (stored buffer size name) → last ≡ 65535
-      → ChangeLeaves (change_refusal buffer size name m w c) buffer size name m w c (Changed.Refused 20) buffer
+      → ChangeLeaves (change_refusal buffer size name m w c) buffer size name m w c (Err Refusal.RevisionEnd) buffer
   unfolding change_refusal
   change-last m w c last l e =
-      refused buffer size name m w c (change_refusal buffer size name m w c) 19
+      refused buffer size name m w c (change_refusal buffer size name m w c) Refusal.RevisionEnd
       (rw (eq-eqb (last_revision cat.floor (stored buffer size name)) 65535 (sym l ∙ e)))
 
 -- ---- a change after 20: what is found in the text, and the revision that the next one is counted from
@@ -153,7 +180,7 @@ module _ (found : Found) (buffer : List ℕ) (size : ℕ) (name : List ℕ) (las
   abbrev pub end : ℕ
   end = moved + (length first - found.first)
 
-  abbrev Leaves : Changed → List ℕ → Type 0
+  abbrev Leaves : Result Changed Refusal → List ℕ → Type 0
   Leaves = ChangeLeaves (change_refusal buffer size name m w c) buffer size name m w c
 
   bounds : (found.place.from ≤ found.place.to) × (found.place.to ≤ size) × (size ≤ length buffer) × (size ≤ 4096) × (found.first ≤ length first)
@@ -211,19 +238,20 @@ module _ (found : Found) (buffer : List ℕ) (size : ℕ) (name : List ℕ) (las
   refusal_is =
       rw (ne_eqb (last_revision (catalogue_in buffer size).floor (stored buffer size name)) 65535 (λ z. g.more (g.last-is ∙ z)))
 
-  pub change-long : 4096 < end → Leaves (Changed.Refused 21) buffer
+  pub change-long : 4096 < end → Leaves (Err Refusal.CatalogueFull) buffer
   change-long h =
       let n = new-long in
-      refused buffer size name m w c _ 20 (refusal_is ∙ rw (lt-ltb 4096 (length (changed_text buffer size name m w c)) (omega arith)))
+      refused buffer size name m w c _ Refusal.CatalogueFull
+      (sym (refusal_is ∙ rw (lt-ltb 4096 (length (changed_text buffer size name m w c)) (omega arith))))
 
-  pub change-full : end ≤ 4096 → length buffer < end → Leaves (Changed.Refused 21) buffer
+  pub change-full : end ≤ 4096 → length buffer < end → Leaves (Err Refusal.CatalogueFull) buffer
   change-full h k =
       let n = new-long in
-      refused buffer size name m w c _ 20
-      (refusal_is ∙ rw (
+      refused buffer size name m w c _ Refusal.CatalogueFull
+      (sym (refusal_is ∙ rw (
         le-ltb 4096 (length (changed_text buffer size name m w c)) (omega arith),
         lt-ltb (length buffer) (length (changed_text buffer size name m w c)) (omega arith),
-      ))
+      )))
 
   module _ (h : end ≤ 4096) (k : end ≤ length buffer) where
     pub line-fits : SpliceFits buffer size found.place.from found.place.to line
@@ -257,7 +285,8 @@ module _ (found : Found) (buffer : List ℕ) (size : ℕ) (name : List ℕ) (las
       first-splice-fits =
           rw (← middle-long, first-is found buffer size name g.found_in) (first_fits buffer after standing first lines (e ∙ spliced) grows room)
 
-      pub change-done : (last-buffer : List ℕ) → last-buffer ≡ spliced_in after moved 0 found.first first → Leaves (Changed.Done end (last + 1)) last-buffer
+      pub change-done : (last-buffer : List ℕ) → last-buffer ≡ spliced_in after moved 0 found.first first
+          → Leaves (Ok (record { size = end; revision = last + 1 })) last-buffer
       change-done last-buffer q =
           let s = first_spliced buffer after standing first lines (e ∙ spliced) grows room in
           rw not-refused (
@@ -270,80 +299,71 @@ module _ (found : Found) (buffer : List ℕ) (size : ℕ) (name : List ℕ) (las
 
 -- ---- Put
 module _ (m w c : ℕ) (name : List ℕ) (expected : ℕ) (buffer : List ℕ) (size : ℕ) where
-  abbrev Put : Changed → List ℕ → Type 0
+  abbrev Put : Result Changed Refusal → List ℕ → Type 0
   Put r after =
       (changed_number r ≡ put_refusal m w c name expected buffer size) × ((changed_figures r ≡ put_figures m w c name expected buffer size)
       × (after ≡ put_buffer m w c name expected buffer size))
 
-  answered : (r : ℕ) → put_refusal m w c name expected buffer size ≡ suc r → Put (Changed.Refused (suc r)) buffer
+  answered : (e : Refusal) → refusal_number e ≡ put_refusal m w c name expected buffer size → Put (Err e) buffer
   unfolding put_figures put_buffer
   answered = refused buffer size name m w c (put_refusal m w c name expected buffer size)
 
-  pub put-unsold : (r : ℕ) → r ≡ sale_refusal_in byte_limits m w c → (r ≡ 0 → ⊥) → Put (Changed.Refused r) buffer
+  pub put-unsold : (e : Refusal) → refusal_number e ≡ sale_refusal_in byte_limits m w c → Put (Err e) buffer
   unfolding put_refusal
-  put-unsold zero e n = absurd (n refl)
-  put-unsold (suc r) e n = answered r (rw (← e))
+  put-unsold e is = answered e (else-first e is _)
 
   module _ (sold : sale_refusal_in byte_limits m w c ≡ 0) where
-    pub put-bad : formed buffer size ≡ false → Put (Changed.Refused 16) buffer
-    unfolding put_refusal text_refusal
-    put-bad e = answered 15 (rw (sold, e))
+    pub put-unfound : (e : Refusal) → refusal_number e ≡ (text_refusal buffer size or_else name_refusal name) → Put (Err e) buffer
+    unfolding put_refusal
+    put-unfound e is = answered e (rw sold (else-first e is _ ∙ else-else (text_refusal buffer size) (name_refusal name) _))
 
     module _ (whole : formed buffer size ≡ true) where
-      pub put-unnamed : good_name name ≡ false → Put (Changed.Refused 17) buffer
-      unfolding put_refusal text_refusal name_refusal
-      put-unnamed e = answered 16 (rw (sold, whole, e))
-
       module _ (good : good_name name ≡ true) where
-        pub put_other : (found_revision (stored buffer size name) ≡ expected → ⊥) → Put (Changed.Refused 19) buffer
+        pub put_other : (found_revision (stored buffer size name) ≡ expected → ⊥) → Put (Err Refusal.Revision) buffer
         unfolding put_refusal text_refusal name_refusal expected_refusal
-        put_other n = answered 18 (rw (sold, whole, good, ne_eqb (found_revision (stored buffer size name)) expected n))
+        put_other n = answered Refusal.Revision (rw (sold, whole, good, ne_eqb (found_revision (stored buffer size name)) expected n))
 
-        pub put-change : found_revision (stored buffer size name) ≡ expected → (r : Changed) (after : List ℕ)
+        pub put-change : found_revision (stored buffer size name) ≡ expected → (r : Result Changed Refusal) (after : List ℕ)
             → ChangeLeaves (change_refusal buffer size name m w c) buffer size name m w c r after → Put r after
         unfolding put_figures put_buffer put_refusal text_refusal name_refusal expected_refusal
         put-change e r after h = rw (sold, whole, good, eq-eqb (found_revision (stored buffer size name)) expected e) h
 
 -- ---- Remove
 module _ (name : List ℕ) (expected : ℕ) (buffer : List ℕ) (size : ℕ) where
-  abbrev Removed : Changed → List ℕ → Type 0
+  abbrev Removed : Result Changed Refusal → List ℕ → Type 0
   Removed r after =
       (changed_number r ≡ remove_refusal name expected buffer size) × ((changed_figures r ≡ remove_figures name expected buffer size)
       × (after ≡ remove_buffer name expected buffer size))
 
-  told : (r : ℕ) → remove_refusal name expected buffer size ≡ suc r → Removed (Changed.Refused (suc r)) buffer
+  told : (e : Refusal) → refusal_number e ≡ remove_refusal name expected buffer size → Removed (Err e) buffer
   unfolding remove_figures remove_buffer
   told = refused buffer size name 0 0 0 (remove_refusal name expected buffer size)
 
-  pub remove-bad : formed buffer size ≡ false → Removed (Changed.Refused 16) buffer
-  unfolding remove_refusal text_refusal
-  remove-bad e = told 15 (rw e)
+  pub remove-unfound : (e : Refusal) → refusal_number e ≡ (text_refusal buffer size or_else name_refusal name) → Removed (Err e) buffer
+  unfolding remove_refusal
+  remove-unfound e is = told e (else-first e is _ ∙ else-else (text_refusal buffer size) (name_refusal name) _)
 
   module _ (whole : formed buffer size ≡ true) where
-    pub remove-unnamed : good_name name ≡ false → Removed (Changed.Refused 17) buffer
-    unfolding remove_refusal text_refusal name_refusal
-    remove-unnamed e = told 16 (rw (whole, e))
-
     module _ (good : good_name name ≡ true) where
-      pub remove-none : (stored buffer size name).m ≡ 0 → Removed (Changed.Refused 18) buffer
+      pub remove-none : (stored buffer size name).m ≡ 0 → Removed (Err Refusal.NoSuchName) buffer
       unfolding remove_refusal text_refusal name_refusal found_refusal
-      remove-none z = told 17 (rw (whole, good, eq-eqb (stored buffer size name).m 0 z))
+      remove-none z = told Refusal.NoSuchName (rw (whole, good, eq-eqb (stored buffer size name).m 0 z))
 
       module _ (there : (stored buffer size name).m ≡ 0 → ⊥) where
         revision-is : found_revision (stored buffer size name) ≡ (stored buffer size name).revision
         revision-is = rw (ne_eqb (stored buffer size name).m 0 there)
 
-        pub remove-other : ((stored buffer size name).revision ≡ expected → ⊥) → Removed (Changed.Refused 19) buffer
+        pub remove-other : ((stored buffer size name).revision ≡ expected → ⊥) → Removed (Err Refusal.Revision) buffer
         unfolding remove_refusal text_refusal name_refusal found_refusal expected_refusal
         remove-other n =
-            told 18 (rw (
+            told Refusal.Revision (rw (
               whole,
               good,
               ne_eqb (found_revision (stored buffer size name)) expected (λ z. n (sym revision-is ∙ z)),
               ne_eqb (stored buffer size name).m 0 there,
             ))
 
-        pub remove-change : (stored buffer size name).revision ≡ expected → (r : Changed) (after : List ℕ)
+        pub remove-change : (stored buffer size name).revision ≡ expected → (r : Result Changed Refusal) (after : List ℕ)
             → ChangeLeaves (change_refusal buffer size name 0 0 0) buffer size name 0 0 0 r after → Removed r after
         unfolding remove_figures remove_buffer remove_refusal text_refusal name_refusal found_refusal expected_refusal
         remove-change e r after h =

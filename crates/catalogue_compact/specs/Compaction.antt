@@ -1,10 +1,11 @@
 -- Compaction: "drops all gone lines and gives their room back".
-use Rattle.std.specs.Prelude.{not, List, [], ◌∷◌, ℕ, ◌-◌, ◌≤◌, length, take, drop, ◌≡◌, T}
+use Rattle.std.specs.Prelude.{not, List, [], ◌∷◌, ℕ, ◌-◌, ◌≤◌, length, take, drop, ◌≡◌, T, Result, Ok, Err}
+use Rattle.answers.specs.declared.Refusal.{Refusal}
+use Rattle.answers.specs.Answers.{refused_number}
 use Rattle.code.specs.Refusals.{refuse, unless_refused}
 use Rattle.catalogue_text.specs.Catalogue.{catalogue_text, Entry, good_list, lines_of}
 use Rattle.catalogue_text.specs.Changes.{compacted}
 use Rattle.catalogue_text.specs.Buffers.{formed, catalogue_in, with_text}
-use Rattle.catalogue_compact.specs.declared.Compacted.{Compacted}
 
 -- "Compaction is refused by 16 alone"
 unfoldable pub compact_refusal : List ℕ → ℕ → ℕ
@@ -23,14 +24,13 @@ unfoldable pub compact_buffer : List ℕ → ℕ → List ℕ
 compact_buffer buffer size = unless_refused (compact_refusal buffer size) (with_text (compacted_text buffer size) buffer) buffer
 
 -- the number of an answer, 0 for done
-abbrev pub compacted_number : Compacted → ℕ
-compacted_number (Compacted.Done size) = 0
-compacted_number (Compacted.Refused r) = r
+abbrev pub compacted_number : Result ℕ Refusal → ℕ
+compacted_number = refused_number
 
 -- the figure of an answer: the text's length, none on a refusal
-abbrev pub compacted_figures : Compacted → List ℕ
-compacted_figures (Compacted.Done size) = size ∷ []
-compacted_figures (Compacted.Refused r) = []
+abbrev pub compacted_figures : Result ℕ Refusal → List ℕ
+compacted_figures (Ok size) = size ∷ []
+compacted_figures (Err e) = []
 
 -- the lines of a list stand from a place to the end of a text
 pub record LinesAt (buffer : List ℕ) (size first : ℕ) (list : List Entry) : Type 0 where

@@ -1,5 +1,6 @@
 -- Gone lines dropped one line at a time, and the first line after that.
-use Rattle.std.specs.Prelude.{◌≡◌, ◌⊎◌, Bool, false, cond, not, ◌&&◌, T, eqb, get_or, drop}
+use Rattle.std.specs.Prelude.{◌≡◌, ◌⊎◌, Bool, false, cond, not, ◌&&◌, T, eqb, get_or, drop, Result, Ok, Err, Option, Some}
+use Rattle.std.specs.Option.{IsSome}
 use Rattle.std.proofs.Math.Path.{refl, sym, ap, ap₂}
 use Rattle.std.proofs.Common.{◌∙◌, subst, inl, inr, true≢false, length-drop, length-take-le, take-take, drop_at, drop-drop}
 use Rattle.std.proofs.Math.Bool.{true}
@@ -33,7 +34,7 @@ use Rattle.catalogue_scan.specs.declared.Found.{Found}
 use Rattle.catalogue_scan.specs.Places.{found_in, FoundIn}
 use Rattle.catalogue_lines.specs.Splice.{SpliceFits, spliced_in}
 use Rattle.catalogue_lines.specs.SpliceLaws.{first_fits, first_spliced, drop-take}
-use Rattle.catalogue_compact.specs.declared.Compacted.{Compacted}
+use Rattle.answers.specs.declared.Refusal.{Refusal}
 use Rattle.catalogue_compact.specs.Compaction.{compact_refusal, compacted_text, compact_figures, compact_buffer, compacted_number, compacted_figures, LinesAt}
 
 -- what stands behind bytes that were written
@@ -99,7 +100,7 @@ up-to : (e : Entry) → EntryGood e → (xs : List ℕ) → up_to 10 (body_of e 
 unfolding up_to
 up-to e g xs = ap (λ ps. get_or ps 0 []) (sym (parts-split 10 (body_of e ++ (10 ∷ xs))) ∙ parts-front 10 (body_of e) (10 ∷ xs) (body-one e g) refl)
 
-read_is : (e : Entry) → EntryGood e → T (good_entry e) → read_line (body_of e) ≡ as_line e
+read_is : (e : Entry) → EntryGood e → T (good_entry e) → read_line (body_of e) ≡ Some (as_line e)
 unfolding read_line
 read_is e g t = rw (is_true (line_good (body_of e)) (body-good e g t), body-read e g)
 
@@ -203,8 +204,14 @@ module _ (start : List ℕ) (size first : ℕ) (list : List Entry) (buffer : Lis
           let b = body-long in
           front (end - at) (body_of e) (10 ∷ lines_of more) refl (omega arith) (omega arith)
 
-      pub read-line : (line : Line) → line ≡ read_line (take (end - at) (drop at buffer)) → line.m ≡ e.m
-      read-line line q = ap (λ (l : Line). l.m) (q ∙ ap read_line line-is ∙ read_is e good goods.0)
+      pub is-read : read_line (take (end - at) (drop at buffer)) ≡ Some (as_line e)
+      is-read = ap read_line line-is ∙ read_is e good goods.0
+
+      pub read-line : (line : Line) → read_line (take (end - at) (drop at buffer)) ≡ Some line → line.m ≡ e.m
+      read-line line q =
+          let k : ◌≡◌ {A = Option Line} (Some (as_line e)) (Some line) = sym is-read ∙ q in
+          let i : as_line e ≡ line = cc in
+          sym (ap (λ (l : Line). l.m) i)
 
       whole-line : take (end + 1 - at) (drop at buffer) ≡ entry_line e
       whole-line =
@@ -289,7 +296,11 @@ module _ (start : List ℕ) (size first : ℕ) (list : List Entry) (buffer : Lis
         let h = d.held in
         (end-inside some.0 some.1 some.2 end en, omega arith, omega arith)
 
-    pub turn : (line : Line) → line ≡ read_line (take (end - at) (drop at buffer)) → (after : List ℕ) (next : ℕ)
+    -- the line can be read
+    pub turn_some : IsSome (read_line (take (end - at) (drop at buffer)))
+    turn_some = rw (is-read some.0 some.1 some.2 end en) refl
+
+    pub turn : (line : Line) → read_line (take (end - at) (drop at buffer)) ≡ Some line → (after : List ℕ) (next : ℕ)
         → next ≡ cond (eqb line.m 0) to (to + (end + 1 - at))
         → after ≡ cond (eqb line.m 0) buffer (written buffer to (take (end + 1 - at) (drop at buffer)))
         → Dropping start size first list after (end + 1) next
@@ -348,17 +359,17 @@ first-least version floor list t = go (versions version floor list t)
 
 -- ---- Compaction
 module _ (buffer : List ℕ) (size : ℕ) where
-  abbrev Compact : Compacted → List ℕ → Type 0
+  abbrev Compact : Result ℕ Refusal → List ℕ → Type 0
   Compact r after =
       (compacted_number r ≡ compact_refusal buffer size) × ((compacted_figures r ≡ compact_figures buffer size) × (after ≡ compact_buffer buffer size))
 
-  pub compact-bad : formed buffer size ≡ false → Compact (Compacted.Refused 16) buffer
+  pub compact-bad : formed buffer size ≡ false → Compact (Err Refusal.CatalogueText) buffer
   unfolding compact_figures compact_buffer compact_refusal
   compact-bad e = rw e (refl, (refl, refl))
 
   compact-new : formed buffer size ≡ true → (n : ℕ) → n ≡ length (compacted_text buffer size) → (after : List ℕ)
       → after ≡ with_text (compacted_text buffer size) buffer
-      → Compact (Compacted.Done n) after
+      → Compact (Ok n) after
   unfolding compact_figures compact_buffer compact_refusal
   compact-new e n p after q = rw e (refl, (ap (λ x. x ∷ []) p, q))
 
@@ -368,7 +379,7 @@ pub record Compacts (found : Found) (buffer : List ℕ) (size floor end : ℕ) (
   pub most : end - found.first + length (first_line 2 floor) ≤ 4096
   pub fits : SpliceFits after end 0 found.first (first_line 2 floor)
   pub done : (last : List ℕ) → last ≡ spliced_in after end 0 found.first (first_line 2 floor)
-      → Compact buffer size (Compacted.Done (end - found.first + length (first_line 2 floor))) last
+      → Compact buffer size (Ok (end - found.first + length (first_line 2 floor))) last
 
 module _ (found : Found) (buffer : List ℕ) (size : ℕ) (name : List ℕ) (p : FoundIn found buffer size name) where
   abbrev cat : Catalogue
@@ -417,7 +428,7 @@ module _ (found : Found) (buffer : List ℕ) (size : ℕ) (name : List ℕ) (p :
   none-text z = let n : none_gone cat.list ≡ true = none_is ∙ eq-eqb found.top 0 z in rw n
 
   -- with no gone line
-  pub compact-none : found.top ≡ 0 → Compact buffer size (Compacted.Done size) buffer
+  pub compact-none : found.top ≡ 0 → Compact buffer size (Ok size) buffer
   compact-none z =
       let c = none-text z in
       compact-new buffer size p.whole size (sym (formed-long buffer size p.whole) ∙ ap length (sym c)) buffer

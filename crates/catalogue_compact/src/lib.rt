@@ -10,14 +10,7 @@ ghost use Rattle.catalogue_text.specs.Buffers.{catalogue_in};
 ghost use Rattle.catalogue_scan.specs.Places.{FoundIn};
 ghost use Rattle.catalogue_compact.specs.Compaction.{compact_refusal, compact_figures, compact_buffer, compacted_number, compacted_figures, LinesAt};
 
-use catalogue_scan::{Found, Scanned};
-
-// The text's length, or the number of a refusal.
-#[derive(Clone, Copy)]
-pub enum Compacted {
-    Done(usize),
-    Refused(u8),
-}
+use answers::Refusal;
 
 // Moves a line down to its new place, unless its name is gone, and gives the place after it.
 fn keep_line(buffer: &mut [u8], at: usize, next: usize, to: usize, m: u8) -> usize
@@ -40,43 +33,30 @@ fn drop_gone(buffer: &mut [u8], size: usize, first: usize) -> usize
 {
     let mut at = first;
     let mut to = first;
+    // A while loop: the step is a line's length, which the loop finds in the buffer that it changes.
     while at < size {
         let end = text::part_end(&buffer[..size], at, b'\n');
-        let line = catalogue_lines::read_line(&buffer[at..end]);
+        let line = catalogue_lines::read_line(&buffer[at..end]).unwrap();
         to = keep_line(buffer, at, end + 1, to, line.m);
         at = end + 1;
     }
     to
 }
 
-// The larger of two revisions.
-fn larger(a: u16, b: u16) -> u16
-    ensures { result ≡ max a b }
-{
-    if a < b {
-        return b;
-    }
-    a
-}
-
-// The service Compact.
-pub fn compact(buffer: &mut [u8], size: usize) -> Compacted
+// The service Compact. It answers the text's length.
+pub fn compact(buffer: &mut [u8], size: usize) -> Result<usize, Refusal>
     ensures number { compacted_number result ≡ compact_refusal buffer.old size }
     ensures figures { compacted_figures result ≡ compact_figures buffer.old size }
     ensures buffer { buffer.new ≡ compact_buffer buffer.old size }
 {
-    match catalogue_scan::scan_buffer(buffer, size, b"") {
-        Scanned::Bad => Compacted::Refused(16),
-        Scanned::At(found) => {
-            if found.top == 0 {
-                return Compacted::Done(size);
-            }
-            let end = drop_gone(buffer, size, found.first);
-            let row = catalogue_lines::first_line(larger(found.floor, found.top));
-            let n = row.length;
-            let line = row.bytes;
-            catalogue_lines::splice(buffer, end, 0, found.first, &line[..n]);
-            Compacted::Done(end - found.first + n)
-        }
+    let found = catalogue_scan::scan_buffer(buffer, size, b"").ok_or(Refusal::CatalogueText)?;
+    if found.top == 0 {
+        return Ok(size);
     }
+    let end = drop_gone(buffer, size, found.first);
+    let row = catalogue_lines::first_line(found.floor.max(found.top));
+    let n = row.length;
+    let line = row.bytes;
+    catalogue_lines::splice(buffer, end, 0, found.first, &line[..n]);
+    Ok(end - found.first + n)
 }

@@ -1,6 +1,6 @@
 -- What put, remove and compaction leave, in the words of the requests, of the definitions that the contracts cite.
 use Rattle.std.specs.Prelude.{◌≡◌, true, cond, List, [], ◌∷◌, ℕ, eqb, length, take, drop}
-use Rattle.catalogue_text.specs.Catalogue.{Catalogue, none_gone}
+use Rattle.catalogue_text.specs.Catalogue.{none_gone}
 use Rattle.catalogue_text.specs.Changes.{changed_by, compacted}
 use Rattle.catalogue_text.specs.Buffers.{formed, catalogue_in}
 use Rattle.catalogue_calls.specs.Calls.{lookup_refusal, lookup_figures, changed_entry, changed_text, change_figures}

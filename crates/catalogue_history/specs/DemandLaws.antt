@@ -1,9 +1,9 @@
 -- Proof: what put, remove and compaction leave.
-use Rattle.std.specs.Prelude.{◌≡◌, ◌⊎◌, Bool, cond, not, ◌||◌, ◌&&◌, List, [], ◌∷◌, ◌++◌, ℕ, zero, suc, ◌+◌, ◌-◌, ◌≤◌, ◌<◌, max, T, eqb, leb, ltb, take, drop}
+use Rattle.std.specs.Prelude.{◌≡◌, ◌⊎◌, Bool, cond, ◌||◌, ◌&&◌, List, [], ◌∷◌, ℕ, zero, suc, ◌+◌, ◌≤◌, max, T, eqb, take, drop}
 use Rattle.std.proofs.Math.Path.{refl, ap}
-use Rattle.std.proofs.Common.{sym, ap₂, ◌∙◌, subst, inl, inr, true≢false, arith}
+use Rattle.std.proofs.Common.{sym, ◌∙◌, subst, inl, inr, true≢false, arith}
 use Rattle.std.proofs.Math.Bool.{true, false}
-use borrow.Author.Tests.{eqb-false, ltb-false, not-false, le-leb, eq-eqb, ne_eqb, eqb-true}
+use borrow.Author.Tests.{eqb-false, ltb-false, not-false, le-leb}
 use Rattle.std.proofs.Math.ListN.{length}
 use Rattle.counting.specs.TestLaws.{and_l, and_r, and_intro}
 use Rattle.code.specs.Refusals.{refuse, ◌or_else◌, unless_refused}
@@ -14,12 +14,12 @@ use Rattle.code.specs.Limits.{sale_refusal_in}
 use Rattle.text.specs.Fields.{same}
 use Rattle.text.specs.FieldLaws.{same-eq}
 use Rattle.catalogue_text.specs.Names.{good_name, before}
-use Rattle.catalogue_text.specs.NamesLaws.{is_true, true-is, name-first}
+use Rattle.catalogue_text.specs.NamesLaws.{true-is, name-first}
 use Rattle.catalogue_text.specs.Catalogue.{Entry, is_gone, shape_or_gone, good_entry, good_from, good_list, none_gone, Catalogue, good_version, good_catalogue}
 use Rattle.catalogue_text.specs.Catalogue.{catalogue_text}
 use Rattle.catalogue_text.specs.LineLaws.{entry-good, good-entry, shape-numbers, gone-numbers}
 use Rattle.catalogue_text.specs.CatalogueLaws.{cat-list, cat-version, versions, version-two}
-use Rattle.catalogue_text.specs.Changes.{entry_for, entry_in, put_in, found_revision, last_revision, next_entry, changed_by, without_gone, largest_gone, compacted}
+use Rattle.catalogue_text.specs.Changes.{entry_for, entry_in, put_in, last_revision, next_entry, changed_by, without_gone, largest_gone, compacted}
 use Rattle.catalogue_text.proofs.ChangesLaws.{put-found, put-others, put-good, kept-good, kept_entry, largest-most, largest-holds}
 use Rattle.catalogue_text.specs.Buffers.{formed, catalogue_in, with_text}
 use Rattle.catalogue_text.specs.BuffersLaws.{formed-parts, formed-good, formed-long, with-same, with-front, with-past, with-length, with_read, with-formed}

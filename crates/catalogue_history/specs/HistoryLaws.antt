@@ -1,27 +1,26 @@
 -- Proof: a name with a revision never stands for two shapes.
-use Rattle.std.specs.Prelude.{◌≡◌, ◌⊎◌, Bool, true, false, cond, ◌&&◌, List, [], ◌∷◌, ◌++◌, ℕ, zero, suc, ◌+◌, ◌≤◌, ◌<◌, length, get_or, take, T, eqb}
+use Rattle.std.specs.Prelude.{◌≡◌, ◌⊎◌, Bool, true, false, cond, ◌&&◌, List, [], ◌∷◌, ◌++◌, ℕ, zero, suc, ◌+◌, ◌≤◌, length, get_or, take, T}
 use Rattle.std.proofs.Math.Path.{refl}
-use Rattle.std.proofs.Common.{sym, ap, ap₂, ◌∙◌, subst, inl, inr, true≢false, arith, eq-eqb, ne_eqb, eqb-true, le-leb, length-append, take_at, length-take-le}
+use Rattle.std.proofs.Common.{sym, ap, ap₂, ◌∙◌, subst, inl, inr, true≢false, arith, eq-eqb, ne_eqb, le-leb, length-append, take_at, length-take-le}
 use Rattle.std.proofs.Math.Decide.{ℕ_discrete}
-use Rattle.std.proofs.lemmas.Bool.{eqb-false}
 use Rattle.counting.specs.TestLaws.{and_l, and_r}
-use Rattle.code.specs.Refusals.{refuse, ◌or_else◌, unless_refused}
+use Rattle.code.specs.Refusals.{unless_refused}
 use Rattle.code.specs.RefusalsLaws.{refuse-zero, or_else-zero}
 use Rattle.text.specs.Fields.{same}
 use Rattle.text.specs.FieldLaws.{same-eq}
-use Rattle.catalogue_text.specs.Names.{before, good_name}
+use Rattle.catalogue_text.specs.Names.{before}
 use Rattle.catalogue_text.specs.NamesLaws.{is_true, same_refl, before-only, before-trans, same-sym}
 use Rattle.catalogue_text.specs.Catalogue.{Entry, is_gone, good_entry, good_from, good_list, Catalogue, good_catalogue, catalogue_of, of_form}
 use Rattle.catalogue_text.specs.LineLaws.{entry-good}
 use Rattle.catalogue_text.specs.CatalogueLaws.{cat-list}
-use Rattle.catalogue_text.specs.Changes.{entry_for, entry_in, put_in, last_revision, next_entry, changed_by, compacted}
+use Rattle.catalogue_text.specs.Changes.{entry_for, entry_in, last_revision, next_entry, changed_by, compacted}
 use Rattle.catalogue_text.proofs.ChangesLaws.{put-found, put-others, compacted-floor}
 use Rattle.catalogue_text.specs.Buffers.{formed, catalogue_in}
 use Rattle.catalogue_text.specs.BuffersLaws.{formed-good, formed-parts}
 use Rattle.catalogue_calls.specs.Calls.{text_refusal, name_refusal, found_refusal, stored, lookup_refusal, entry_figures, lookup_figures, put_refusal, put_figures}
 use Rattle.catalogue_calls.specs.Calls.{put_buffer, remove_refusal, remove_figures, remove_buffer}
 use Rattle.catalogue_compact.specs.Compaction.{compact_figures, compact_buffer}
-use Rattle.catalogue_history.specs.Demand.{ChangeDone, ChangeRefused, CompactDone}
+use Rattle.catalogue_history.specs.Demand.{ChangeDone, ChangeRefused}
 use Rattle.catalogue_history.specs.DemandLaws.{compacted-entry, last-most, put-done, put_refused, remove-done, remove-refused}
 use Rattle.catalogue_history.specs.DemandLaws.{compact-done}
 use Rattle.catalogue_history.specs.History.{Lent, CatalogueCall, put, remove, compact, lookup, lend, after_call, after_calls}

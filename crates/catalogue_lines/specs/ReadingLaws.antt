@@ -1,5 +1,5 @@
 -- A line by its fields, one after the other.
-use Rattle.std.specs.Prelude.{◌≡◌, ◌⊎◌, Bool, cond, ◌&&◌, ℕ, ◌+◌, ◌≤◌, ◌<◌, eqb, leb, get_or, take}
+use Rattle.std.specs.Prelude.{◌≡◌, ◌⊎◌, Bool, cond, Option, Some, None, ◌&&◌, ℕ, ◌+◌, ◌≤◌, ◌<◌, eqb, leb, get_or, take}
 use Rattle.std.proofs.Math.Path.{refl, ap}
 use Rattle.std.proofs.Common.{sym, ◌∙◌, subst, inl, inr, zero-add}
 use Rattle.std.proofs.Math.Bool.{true, false, false≢true}
@@ -23,7 +23,8 @@ use Rattle.catalogue_text.specs.Catalogue.{Entry, good_shape, good_entry, gone_n
 use Rattle.catalogue_text.specs.LineLaws.{gone-numbers}
 use Rattle.catalogue_text.specs.CatalogueLaws.{good_shaped, shaped_line, line_good, read_name}
 use Rattle.catalogue_lines.specs.declared.Field.{Field}
-use Rattle.catalogue_lines.specs.Reading.{unread, as_line, read_line, field_after, numbers_good, line_if, gone_after, gone_if}
+use Rattle.catalogue_lines.specs.declared.Line.{Line}
+use Rattle.catalogue_lines.specs.Reading.{as_line, read_line, field_after, numbers_good, line_if, gone_after, gone_if}
 
 -- the numbers of the fields after a place
 unfoldable pub numbers_from : ℕ → List ℕ → List ℕ
@@ -254,23 +255,24 @@ module _ (line : List ℕ) where
       tests = rw (le-leb (length line) fourth.end l, t)
 
       go : (b : Bool) → numbers ≡ b → line_good line ≡ numbers → (T numbers → entry_of line ≡ as_read)
-          → cond (line_good line) (as_line (entry_of line)) unread
-          ≡ cond numbers (record { size = end_of 9 0 line; revision = first.value; m = second.value; w = third.value; c = fourth.value }) unread
+          → cond (line_good line) (Some (as_line (entry_of line))) None
+          ≡ cond {A = Option Line} numbers
+          (Some (record { size = end_of 9 0 line; revision = first.value; m = second.value; w = third.value; c = fourth.value })) None
       go true e g r = rw (g, r (subst T (sym e) tt), e, name-size)
       go false e g r = rw (g, e)
 
-  pub line-unnamed : good_name (line_name line) ≡ false → read_line line ≡ unread
+  pub line-unnamed : good_name (line_name line) ≡ false → read_line line ≡ None
   unfolding read_line line_good good_entry
   line-unnamed e = go (says_gone line)
     where
       shaped : shaped_line line ≡ false
       shaped = fields_read.0 ∙ rw (e, and_none (leb (length line) fourth.end))
 
-      go : (b : Bool) → cond (cond b (good_entry (entry_of line)) (shaped_line line)) (as_line (entry_of line)) unread ≡ unread
+      go : (b : Bool) → cond (cond b (good_entry (entry_of line)) (shaped_line line)) (Some (as_line (entry_of line))) None ≡ None
       go true = rw (read_name line, e)
       go false = rw shaped
 
-  pub line-longer : says_gone line ≡ false → fourth.end < length line → read_line line ≡ unread
+  pub line-longer : says_gone line ≡ false → fourth.end < length line → read_line line ≡ None
   unfolding read_line
   line-longer s l =
       let n : line_good line ≡ false = (entry-shaped s).0 ∙ fields_read.0 ∙ rw (lt-leb (length line) fourth.end l) in
@@ -299,7 +301,7 @@ module _ (line : List ℕ) (size : ℕ) (f₁ : Field) (s : size ≡ end_of 9 0 
     four_is = e₄ ∙ ap (λ (f : Field). field_after f.end line) three
 
     pub read-rest : good_name (line_name line) ≡ true
-        → (f₄.end < length line → read_line line ≡ unread)
+        → (f₄.end < length line → read_line line ≡ None)
         × (length line ≤ f₄.end → read_line line ≡ line_if size f₁.value f₂.value f₃.value f₄.value)
     read-rest g = (
       (λ l. line-longer line (sym says ∙ shaped) (subst (λ (f : Field). f.end < length line) four_is l)),

@@ -4,17 +4,17 @@
 
 ghost use Rattle.std.specs.Prelude.{◌≡◌, ◌≤◌, ◌+◌, ◌-◌, ◌<◌, length, take, drop, [], ◌∷◌, ◌++◌};
 ghost use Rattle.catalogue_text.specs.Names.{name_byte, good_name, before};
-ghost use Rattle.catalogue_lines.specs.Reading.{read_line, field_after, line_if, gone_after, gone_if, unread};
+ghost use Rattle.catalogue_lines.specs.Reading.{read_line, field_after, line_if, gone_after, gone_if};
 ghost use Rattle.text.specs.Decimal.{digits_of};
 ghost use Rattle.text.specs.Lines.{cells_of, line_with};
 ghost use Rattle.text.specs.Written.{written};
 ghost use Rattle.catalogue_text.specs.Catalogue.{Entry, first_line, entry_line};
 ghost use Rattle.catalogue_lines.specs.Splice.{SpliceFits, spliced_in, HoldsRow};
 
-use shape::{Made, Shape};
+use shape::Shape;
 
-// A line as it is read: the length of its name, 0 for a line that can't be read; its revision and its shape, zeros if the name is gone.
-#[derive(Clone, Copy)]
+// A line as it is read: the length of its name, its revision and its shape, zeros if the name is gone.
+#[derive(Clone, Copy, Debug, PartialEq, Eq)]
 pub struct Line {
     pub size: usize,
     pub revision: u16,
@@ -34,50 +34,24 @@ struct Field {
 fn is_name_byte(x: u8) -> bool
     ensures { result ≡ name_byte x }
 {
-    if b'a' <= x {
-        return x <= b'z';
-    }
-    if b'0' <= x {
-        return x <= b'9';
-    }
-    x == b'-'
+    x.is_ascii_lowercase() || x.is_ascii_digit() || x == b'-'
 }
 
 // Whether a name is 1 to 16 such bytes.
 pub fn is_name(name: &[u8]) -> bool
     ensures { result ≡ good_name name.now }
 {
-    if name.len() == 0 {
+    if name.is_empty() || 16 < name.len() {
         return false;
     }
-    if 16 < name.len() {
-        return false;
-    }
-    let mut i: usize = 0;
-    while i < name.len() {
-        if !is_name_byte(name[i]) {
-            return false;
-        }
-        i += 1;
-    }
-    true
+    name.iter().all(|x| is_name_byte(*x))
 }
 
 // Whether a name stands before another in byte order.
 pub fn is_before(name: &[u8], other: &[u8]) -> bool
     ensures { result ≡ before name.now other.now }
 {
-    let mut i: usize = 0;
-    while i < name.len() {
-        if other.len() <= i {
-            return false;
-        }
-        if name[i] != other[i] {
-            return name[i] < other[i];
-        }
-        i += 1;
-    }
-    i < other.len()
+    name < other
 }
 
 // The number after the tab at a place, and the end of its field.
@@ -99,38 +73,25 @@ fn field_after(line: &[u8], at: usize) -> Field
     }
 }
 
-// A line that can't be read.
-fn unread() -> Line
-    ensures { result ≡ unread }
-{
-    Line {
-        size: 0,
-        revision: 0,
-        m: 0,
-        w: 0,
-        c: 0,
-    }
-}
-
 // The line of these numbers, if they are good.
-fn line_if(size: usize, revision: usize, m: usize, w: usize, c: usize) -> Line
+fn line_if(size: usize, revision: usize, m: usize, w: usize, c: usize) -> Option<Line>
     ensures { result ≡ line_if size revision m w c }
 {
+    let Ok(revision) = u16::try_from(revision) else {
+        return None;
+    };
     if revision == 0 {
-        return unread();
-    }
-    if 65535 < revision {
-        return unread();
+        return None;
     }
     match Shape::new(m, w, c) {
-        Made::Refused(r) => unread(),
-        Made::Good(s) => Line {
+        Err(_) => None,
+        Ok(s) => Some(Line {
             size,
-            revision: revision as u16,
+            revision,
             m: s.m,
             w: s.w,
             c: s.c,
-        },
+        }),
     }
 }
 
@@ -146,31 +107,31 @@ fn is_gone(line: &[u8], at: usize) -> bool
 }
 
 // The line of a name that is gone, if its revision is good.
-fn gone_if(size: usize, revision: usize) -> Line
+fn gone_if(size: usize, revision: usize) -> Option<Line>
     ensures { result ≡ gone_if size revision }
 {
+    let Ok(revision) = u16::try_from(revision) else {
+        return None;
+    };
     if revision == 0 {
-        return unread();
+        return None;
     }
-    if 65535 < revision {
-        return unread();
-    }
-    Line {
+    Some(Line {
         size,
-        revision: revision as u16,
+        revision,
         m: 0,
         w: 0,
         c: 0,
-    }
+    })
 }
 
-// What a line, without its line feed, is read as.
-pub fn read_line(line: &[u8]) -> Line
+// What a line, without its line feed, is read as, if it can be read.
+pub fn read_line(line: &[u8]) -> Option<Line>
     ensures { result ≡ read_line line.now }
 {
     let size = text::part_end(line, 0, b'\t');
     if !is_name(&line[..size]) {
-        return unread();
+        return None;
     }
     let revision = field_after(line, size);
     if is_gone(line, revision.end) {
@@ -180,7 +141,7 @@ pub fn read_line(line: &[u8]) -> Line
     let w = field_after(line, m.end);
     let c = field_after(line, w.end);
     if c.end < line.len() {
-        return unread();
+        return None;
     }
     line_if(size, revision.value, m.value, w.value, c.value)
 }
@@ -197,10 +158,8 @@ pub fn move_down(buffer: &mut [u8], from: usize, end: usize, to: usize)
     requires { (to ≤ from) × (from ≤ end) × (end ≤ length buffer.old) }
     ensures { buffer.new ≡ written buffer.old to (take (end - from) (drop from buffer.old)) }
 {
-    let mut i = from;
-    while i < end {
+    for i in from..end {
         buffer[to + (i - from)] = buffer[i];
-        i += 1;
     }
 }
 
@@ -209,12 +168,8 @@ fn move_up(buffer: &mut [u8], from: usize, end: usize, to: usize)
     requires { (from ≤ to) × (from ≤ end) × (to + (end - from) ≤ length buffer.old) }
     ensures { buffer.new ≡ written buffer.old to (take (end - from) (drop from buffer.old)) }
 {
-    let mut i = end;
-    let mut j = to + (end - from);
-    while from < i {
-        i -= 1;
-        j -= 1;
-        buffer[j] = buffer[i];
+    for i in (from..end).rev() {
+        buffer[to + (i - from)] = buffer[i];
     }
 }
 

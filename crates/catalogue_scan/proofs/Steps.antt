@@ -4,23 +4,22 @@ use mathlib.Core.Bool.{true, false}
 use mathlib.Core.List.{List, [], ◌∷◌}
 use Prim.Native.Nat.{ℕ, ◌+◌, ◌-◌, ◌≤◌, ◌<◌}
 use native.Mathlib.Omega.{arith}
-use borrow.Author.Tests.{eq-eqb, ne_eqb, le-leb, lt-leb}
-use lib.Dec.{T}
-use lib.ListN.{length, take, drop, length-drop, length-take}
-use lib.Seq.{take_all}
+use borrow.Author.Tests.{le-leb, lt-leb}
+use lib.Dec.{T, eqb}
+use lib.Pointwise.{pointwise}
+use Rattle.std.specs.Prelude.{Some, None}
+use lib.ListN.{length, take, drop}
 use Rattle.text.specs.Decimal.{digits_of, number_of}
 use Rattle.text.specs.Fields.{same, up_to, end_of}
 use Rattle.text.specs.Lines.{cells_of}
-use Rattle.text.specs.FieldLaws.{part-taken, same-eq, other_length}
+use Rattle.text.specs.FieldLaws.{part-taken, same-eq, same-is}
 use Rattle.catalogue_text.specs.Catalogue.{Entry, entry_of, is_one, floor_of}
 use Rattle.catalogue_text.specs.CatalogueLaws.{line_right, read_name, two_name, head_right}
 use Rattle.catalogue_lines.specs.declared.Line.{Line}
 use Rattle.catalogue_lines.specs.Reading.{as_line}
 use Rattle.catalogue_scan.specs.declared.Place.{Place}
-use Rattle.catalogue_scan.specs.declared.Head.{Head}
-use Rattle.catalogue_scan.specs.declared.Scanned.{Scanned}
 use Rattle.catalogue_scan.specs.Places.{place_next, right_line, larger_gone, read_head, scanned_from}
-use Rattle.catalogue_scan.specs.ScanLaws.{Scanning, scan-open, scan-wrong, scan-right, right-line, right-if, wrong-if, size-most, name-here, end_after}
+use Rattle.catalogue_scan.specs.ScanLaws.{Scanning, scan-open, scan-wrong, scan-right, right-if, wrong-if, size-most, name-here, end_after}
 
 module _ (text name : List ℕ) (first floor at from to : ℕ) (place : Place) (top : ℕ) (s : Scanning text name first at from to place top)
     (end : ℕ)
@@ -31,27 +30,27 @@ module _ (text name : List ℕ) (first floor at from to : ℕ) (place : Place) (
   line : List ℕ
   line = up_to 10 (drop at text)
 
-  pub step-open : at < length text → length text ≤ end → Scanned.Bad ≡ scanned_from text first floor name
+  pub step-open : at < length text → length text ≤ end → None ≡ scanned_from text first floor name
   step-open l h = sym (scan-open text name first floor at from to place top s l (subst (λ x. length text ≤ x) e h))
 
-  module _ (h : end < length text) (r : Line) (q : r ≡ right_line (take (to - from) (drop from text)) (take (end - at) (drop at text))) where
+  module _ (h : end < length text) where
     inner : end_of 10 at text < length text
     inner = subst (λ x. x < length text) e h
 
-    is : r ≡ right_line last line
+    of_parts : right_line (take (to - from) (drop from text)) (take (end - at) (drop at text)) ≡ right_line last line
     unfolding last line
-    is = q ∙ ap (right_line (take (to - from) (drop from text))) (ap (λ x. take (x - at) (drop at text)) e ∙ part-taken 10 at text)
+    of_parts = ap (right_line (take (to - from) (drop from text))) (ap (λ x. take (x - at) (drop at text)) e ∙ part-taken 10 at text)
 
-    pub step-wrong : r.size ≡ 0 → Scanned.Bad ≡ scanned_from text first floor name
+    pub step-wrong : right_line (take (to - from) (drop from text)) (take (end - at) (drop at text)) ≡ None → None ≡ scanned_from text first floor name
     unfolding last line
-    step-wrong z = sym (scan-wrong text name first floor at from to place top s inner (wrong-if last line r.size (ap (λ (l : Line). l.size) is) z))
+    step-wrong z = sym (scan-wrong text name first floor at from to place top s inner (wrong-if last line (sym of_parts ∙ z)))
 
-    module _ (n : r.size ≡ 0 → ⊥) where
+    module _ (r : Line) (q : right_line (take (to - from) (drop from text)) (take (end - at) (drop at text)) ≡ Some r) where
       right : T (line_right last line)
-      right = right-if last line r.size (ap (λ (l : Line). l.size) is) n
+      right = (right-if last line r (sym of_parts ∙ q)).0
 
       as_line_lem : r ≡ as_line (entry_of line)
-      as_line_lem = is ∙ (right-line last line right).0
+      as_line_lem = (right-if last line r (sym of_parts ∙ q)).1
 
       size_is : r.size ≡ length (entry_of line).name
       size_is = ap (λ (l : Line). l.size) as_line_lem
@@ -85,53 +84,32 @@ module _ (text name : List ℕ) (first floor at from to : ℕ) (place : Place) (
 pub step_less : (n at end : ℕ) → at < n → at ≤ end → n - (end + 1) < n - at
 step_less n at end l h = omega arith
 
--- the larger of a number and a gone line's revision
-module _ (top m revision : ℕ) where
-  pub larger-stays : (m ≡ 0 → ⊥) → larger_gone top m revision ≡ top
-  larger-stays n = rw (ne_eqb m 0 n)
-
-  pub larger-new : m ≡ 0 → top < revision → larger_gone top m revision ≡ revision
-  larger-new e l = rw (eq-eqb m 0 e) (omega arith)
-
-  pub larger-old : m ≡ 0 → revision ≤ top → larger_gone top m revision ≡ top
-  larger-old e l = rw (eq-eqb m 0 e) (omega arith)
-
 -- the first line, test by test
 module _ (line : List ℕ) where
   pub one-test : is_one line ≡ same line (115 ∷ 104 ∷ 97 ∷ 112 ∷ 101 ∷ 115 ∷ 9 ∷ 49 ∷ [])
   unfolding is_one cells_of digits_of
   one-test = refl
 
-  pub head-one : is_one line ≡ true → read_head line ≡ record { size = 9; version = 1; floor = 0 }
+  pub head-one : is_one line ≡ true → read_head line ≡ Some (record { size = 9; version = 1; floor = 0 })
   unfolding read_head head_right floor_of
   head-one e =
       let n = ap length (same-eq line (115 ∷ 104 ∷ 97 ∷ 112 ∷ 101 ∷ 115 ∷ 9 ∷ 49 ∷ []) (sym one-test ∙ e)) in
       rw (e, n)
 
   module _ (two : is_one line ≡ false) where
-    abbrev other : Head
-    other = record { size = 0; version = 0; floor = 0 }
-
-    pub head-named : same (take 9 line) two_name ≡ false → read_head line ≡ other
+    pub head-named : pointwise eqb (take 9 line) two_name ≡ false → read_head line ≡ None
     unfolding read_head head_right
-    head-named e = rw (two, e)
+    head-named e = rw (two, sym (same-is (take 9 line) two_name) ∙ e)
 
-    pub head-short : length line < 9 → read_head line ≡ other
-    head-short l = let n = length-take 9 line in head-named (other_length (take 9 line) two_name (λ e. omega arith))
+    module _ (named : pointwise eqb (take 9 line) two_name ≡ true) where
+      is-named : same (take 9 line) two_name ≡ true
+      is-named = sym (same-is (take 9 line) two_name) ∙ named
 
-    module _ (named : same (take 9 line) two_name ≡ true) (long : 9 ≤ length line) where
-      behind : take (length line - 9) (drop 9 line) ≡ drop 9 line
-      behind = let n = length-drop 9 line in take_all (length line - 9) (drop 9 line) (omega arith)
-
-      pub head-high : (floor : ℕ) → floor ≡ number_of 65536 (take (length line - 9) (drop 9 line)) → 65535 < floor → read_head line ≡ other
+      pub head-high : (floor : ℕ) → number_of 65536 (drop 9 line) ≡ floor → 65535 < floor → read_head line ≡ None
       unfolding read_head head_right
-      head-high floor e l =
-          let k : number_of 65536 (drop 9 line) ≡ floor = ap (number_of 65536) (sym behind) ∙ sym e in
-          rw (two, named, k, lt-leb floor 65535 l)
+      head-high floor e l = rw (two, is-named, e, lt-leb floor 65535 l)
 
-      pub head-two : (floor : ℕ) → floor ≡ number_of 65536 (take (length line - 9) (drop 9 line)) → floor ≤ 65535
-          → read_head line ≡ record { size = length line + 1; version = 2; floor = floor }
+      pub head-two : (floor : ℕ) → number_of 65536 (drop 9 line) ≡ floor → floor ≤ 65535
+          → read_head line ≡ Some (record { size = length line + 1; version = 2; floor = floor })
       unfolding read_head head_right floor_of
-      head-two floor e l =
-          let k : number_of 65536 (drop 9 line) ≡ floor = ap (number_of 65536) (sym behind) ∙ sym e in
-          rw (two, named, k, le-leb floor 65535 l)
+      head-two floor e l = rw (two, is-named, e, le-leb floor 65535 l)

@@ -1,7 +1,7 @@
 -- A scan line by line: what is known at the start of each line.
 use Rattle.std.proofs.Math.Path.{◌≡◌, refl, sym, ap}
 use Rattle.std.proofs.Common.{◌∙◌, subst, arith, ne_eqb, length-take, drop-cons, drop-drop, take-take}
-use Rattle.std.specs.Prelude.{Bool, ◌&&◌, take}
+use Rattle.std.specs.Prelude.{Bool, ◌&&◌, take, Option, Some, None}
 use Rattle.std.proofs.Math.Bool.{true, false, cond}
 use mathlib.Core.List.{List, [], ◌∷◌}
 use Prim.Native.Nat.{ℕ, ◌+◌, ◌-◌, ◌≤◌, ◌<◌}
@@ -22,10 +22,9 @@ use Rattle.catalogue_text.specs.CatalogueLaws.{rest-good, head_right, version_of
 use Rattle.catalogue_text.specs.Changes.{largest_gone}
 use Rattle.catalogue_text.proofs.ChangesLaws.{none-largest}
 use Rattle.catalogue_lines.specs.declared.Line.{Line}
-use Rattle.catalogue_lines.specs.Reading.{unread, as_line, read_line}
+use Rattle.catalogue_lines.specs.Reading.{as_line, read_line}
 use Rattle.catalogue_lines.specs.ReadingLaws.{name-taken, name-size}
 use Rattle.catalogue_scan.specs.declared.Place.{Place}
-use Rattle.catalogue_scan.specs.declared.Scanned.{Scanned}
 use Rattle.catalogue_scan.specs.declared.Head.{Head}
 use Rattle.catalogue_scan.specs.declared.Found.{Found}
 use Rattle.catalogue_scan.specs.Places.{place_at, place_next, place_from, right_line, larger_gone, read_head, found_from, scanned_from, found_in, scanned_of}
@@ -57,7 +56,7 @@ good-name line t = subst (λ n. T (good_name n)) (read_name line) (entry-good (e
 
 module _ (last line : List ℕ) where
   pub right-line : T (line_right last line)
-      → (right_line last line ≡ as_line (entry_of line)) × (1 ≤ length (entry_of line).name) × (take (length (entry_of line).name) line ≡ (entry_of line).name)
+      → (right_line last line ≡ Some (as_line (entry_of line))) × (1 ≤ length (entry_of line).name) × (take (length (entry_of line).name) line ≡ (entry_of line).name)
   unfolding right_line
   right-line t =
       let g = right-good last line t in
@@ -67,25 +66,27 @@ module _ (last line : List ℕ) where
         rw (n, name-size line) (name-taken line),
       )
 
-  pub wrong-line : line_right last line ≡ false → right_line last line ≡ unread
+  pub wrong-line : line_right last line ≡ false → right_line last line ≡ None
   unfolding right_line
   wrong-line e = rw e
 
-  -- which of the two, by its length
-  pub right-if : (size : ℕ) → size ≡ (right_line last line).size → (size ≡ 0 → ⊥) → T (line_right last line)
+  -- which of the two
+  pub right-if : (r : Line) → right_line last line ≡ Some r → T (line_right last line) × (r ≡ as_line (entry_of line))
   unfolding right_line
-  right-if size e n = go (line_right last line) refl
+  right-if r e = go (line_right last line) refl e
     where
-      go : (b : Bool) → line_right last line ≡ b → T (line_right last line)
-      go true d = true-is _ d
-      go false d = absurd (n (e ∙ ap (λ (l : Line). l.size) (wrong-line d)))
+      go : (b : Bool) → line_right last line ≡ b → cond {A = Option Line} b (Some (as_line (entry_of line))) None ≡ Some r
+          → T (line_right last line) × (r ≡ as_line (entry_of line))
+      go true d q = (true-is _ d, cc)
+      go false d q = let z : ◌≡◌ {A = ℕ} 0 1 = cc in absurd (omega arith)
 
-  pub wrong-if : (size : ℕ) → size ≡ (right_line last line).size → size ≡ 0 → line_right last line ≡ false
-  wrong-if size e z = go (line_right last line) refl
+  pub wrong-if : right_line last line ≡ None → line_right last line ≡ false
+  unfolding right_line
+  wrong-if e = go (line_right last line) refl e
     where
-      go : (b : Bool) → line_right last line ≡ b → line_right last line ≡ false
-      go true d = let r = right-line (true-is _ d) in let k = ap (λ (l : Line). l.size) r.0 in absurd (omega (arith, r.1))
-      go false d = d
+      go : (b : Bool) → line_right last line ≡ b → cond {A = Option Line} b (Some (as_line (entry_of line))) None ≡ None → line_right last line ≡ false
+      go true d q = let z : ◌≡◌ {A = ℕ} 0 1 = cc in absurd (omega arith)
+      go false d q = d
 
 -- ---- at the start of each line
 pub record Scanning (text name : List ℕ) (first at from to : ℕ) (place : Place) (top : ℕ) : Type 0 where
@@ -99,7 +100,7 @@ pub record Scanning (text name : List ℕ) (first at from to : ℕ) (place : Pla
 pub scan-start : (text name : List ℕ) (first : ℕ) → first ≤ length text → Scanning text name first first 0 0 (place_at first) 0
 scan-start text name first l = record { inside = l; order = omega arith; named = omega arith; tests = refl; places = refl; tops = refl }
 
-not_right : (text name : List ℕ) (first floor : ℕ) → rest_right [] (parts 10 (drop first text)) ≡ false → scanned_from text first floor name ≡ Scanned.Bad
+not_right : (text name : List ℕ) (first floor : ℕ) → rest_right [] (parts 10 (drop first text)) ≡ false → scanned_from text first floor name ≡ None
 unfolding scanned_from
 not_right text name first floor e = rw e
 
@@ -117,14 +118,14 @@ module _ (text name : List ℕ) (first floor at from to : ℕ) (place : Place) (
   unfolding end_of
   end_after = refl
 
-  pub scan-open : at < length text → length text ≤ end → scanned_from text first floor name ≡ Scanned.Bad
+  pub scan-open : at < length text → length text ≤ end → scanned_from text first floor name ≡ None
   scan-open l h = not_right text name first floor (s.tests ∙ open-line text at (omega arith) h last)
 
   module _ (h : end < length text) where
     more : rest_right [] (parts 10 (drop first text)) ≡ (line_right last line && rest_right (line_name line) (parts 10 (drop (end + 1) text)))
     more = s.tests ∙ ap (rest_right last) (next-line text at h) ∙ rest_more last line (drop (end + 1) text)
 
-    pub scan-wrong : line_right last line ≡ false → scanned_from text first floor name ≡ Scanned.Bad
+    pub scan-wrong : line_right last line ≡ false → scanned_from text first floor name ≡ None
     scan-wrong e = not_right text name first floor (more ∙ ap (λ b. (b && rest_right (line_name line) (parts 10 (drop (end + 1) text)))) e)
 
     module _ (t : T (line_right last line)) where
@@ -161,7 +162,7 @@ module _ (text name : List ℕ) (first floor at from to : ℕ) (place : Place) (
         tops = s.tops ∙ ap (largest_gone top) (ap entries_of (next-line text at h) ∙ entries-more line (drop (end + 1) text));
       }
 
-  pub scan-done : length text ≤ at → scanned_from text first floor name ≡ Scanned.At (record { first = first; floor = floor; top = top; place = place })
+  pub scan-done : length text ≤ at → scanned_from text first floor name ≡ Some (record { first = first; floor = floor; top = top; place = place })
   unfolding scanned_from place_from largest_gone
   scan-done l =
       let nothing : drop at text ≡ [] = drop_of_length-le text l in
@@ -178,12 +179,12 @@ module _ (text name : List ℕ) where
   unfolding end_of
   ending = zero-add (length (up_to 10 text))
 
-  not-formed : of_form text ≡ false → scanned_of text name ≡ Scanned.Bad
+  not-formed : of_form text ≡ false → scanned_of text name ≡ None
   unfolding scanned_of
   not-formed e = rw e
 
   -- no line feed
-  pub scan-endless : length text ≤ end_of 10 0 text → scanned_of text name ≡ Scanned.Bad
+  pub scan-endless : length text ≤ end_of 10 0 text → scanned_of text name ≡ None
   unfolding rest_right
   scan-endless l =
       let n : drop 1 (parts 10 text) ≡ [] =
@@ -195,36 +196,36 @@ module _ (text name : List ℕ) where
   first_taken = ap (λ i. take i text) ending ∙ take_part 10 text
 
   -- another first line
-  pub scan-headless : (head : Head) → head ≡ read_head (take (end_of 10 0 text) text) → head.size ≡ 0 → scanned_of text name ≡ Scanned.Bad
+  pub scan-headless : read_head (take (end_of 10 0 text) text) ≡ None → scanned_of text name ≡ None
   unfolding read_head
-  scan-headless head e z = go (head_right (up_to 10 text)) refl (e ∙ ap read_head first_taken)
+  scan-headless e = go (head_right (up_to 10 text)) refl (sym (ap read_head first_taken) ∙ e)
     where
-      go : (b : Bool) → head_right (up_to 10 text) ≡ b → head
-          ≡ cond b (record { size = length (up_to 10 text) + 1; version = version_of (up_to 10 text); floor = floor_of (up_to 10 text) })
-          (record { size = 0; version = 0; floor = 0 })
-          → scanned_of text name ≡ Scanned.Bad
-      go true d q = let k = ap (λ (h : Head). h.size) q in absurd (omega arith)
+      go : (b : Bool) → head_right (up_to 10 text) ≡ b
+          → cond {A = Option Head} b (Some (record { size = length (up_to 10 text) + 1; version = version_of (up_to 10 text); floor = floor_of (up_to 10 text) })) None ≡ None
+          → scanned_of text name ≡ None
+      go true d q = let z : ◌≡◌ {A = ℕ} 0 1 = cc in absurd (omega arith)
       go false d q = not-formed (form-lines text ∙ rw d)
 
   -- a right one
-  module _ (l : end_of 10 0 text < length text) (head : Head) (e : head ≡ read_head (take (end_of 10 0 text) text)) (n : head.size ≡ 0 → ⊥) where
+  module _ (l : end_of 10 0 text < length text) (head : Head) (e : read_head (take (end_of 10 0 text) text) ≡ Some head) where
     abbrev headed : List ℕ
     headed = up_to 10 text
 
     known : (head_right headed ≡ true) × (head.size ≡ end_of 10 0 text + 1) × (head.version ≡ version_of headed) × (head.floor ≡ floor_of headed)
     unfolding read_head
-    known = go (head_right headed) refl (e ∙ ap read_head first_taken)
+    known = go (head_right headed) refl (sym (ap read_head first_taken) ∙ e)
       where
-        go : (b : Bool) → head_right headed ≡ b → head
-            ≡ cond b (record { size = length headed + 1; version = version_of headed; floor = floor_of headed }) (record { size = 0; version = 0; floor = 0 })
+        go : (b : Bool) → head_right headed ≡ b
+            → cond {A = Option Head} b (Some (record { size = length headed + 1; version = version_of headed; floor = floor_of headed })) None ≡ Some head
             → (head_right headed ≡ true) × (head.size ≡ end_of 10 0 text + 1) × (head.version ≡ version_of headed) × (head.floor ≡ floor_of headed)
-        go true d q = (
-          d,
-          ap (λ (h : Head). h.size) q ∙ ap (λ x. x + 1) (sym ending),
-          ap (λ (h : Head). h.version) q,
-          ap (λ (h : Head). h.floor) q,
-        )
-        go false d q = absurd (n (ap (λ (h : Head). h.size) q))
+        go true d q =
+            let k : record { size = length headed + 1; version = version_of headed; floor = floor_of headed } ≡ head = cc in (
+              d,
+              sym (ap (λ (h : Head). h.size) k) ∙ ap (λ x. x + 1) (sym ending),
+              sym (ap (λ (h : Head). h.version) k),
+              sym (ap (λ (h : Head). h.floor) k),
+            )
+        go false d q = let z : ◌≡◌ {A = ℕ} 0 1 = cc in absurd (omega arith)
 
     pub head-size : head.size ≤ length text
     head-size = let k = known.1 in omega arith
@@ -242,22 +243,22 @@ module _ (text name : List ℕ) where
         ∙ ap (λ ps. (rest_right [] ps && allows headed (entries_of ps))) lines_are
 
     -- the lines are not right
-    pub lines-bad : scanned_from text head.size head.floor name ≡ Scanned.Bad → scanned_of text name ≡ Scanned.Bad
+    pub lines-bad : scanned_from text head.size head.floor name ≡ None → scanned_of text name ≡ None
     unfolding scanned_from lines
     lines-bad = go (rest_right [] lines) refl
       where
         go : (b : Bool) → rest_right [] lines ≡ b
-            → cond b (Scanned.At (found_from name head.size head.floor (entries_of lines))) Scanned.Bad ≡ Scanned.Bad → scanned_of text name ≡ Scanned.Bad
+            → cond b (Some (found_from name head.size head.floor (entries_of lines))) None ≡ None → scanned_of text name ≡ None
         go true d h = let z : ◌≡◌ {A = ℕ} 0 1 = cc in absurd (omega arith)
         go false d h = not-formed (formed ∙ rw d)
 
-    module _ (found : Found) (is : scanned_from text head.size head.floor name ≡ Scanned.At found) where
+    module _ (found : Found) (is : scanned_from text head.size head.floor name ≡ Some found) where
       found-is : (rest_right [] lines ≡ true) × (found ≡ found_from name head.size head.floor (entries_of lines))
       unfolding scanned_from lines
       found-is = go (rest_right [] lines) refl is
         where
           go : (b : Bool) → rest_right [] lines ≡ b
-              → cond b (Scanned.At (found_from name head.size head.floor (entries_of lines))) Scanned.Bad ≡ Scanned.At found
+              → cond b (Some (found_from name head.size head.floor (entries_of lines))) None ≡ Some found
               → (rest_right [] lines ≡ true) × (found ≡ found_from name head.size head.floor (entries_of lines))
           go true d h = (d, cc)
           go false d h = let z : ◌≡◌ {A = ℕ} 0 1 = cc in absurd (omega arith)
@@ -271,15 +272,15 @@ module _ (text name : List ℕ) where
       one-version b d = known.2 ∙ rw d
 
       -- version 1 with a gone line
-      pub scan-gone : head.version ≡ 1 → (found.top ≡ 0 → ⊥) → scanned_of text name ≡ Scanned.Bad
+      pub scan-gone : head.version ≡ 1 → (found.top ≡ 0 → ⊥) → scanned_of text name ≡ None
       scan-gone v t = go (is_one headed) refl
         where
-          go : (b : Bool) → is_one headed ≡ b → scanned_of text name ≡ Scanned.Bad
+          go : (b : Bool) → is_one headed ≡ b → scanned_of text name ≡ None
           go true d = not-formed (formed ∙ rw (found-is.0, d, none-gone) (ne_eqb found.top 0 t))
           go false d = let k = one-version false d in absurd (omega arith)
 
       -- else the text is of the form
-      pub scan-found : (head.version ≡ 1 → found.top ≡ 0) → Scanned.At found ≡ scanned_of text name
+      pub scan-found : (head.version ≡ 1 → found.top ≡ 0) → Some found ≡ scanned_of text name
       unfolding scanned_of
       scan-found v =
           let a : allows headed (entries_of lines) ≡ true = go (is_one headed) refl in
@@ -300,44 +301,34 @@ module _ (text name : List ℕ) where
 -- ---- a line that is read, and the name before it
 module _ (last line : List ℕ) where
   -- what can't be read is not right
-  pub read_none : (read_line line).size ≡ 0 → read_line line ≡ right_line last line
+  pub read_none : read_line line ≡ None → right_line last line ≡ None
   unfolding read_line right_line line_right
   read_none e = go (line_good line) refl e
     where
-      go : (b : Bool) → line_good line ≡ b → (cond b (as_line (entry_of line)) unread).size ≡ 0
-          → cond (line_good line) (as_line (entry_of line)) unread ≡ cond (before last (line_name line) && line_good line) (as_line (entry_of line)) unread
-      go true d z = let n = name-some (line_name line) (good-name line (true-is _ d)) in let r = ap length (read_name line) in absurd (omega arith)
+      go : (b : Bool) → line_good line ≡ b → cond {A = Option Line} b (Some (as_line (entry_of line))) None ≡ None
+          → cond {A = Option Line} (before last (line_name line) && line_good line) (Some (as_line (entry_of line))) None ≡ None
+      go true d z = let z : ◌≡◌ {A = ℕ} 0 1 = cc in absurd (omega arith)
       go false d z = rw (d, and_none (before last (line_name line)))
 
   -- what can be read is right if its name stands after the last one
-  pub read_some : ((read_line line).size ≡ 0 → ⊥)
-      → ((read_line line).size ≤ length line) × (right_line last line ≡ cond (before last (take (read_line line).size line)) (read_line line) unread)
+  pub read_some : (r : Line) → read_line line ≡ Some r
+      → (r.size ≤ length line) × (right_line last line ≡ cond {A = Option Line} (before last (take r.size line)) (Some r) None)
   unfolding read_line right_line line_right
-  read_some n = go (line_good line) refl n
+  read_some r e = go (line_good line) refl e
     where
       size : length (entry_of line).name ≡ end_of 9 0 line
       size = ap length (read_name line) ∙ name-size line
 
-      go : (b : Bool) → line_good line ≡ b → ((cond b (as_line (entry_of line)) unread).size ≡ 0 → ⊥)
-          → ((cond (line_good line) (as_line (entry_of line)) unread).size ≤ length line)
-          × (cond (before last (line_name line) && line_good line) (as_line (entry_of line)) unread
-          ≡ cond (before last (take (cond (line_good line) (as_line (entry_of line)) unread).size line))
-          (cond (line_good line) (as_line (entry_of line)) unread) unread)
+      go : (b : Bool) → line_good line ≡ b → cond {A = Option Line} b (Some (as_line (entry_of line))) None ≡ Some r
+          → (r.size ≤ length line)
+          × (cond {A = Option Line} (before last (line_name line) && line_good line) (Some (as_line (entry_of line))) None
+          ≡ cond {A = Option Line} (before last (take r.size line)) (Some r) None)
       go true d z =
+          let i : as_line (entry_of line) ≡ r = cc in
+          let n : r.size ≡ end_of 9 0 line = sym (ap (λ (l : Line). l.size) i) ∙ size in
           let k = name-taken line in
           let t = length-take (end_of 9 0 line) line in
-          let r = ap length k in
+          let q = ap length k in
           let m = name-size line in
-          rw (d, size, k) (
-            omega arith,
-            ap (λ b. cond b (record {
-              size = end_of 9 0 line;
-              revision = (entry_of line).revision;
-              m = (entry_of line).m;
-              w = (entry_of line).w;
-              c =
-                  (entry_of line).c;
-            }) unread)
-                (and-all (before last (line_name line))),
-          )
-      go false d z = absurd (z refl)
+          (omega arith, rw (d, i, n, k, and-all (before last (line_name line))) refl)
+      go false d z = let z : ◌≡◌ {A = ℕ} 0 1 = cc in absurd (omega arith)

@@ -9,7 +9,7 @@ use catalogue_lines::Line;
 
 // Where the line of a name stands, from its first byte to past its line feed, with its revision and its shape, zeros for one that is gone; for a
 // name that isn't there the place where its line would stand, and zeros.
-#[derive(Clone, Copy)]
+#[derive(Clone, Copy, Debug, PartialEq, Eq)]
 pub struct Place {
     pub from: usize,
     pub to: usize,
@@ -19,8 +19,8 @@ pub struct Place {
     pub c: u8,
 }
 
-// A first line: its length with its line feed, 0 for another line; its version and its floor.
-#[derive(Clone, Copy)]
+// A first line: its length with its line feed, its version and its floor.
+#[derive(Clone, Copy, Debug, PartialEq, Eq)]
 pub struct Head {
     pub size: usize,
     pub version: u8,
@@ -28,19 +28,12 @@ pub struct Head {
 }
 
 // Where the lines start, the floor, the largest revision of names that are gone, 0 if there are none, and the place of a name.
-#[derive(Clone, Copy)]
+#[derive(Clone, Copy, Debug, PartialEq, Eq)]
 pub struct Found {
     pub first: usize,
     pub floor: u16,
     pub top: u16,
     pub place: Place,
-}
-
-// What is found in a text of the form, or another text.
-#[derive(Clone, Copy)]
-pub enum Scanned {
-    At(Found),
-    Bad,
 }
 
 // A place with no line of the name.
@@ -78,23 +71,14 @@ fn place_next(place: Place, line: Line, at: usize, next: usize, named: &[u8], na
 }
 
 // What a line after the last name is read as, if it is right.
-fn right_line(last: &[u8], line: &[u8]) -> Line
+fn right_line(last: &[u8], line: &[u8]) -> Option<Line>
     ensures { result ≡ right_line last.now line.now }
 {
-    let read = catalogue_lines::read_line(line);
-    let size = read.size;
-    if size == 0 {
-        return read;
-    }
-    if catalogue_lines::is_before(last, &line[..size]) {
-        return read;
-    }
-    Line {
-        size: 0,
-        revision: 0,
-        m: 0,
-        w: 0,
-        c: 0,
+    let read = catalogue_lines::read_line(line)?;
+    if catalogue_lines::is_before(last, &line[..read.size]) {
+        Some(read)
+    } else {
+        None
     }
 }
 
@@ -102,50 +86,33 @@ fn right_line(last: &[u8], line: &[u8]) -> Line
 fn larger_gone(top: u16, m: u8, revision: u16) -> u16
     ensures { result ≡ larger_gone top m revision }
 {
-    if m != 0 {
-        return top;
-    }
-    if top < revision {
-        return revision;
-    }
-    top
+    if m == 0 { top.max(revision) } else { top }
 }
 
-// What a first line, without its line feed, is read as.
-fn read_head(line: &[u8]) -> Head
+// What a line, without its line feed, is read as, if it is a first line.
+fn read_head(line: &[u8]) -> Option<Head>
     ensures { result ≡ read_head line.now }
 {
     if text::is_same(line, b"shapes\t1") {
-        return Head {
+        return Some(Head {
             size: 9,
             version: 1,
             floor: 0,
-        };
+        });
     }
-    let other = Head {
-        size: 0,
-        version: 0,
-        floor: 0,
+    let digits = line.strip_prefix(b"shapes\t2\t")?;
+    let Ok(floor) = u16::try_from(text::number(digits, 65536)) else {
+        return None;
     };
-    if line.len() < 9 {
-        return other;
-    }
-    if !text::is_same(&line[..9], b"shapes\t2\t") {
-        return other;
-    }
-    let floor = text::number(&line[9..], 65536);
-    if 65535 < floor {
-        return other;
-    }
-    Head {
+    Some(Head {
         size: line.len() + 1,
         version: 2,
-        floor: floor as u16,
-    }
+        floor,
+    })
 }
 
-// What is found in the lines of a text from a place on.
-fn scan_lines(text: &[u8], first: usize, floor: u16, name: &[u8]) -> Scanned
+// What is found in the lines of a text from a place on, if they are right.
+fn scan_lines(text: &[u8], first: usize, floor: u16, name: &[u8]) -> Option<Found>
     requires { first ≤ length text.now }
     ensures { result ≡ scanned_from text.now first floor name.now }
 {
@@ -154,22 +121,20 @@ fn scan_lines(text: &[u8], first: usize, floor: u16, name: &[u8]) -> Scanned
     let mut from: usize = 0;
     let mut to: usize = 0;
     let mut at = first;
+    // A while loop: the step is a line's length, which the loop finds, and the places themselves are what is sought.
     while at < text.len() {
         let end = text::part_end(text, at, b'\n');
         if text.len() <= end {
-            return Scanned::Bad;
+            return None;
         }
-        let line = right_line(&text[from..to], &text[at..end]);
-        if line.size == 0 {
-            return Scanned::Bad;
-        }
+        let line = right_line(&text[from..to], &text[at..end])?;
         top = larger_gone(top, line.m, line.revision);
         from = at;
         to = at + line.size;
         at = end + 1;
         place = place_next(place, line, from, at, &text[from..to], name);
     }
-    Scanned::At(Found {
+    Some(Found {
         first,
         floor,
         top,
@@ -177,40 +142,31 @@ fn scan_lines(text: &[u8], first: usize, floor: u16, name: &[u8]) -> Scanned
     })
 }
 
-// What is found in a text of the form.
-pub fn scan(text: &[u8], name: &[u8]) -> Scanned
+// What is found in a text, if it is of the form.
+pub fn scan(text: &[u8], name: &[u8]) -> Option<Found>
     ensures { result ≡ scanned_of text.now name.now }
 {
     let end = text::part_end(text, 0, b'\n');
     if text.len() <= end {
-        return Scanned::Bad;
+        return None;
     }
-    let head = read_head(&text[..end]);
-    if head.size == 0 {
-        return Scanned::Bad;
+    let head = read_head(&text[..end])?;
+    let found = scan_lines(text, head.size, head.floor, name)?;
+    if head.version == 1 && found.top != 0 {
+        return None;
     }
-    match scan_lines(text, head.size, head.floor, name) {
-        Scanned::Bad => Scanned::Bad,
-        Scanned::At(found) => {
-            if head.version == 1 {
-                if found.top != 0 {
-                    return Scanned::Bad;
-                }
-            }
-            Scanned::At(found)
-        }
-    }
+    Some(found)
 }
 
-// What is found in the text of so many bytes at the start of a buffer.
-pub fn scan_buffer(buffer: &[u8], size: usize, name: &[u8]) -> Scanned
+// What is found in the text of so many bytes at the start of a buffer, if it is of the form.
+pub fn scan_buffer(buffer: &[u8], size: usize, name: &[u8]) -> Option<Found>
     ensures { result ≡ scanned_in buffer.now size name.now }
 {
     if buffer.len() < size {
-        return Scanned::Bad;
+        return None;
     }
     if 4096 < size {
-        return Scanned::Bad;
+        return None;
     }
     scan(&buffer[..size], name)
 }

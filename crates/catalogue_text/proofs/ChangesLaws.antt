@@ -1,15 +1,15 @@
 -- After a put that name is found as it was put and every other name as before, and the list stays good.
-use Rattle.std.specs.Prelude.{◌≡◌, refl, Bool, true, false, cond, not, ◌&&◌, List, [], ◌∷◌, ℕ, ◌+◌, ◌≤◌, ◌<◌, max, T, eqb}
+use Rattle.std.specs.Prelude.{◌≡◌, refl, Bool, true, false, cond, not, ◌&&◌, List, [], ◌∷◌, ℕ, ◌+◌, ◌≤◌, max, T, eqb}
 use Rattle.std.proofs.Common.{sym, ap, ◌∙◌, subst, arith, eq-eqb, ne_eqb}
 use Rattle.std.proofs.lemmas.Bool.{false≢true}
 use Rattle.counting.specs.TestLaws.{and_l, and_r, and_intro}
 use Rattle.text.specs.Fields.{same}
 use Rattle.text.specs.FieldLaws.{same-eq}
-use Rattle.catalogue_text.specs.Names.{before, good_name}
+use Rattle.catalogue_text.specs.Names.{before}
 use Rattle.catalogue_text.specs.NamesLaws.{is_true, true-is, same_refl, same-sym, before-only, before-else, before-trans}
-use Rattle.catalogue_text.specs.Catalogue.{Entry, is_gone, good_entry, good_from, good_list, none_gone, Catalogue}
+use Rattle.catalogue_text.specs.Catalogue.{Entry, is_gone, good_entry, good_from, none_gone, Catalogue}
 use Rattle.catalogue_text.specs.LineLaws.{entry-good}
-use Rattle.catalogue_text.specs.Changes.{entry_for, entry_in, put_in, found_revision, last_revision, next_entry, without_gone, largest_gone, compacted}
+use Rattle.catalogue_text.specs.Changes.{entry_for, entry_in, put_in, found_revision, next_entry, without_gone, largest_gone, compacted}
 
 pub put-found : (e : Entry) (list : List Entry) → entry_for e.name (put_in e list) ≡ e
 unfolding entry_for put_in

@@ -1,5 +1,5 @@
 -- The catalogue of named shapes: the list with its floor, its text, and the reading of a text.
-use Rattle.std.specs.Prelude.{Bool, true, cond, not, ◌&&◌, List, [], ◌∷◌, ◌++◌, map, ℕ, eqb, leb, length, get_or, drop}
+use Rattle.std.specs.Prelude.{Bool, true, cond, not, ◌&&◌, List, [], ◌∷◌, ◌++◌, map, ℕ, eqb, leb, get_or, drop}
 use Rattle.shape.specs.Shapes.{byte_limits}
 use Rattle.code.specs.Limits.{shape_refusal_in}
 use Rattle.text.specs.Decimal.{number_of}

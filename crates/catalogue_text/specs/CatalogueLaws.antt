@@ -1,7 +1,7 @@
 -- "Reading what was written gives the same list, and each list has one text", of each version; and a text's form, line by line.
-use Rattle.std.specs.Prelude.{◌≡◌, ◌↔◌, ◌⊎◌, Bool, cond, not, ◌&&◌, ℕ, zero, suc, ◌+◌, ◌/◌, ◌≤◌, ◌<◌, eqb, leb, length, take, drop}
+use Rattle.std.specs.Prelude.{◌≡◌, ◌↔◌, ◌⊎◌, Bool, cond, ◌&&◌, ℕ, zero, suc, ◌+◌, ◌/◌, ◌≤◌, eqb, leb, length, take, drop}
 use Rattle.std.proofs.Math.Path.{refl, ap, ap₂}
-use Rattle.std.proofs.Common.{sym, ◌∙◌, subst, inl, inr, arith, eq-eqb, ne_eqb, le-leb, eqb-true, leb-true, eqb→eq, leb→le, length-append, take-append-drop, take_at, drop_at}
+use Rattle.std.proofs.Common.{sym, ◌∙◌, subst, inl, inr, arith, le-leb, eqb-true, eqb→eq, leb→le, length-append, take-append-drop, take_at, drop_at}
 use Rattle.std.proofs.Math.Bool.{true, false}
 use mathlib.Core.List.{List, [], ◌∷◌, ◌++◌, append_assoc, append-nil}
 use Rattle.std.proofs.Math.Decide.{dec_lt}
@@ -14,13 +14,13 @@ use Rattle.code.specs.LimitsLaws.{good-of-refusal}
 use Rattle.text.specs.Decimal.{digits_of, number_of, without}
 use Rattle.text.specs.DecimalLaws.{number-of-digits, digits-of-number, digits-some, digits-one, digits-split}
 use Rattle.text.specs.Fields.{parts, same, up_to, later, joined_by}
-use Rattle.text.specs.FieldLaws.{parts-split, parts-front, joined-parts, same-eq, other_length}
+use Rattle.text.specs.FieldLaws.{parts-split, parts-front, joined-parts, same-eq}
 use Rattle.text.specs.Records.{line_name}
 use Rattle.text.specs.Lines.{cells_of, line_with}
 use Rattle.text.specs.ReadBackLaws.{one_line, line-parts}
 use Rattle.catalogue_text.specs.Names.{good_name, before}
 use Rattle.catalogue_text.specs.NamesLaws.{tests_same, is_true, true-is, same_refl}
-use Rattle.catalogue_text.specs.Catalogue.{Entry, is_gone, good_shape, shape_or_gone, good_entry, good_from, good_list, none_gone, Catalogue, good_version}
+use Rattle.catalogue_text.specs.Catalogue.{Entry, is_gone, good_shape, good_entry, good_from, good_list, none_gone, Catalogue, good_version}
 use Rattle.catalogue_text.specs.Catalogue.{good_catalogue, shapes_name, first_line, entry_line, lines_of, catalogue_text, numbers_of, says_gone, shaped_of}
 use Rattle.catalogue_text.specs.Catalogue.{entry_of}
 use Rattle.catalogue_text.specs.Catalogue.{entries_of, list_of_text, is_one, floor_of, catalogue_of, of_form}

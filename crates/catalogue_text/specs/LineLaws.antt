@@ -1,7 +1,7 @@
 -- A line and its entry: the line of a good entry is read as it, and only that line is.
-use Rattle.std.specs.Prelude.{◌≡◌, Bool, cond, ◌&&◌, ℕ, suc, ◌+◌, ◌≤◌, ◌<◌, T, eqb, leb, drop}
+use Rattle.std.specs.Prelude.{◌≡◌, Bool, cond, ◌&&◌, ℕ, ◌≤◌, ◌<◌, T, eqb, leb, drop}
 use Rattle.std.proofs.Math.Path.{refl, sym, ap, subst}
-use Rattle.std.proofs.Common.{ap₂, ◌∙◌, arith, eq-eqb, ne_eqb, le-leb, eqb-true, eqb→eq, leb→le}
+use Rattle.std.proofs.Common.{◌∙◌, arith, ne_eqb, le-leb, eqb-true, eqb→eq, leb→le}
 use Rattle.std.proofs.Math.Bool.{true, false}
 use mathlib.Core.List.{List, [], ◌∷◌, ◌++◌, map, append_assoc, append-nil}
 use Rattle.std.proofs.Math.ListN.{length, get_or, length-append}
@@ -12,13 +12,13 @@ use Rattle.code.specs.Limits.{GoodIn, shape_refusal_in}
 use Rattle.code.specs.LimitsLaws.{good-of-refusal, refusal-of-good}
 use Rattle.text.specs.Decimal.{digits_of, number_of, without}
 use Rattle.text.specs.DecimalLaws.{without-append, number-of-digits, digits-of-number, digits-without, digits-some}
-use Rattle.text.specs.Fields.{parts, fields, same, up_to, later, joined_by}
+use Rattle.text.specs.Fields.{parts, fields, up_to, later, joined_by}
 use Rattle.text.specs.FieldLaws.{parts-split, parts-front, joined-parts, same-eq, other_length}
 use Rattle.text.specs.Records.{line_name}
 use Rattle.text.specs.Lines.{cells_of, line_with}
 use Rattle.text.specs.ReadBackLaws.{fields_back, line-parts, one_line}
-use Rattle.catalogue_text.specs.Names.{good_name, before}
-use Rattle.catalogue_text.specs.NamesLaws.{is_true, true-is, same_refl, name-without}
+use Rattle.catalogue_text.specs.Names.{good_name}
+use Rattle.catalogue_text.specs.NamesLaws.{same_refl, name-without}
 use Rattle.catalogue_text.specs.Catalogue.{Entry, is_gone, good_shape, shape_or_gone, good_entry, gone_name, gone_line, entry_line, numbers_of, says_gone}
 use Rattle.catalogue_text.specs.Catalogue.{shaped_of, entry_of}
 

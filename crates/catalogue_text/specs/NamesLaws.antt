@@ -1,11 +1,10 @@
 -- Laws: The names of shapes, and their order.
-use Rattle.std.specs.Prelude.{◌≡◌, refl, Bool, true, false, cond, not, ◌&&◌, ◌||◌, List, [], ◌∷◌, ◌++◌, ℕ, ◌≤◌, ◌<◌, T, eqb, leb, ltb, length}
-use Rattle.std.proofs.Common.{sym, ap, ap₂, ◌∙◌, subst, true≢false, arith, eqb-true, ltb-true, ltb-false, lt-ltb, le-ltb, eq-eqb, ne_eqb, eqb→eq, leb→le}
+use Rattle.std.specs.Prelude.{◌≡◌, refl, Bool, true, false, cond, not, ◌&&◌, List, [], ◌∷◌, ℕ, ◌≤◌, T, eqb, leb, ltb, length}
+use Rattle.std.proofs.Common.{sym, ap, ◌∙◌, true≢false, arith, eqb-true, ltb-true, ltb-false, lt-ltb, le-ltb, eq-eqb, ne_eqb, eqb→eq, leb→le}
 use Rattle.std.proofs.lemmas.Bool.{false≢true, eqb-false}
 use Rattle.std.proofs.Math.Dec.{not_T}
 use Rattle.counting.specs.TestLaws.{and_l, and_r, and_intro}
 use Rattle.text.specs.Fields.{same}
-use Rattle.text.specs.FieldLaws.{same-eq}
 use Rattle.text.specs.Decimal.{without}
 use Rattle.catalogue_text.specs.Names.{name_byte, name_bytes, good_name, before}
 

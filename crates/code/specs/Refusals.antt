@@ -13,6 +13,6 @@ zero or_else s = s
 suc r or_else s = suc r
 
 -- "On every refusal all lent buffers [..] stay as they were": what a buffer holds at the end, or what is answered beside the number
-abbrev pub unless_refused : ℕ → List ℕ → List ℕ → List ℕ
+abbrev pub unless_refused : {A : Type 0} → ℕ → List A → List A → List A
 unless_refused zero written lent = written
 unless_refused (suc r) written lent = lent

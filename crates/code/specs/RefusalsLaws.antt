@@ -29,6 +29,6 @@ pub or_else-then : (k r s : ℕ) → r ≤ k → (r ≡ 0 → s ≤ k) → (r or
 or_else-then k zero s l h = h refl
 or_else-then k (suc r) s l h = l
 
-pub unless-refused : (r : ℕ) (written lent : List ℕ) → (r ≡ 0 → ⊥) → unless_refused r written lent ≡ lent
+pub unless-refused : {A : Type 0} (r : ℕ) (written lent : List A) → (r ≡ 0 → ⊥) → unless_refused r written lent ≡ lent
 unless-refused zero written lent h = absurd (h refl)
 unless-refused (suc r) written lent h = refl

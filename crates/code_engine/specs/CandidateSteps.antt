@@ -6,11 +6,15 @@ use Rattle.code.specs.Edition.{Edition, times}
 use Rattle.code.specs.Word.{local_sum}
 use Rattle.code.specs.Marks.{lost, lost_in}
 
--- x is word with 0 in the lost places
-pub record Blanked (marks word x : List ℕ) : Type 0 where
+-- x is word, of symbols of any type, with z in the lost places
+pub record BlankedOver {A : Type 0} (z : A) (marks : List ℕ) (word x : List A) : Type 0 where
   pub size : length x ≡ length word
-  pub present : (p : ℕ) → p < length word → lost marks p ≡ false → get_or x p 0 ≡ get_or word p 0
-  pub zero : (p : ℕ) → p < length word → lost marks p ≡ true → get_or x p 0 ≡ 0
+  pub present : (p : ℕ) → p < length word → lost marks p ≡ false → get_or x p z ≡ get_or word p z
+  pub zero : (p : ℕ) → p < length word → lost marks p ≡ true → get_or x p z ≡ z
+
+-- x is word with 0 in the lost places
+abbrev pub Blanked : List ℕ → List ℕ → List ℕ → Type 0
+Blanked marks word x = BlankedOver 0 marks word x
 
 -- in each group the bound places are filled so that as many local sums are zero as places are bound
 pub record GroupsFilledIn (E : Edition) (m w : ℕ) (bound before after : List ℕ) : Type 0 where

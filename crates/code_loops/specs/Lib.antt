@@ -11,6 +11,7 @@ pub mod RebuildLaws
 pub mod Directions
 pub mod DirectionsLaws
 pub mod Tested
+pub mod TestedByLaws
 pub mod TestedLaws
 pub mod RunsLaws
 pub mod SpreadLaws

@@ -1,5 +1,5 @@
 -- Laws: A recovery: its attempt with the candidate, and how the call ends.
-use Rattle.std.specs.Prelude.{◌≡◌, Bool, true, false, not, ◌||◌, List, ◌++◌, eqb, length, get_or, take, drop, replicate}
+use Rattle.std.specs.Prelude.{◌≡◌, Bool, true, false, not, List, ◌++◌, Result, Ok, Err, eqb, length, get_or, take, drop, replicate}
 use Rattle.std.proofs.Math.Path.{refl, sym, ap, subst}
 use Rattle.std.proofs.Common.{ap₂, ◌∙◌, append-nil, arith, drop_of_length-le, take_all}
 use Prim.Native.Nat.{ℕ, zero, suc, ◌+◌, ◌*◌, ◌/◌, ◌^◌, ◌≤◌, ◌<◌}
@@ -15,15 +15,18 @@ use borrow.Author.Tests.{eq-eqb}
 use Rattle.code.specs.RefusalsLaws.{or_else-first, or_else-zero}
 use Rattle.code.specs.Outcome.{contradictory}
 use Rattle.code.proofs.ContradictionLaws.{contradicting-most}
-use Rattle.answers.specs.declared.Mending.{Mending}
+use Rattle.answers.specs.declared.Refusal.{Refusal}
 use Rattle.answers.specs.declared.Tested.{Tested}
-use Rattle.answers.specs.Answers.{mending_number}
+use Rattle.answers.specs.Answers.{refusal_number, mending_number}
+use Rattle.answers.specs.AnswersLaws.{refusal-some, else-first}
+use Rattle.answers.specs.PlainLaws.{shape-plain, word-plain}
 use Rattle.code_engine.specs.GroupsLaws.{groups-whole}
 use Rattle.code_engine.specs.Mended.{IsCandidateIn}
 use Rattle.code_engine.specs.Tests.{tested_in}
 use Rattle.code_services.specs.Answered.{AnswersBy}
 use Rattle.code_services.specs.Marks.{are_marks, marks_refusal_in}
 use Rattle.code_services.specs.Recover.{recover_refusal_in, recover_in}
+use Rattle.code_services.specs.PlainLaws.{recover-plain}
 use Rattle.code_services.specs.Attempt.{FullSatisfiedIn, AttemptIn, AcceptedIn}
 use Rattle.code_services.specs.AttemptLaws.{full-satisfied, attempt-done, attempt-failed, accepted, service-refused, service-eight, service-nine, service-done}
 use Rattle.code_loops.specs.EndsLaws.{Ends, ends-refused, ends-nine, ends-done}
@@ -87,61 +90,46 @@ else-not k (suc r) s n z = n
 
 module _ (L : Limits) (m w c : ℕ) where
   shape-not : Not 9 (shape_refusal_in L m w c)
-  unfolding shape_refusal_in
-  shape-not =
-      else-not 9 (refuse 1 (eqb m 0 || ltb L.groups m)) _ (refuse-not 9 1 (eqb m 0 || ltb L.groups m) (λ e. omega arith) (λ e. omega arith))
-      (else-not 9 (refuse 2 (eqb c 0 || ltb L.checks c)) _ (refuse-not 9 2 (eqb c 0 || ltb L.checks c) (λ e. omega arith) (λ e. omega arith))
-      (else-not 9 (refuse 3 (ltb w (c + 2) || ltb L.width w)) _ (refuse-not 9 3 (ltb w (c + 2) || ltb L.width w) (λ e. omega arith) (λ e. omega arith))
-      (else-not 9 (refuse 4 (eqb (data_count m w c) 0)) _ (refuse-not 9 4 (eqb (data_count m w c) 0) (λ e. omega arith) (λ e. omega arith))
-      (refuse-not 9 26 (ltb L.places (m * w)) (λ e. omega arith) (λ e. omega arith)))))
+  shape-not = (shape-plain L m w c).1
 
   word-not : (n : ℕ) → Not 9 (word_refusal_in L m w c n)
-  unfolding word_refusal_in
-  word-not n = else-not 9 (shape_refusal_in L m w c) _ shape-not (refuse-not 9 5 (not (eqb n (place_count m w))) (λ e. omega arith) (λ e. omega arith))
+  word-not n = (word-plain L m w c n).1
 
   pub not-nine : (word marks : List ℕ) → recover_refusal_in L m w c word marks ≡ 9 → ⊥
-  unfolding recover_refusal_in marks_refusal_in
-  not-nine word marks =
-      else-not 9 (word_refusal_in L m w c (length word)) _ (word-not (length word))
-      (else-not 9 (word_refusal_in L m w c (length marks)) _ (word-not (length marks))
-      (refuse-not 9 6 (not (are_marks marks)) (λ e. omega arith) (λ e. omega arith)))
+  not-nine word marks = (recover-plain L m w c word marks).1
 
-  -- the refusal of marks by the shape, and where it is 0 that by their length and their values
-  pub marks-by-shape : (marks : List ℕ) {r : ℕ} → r ≡ shape_refusal_in L m w c → (r ≡ 0 → ⊥) → r ≡ marks_refusal_in L m w c marks
+  -- the refusal of marks by the shape, and where there is none that by their length and their values
+  pub marks-by-shape : (marks : List ℕ) (e : Refusal) → refusal_number e ≡ shape_refusal_in L m w c → refusal_number e ≡ marks_refusal_in L m w c marks
   unfolding marks_refusal_in word_refusal_in
-  marks-by-shape marks {r} is n =
-      subst (λ q. r ≡ ((q or_else refuse 5 (not (eqb (length marks) (place_count m w)))) or_else refuse 6 (not (are_marks marks)))) is
-      (sym (twice r (refuse 5 (not (eqb (length marks) (place_count m w)))) (refuse 6 (not (are_marks marks))) n))
-    where
-      twice : (r s t : ℕ) → (r ≡ 0 → ⊥) → (r or_else s) or_else t ≡ r
-      twice zero s t n = absurd (n refl)
-      twice (suc r) s t n = refl
+  marks-by-shape marks e is = else-first e (else-first e is _) _
 
-  pub marks-beside : (marks : List ℕ) {r s : ℕ} → r ≡ shape_refusal_in L m w c → r ≡ 0
+  pub marks-beside : (marks : List ℕ) {s : ℕ} → 0 ≡ shape_refusal_in L m w c
       → s ≡ (refuse 5 (not (eqb (length marks) (m * w))) or_else refuse 6 (not (are_marks marks))) → s ≡ marks_refusal_in L m w c marks
   unfolding marks_refusal_in word_refusal_in
-  marks-beside marks is z e = e ∙ sym (rw (sym is ∙ z))
+  marks-beside marks z e = e ∙ sym (rw (sym z))
 
-  -- the refusal by the word r, and where it is 0 that of marks beside a word
-  module _ (word marks : List ℕ) {r : ℕ} (is : r ≡ word_refusal_in L m w c (length word)) where
-    pub refused-by-word : (r ≡ 0 → ⊥) → r ≡ recover_refusal_in L m w c word marks
+  -- the refusal by the word, and where there is none that of marks beside a word
+  module _ (word marks : List ℕ) where
+    pub refused-by-word : (e : Refusal) → refusal_number e ≡ word_refusal_in L m w c (length word) → refusal_number e ≡ recover_refusal_in L m w c word marks
     unfolding recover_refusal_in
-    refused-by-word n = sym (ap (λ q. q or_else marks_refusal_in L m w c marks) (sym is) ∙ or_else-first r _ n)
+    refused-by-word e is = else-first e is _
 
-    pub refused-by-marks : r ≡ 0 → {s : ℕ} → s ≡ (refuse 5 (not (eqb (length marks) (length word))) or_else refuse 6 (not (are_marks marks)))
+    pub refused-by-marks : 0 ≡ word_refusal_in L m w c (length word) → {s : ℕ}
+        → s ≡ (refuse 5 (not (eqb (length marks) (length word))) or_else refuse 6 (not (are_marks marks)))
         → s ≡ recover_refusal_in L m w c word marks
     unfolding recover_refusal_in marks_refusal_in word_refusal_in
     refused-by-marks z {s} e =
-        let G = good-of-word {L = L} m w c (length word) (sym is ∙ z) in
-        let k : shape_refusal_in L m w c ≡ 0 = (or_else-zero (shape_refusal_in L m w c) _ (sym is ∙ z)).0 in
+        let G = good-of-word {L = L} m w c (length word) (sym z) in
+        let k : shape_refusal_in L m w c ≡ 0 = (or_else-zero (shape_refusal_in L m w c) _ (sym z)).0 in
         e ∙ ap (λ n. refuse 5 (not (eqb (length marks) n)) or_else refuse 6 (not (are_marks marks))) G.1
         ∙ sym (rw (k, G.1, eq-eqb (m * w) (m * w) refl))
 
 -- ---- the call
-pub recover-refused : (E : Edition) (m w c : ℕ) (word marks : List ℕ) {r : ℕ} → r ≡ recover_refusal_in E.limits m w c word marks → (r ≡ 0 → ⊥)
-    → Ends (Mending.Refused r) word marks (recover_in E m w c word marks)
-recover-refused E m w c word marks {r} e some =
-    ends-refused (service-refused E m w c word marks r e some) some (λ z. not-nine E.limits m w c word marks (sym e ∙ z))
+pub recover-refused : (E : Edition) (m w c : ℕ) (word marks : List ℕ) {e : Refusal} → refusal_number e ≡ recover_refusal_in E.limits m w c word marks
+    → Ends (Err e) word marks (recover_in E m w c word marks)
+recover-refused E m w c word marks {e} is =
+    ends-refused (service-refused E m w c word marks (refusal_number e) is (refusal-some e))
+    (λ z. not-nine E.limits m w c word marks (sym is ∙ z))
 
 -- what is counted of an accepted call's marks is the excess
 excess-is : {L : Limits} {m w c : ℕ} {word marks : List ℕ} → AcceptedIn L m w c word marks → {x : ℕ} → x ≡ excess (length marks / w) w c marks
@@ -155,24 +143,24 @@ pub low-excess : {L : Limits} {m w c : ℕ} {word marks : List ℕ} → Accepted
 low-excess A e = subst (λ n. n ≤ 2) (excess-is A e)
 
 -- the end of a call with an excess of at most two, which is no 8
-abbrev pub Determined : Edition → ℕ → ℕ → ℕ → List ℕ → List ℕ → Mending → List ℕ → List ℕ → Type 0
+abbrev pub Determined : Edition → ℕ → ℕ → ℕ → List ℕ → List ℕ → Result Unit Refusal → List ℕ → List ℕ → Type 0
 Determined E m w c word marks r after held = AnswersBy r (recover_in E m w c word marks)
     × ((after ≡ (recover_in E m w c word marks).word) × ((held ≡ (recover_in E m w c word marks).marks) × (mending_number r ≡ 8 → ⊥)))
 
 module _ {E : Edition} (S : Sound E) {m w c : ℕ} {word marks : List ℕ} (A : AcceptedIn E.limits m w c word marks)
     (small : (p : ℕ) → get_or word p 0 < 2 ^ E.bits) where
-  pub recover-eight : {x : ℕ} → x ≡ excess (length marks / w) w c marks → 2 < x → Ends (Mending.Refused 8) word marks (recover_in E m w c word marks)
+  pub recover-eight : {x : ℕ} → x ≡ excess (length marks / w) w c marks → 2 < x → Ends (Err Refusal.Undetermined) word marks (recover_in E m w c word marks)
   recover-eight e h =
-      ends-refused (service-eight S m w c word marks A small (subst (λ n. 2 < n) (excess-is A e) h)) (λ z. omega arith) (λ z. omega arith)
+      ends-refused (service-eight S m w c word marks A small (subst (λ n. 2 < n) (excess-is A e) h)) (λ z. omega arith)
 
   module _ (low : excess m w c marks ≤ 2) {after held : List ℕ} {t : Tested} (is : AttemptIn E m w c marks word after t) where
-    pub recover-nine : t.codeword ≡ false → held ≡ marks → Determined E m w c word marks (Mending.Contradictory t.group) after held
+    pub recover-nine : t.codeword ≡ false → held ≡ marks → Determined E m w c word marks (Err (Refusal.Contradictory t.group)) after held
     recover-nine f q =
         let F = is.failed f in
         let e = ends-nine (service-nine S m w c word marks A small low (F.1 low) ∙ ap (λ g. contradictory g word marks) (sym is.group)) F.0 q in
         (e.0, (e.1.0, (e.1.1, λ z. omega arith)))
 
-    pub recover-done : t.codeword ≡ true → held ≡ replicate (length marks) 0 → Determined E m w c word marks Mending.Done after held
+    pub recover-done : t.codeword ≡ true → held ≡ replicate (length marks) 0 → Determined E m w c word marks (Ok tt) after held
     recover-done y q =
         let e = ends-done marks (service-done S m w c word marks A small after low (is.done y)) q in
         (e.0, (e.1.0, (e.1.1, λ z. omega arith)))

@@ -1,5 +1,5 @@
 -- Laws: A repair: the filling of one group's stretch, its test, and how the call ends.
-use Rattle.std.specs.Prelude.{◌≡◌, refl, Bool, true, false, List, ℕ, ◌+◌, ◌-◌, ◌*◌, ◌^◌, ◌≤◌, ◌<◌, length, get_or, take, drop, replicate}
+use Rattle.std.specs.Prelude.{◌≡◌, refl, Bool, true, false, List, ℕ, Result, Ok, Err, ◌+◌, ◌-◌, ◌*◌, ◌^◌, ◌≤◌, ◌<◌, length, get_or, take, drop, replicate}
 use Rattle.std.proofs.Common.{sym, ap, ◌∙◌, subst, arith}
 use Rattle.code.specs.Edition.{Edition, Sound}
 use Rattle.code.specs.Limits.{Limits}
@@ -9,7 +9,9 @@ use Rattle.code.specs.Word.{is_local}
 use Rattle.code.specs.Marks.{lost_in}
 use Rattle.code.specs.Repair.{repaired}
 use Rattle.code.specs.RepairLaws.{repaired-eight, repaired-nine, repaired-done}
-use Rattle.answers.specs.declared.Mending.{Mending}
+use Rattle.answers.specs.declared.Refusal.{Refusal}
+use Rattle.answers.specs.Answers.{refusal_number}
+use Rattle.answers.specs.AnswersLaws.{refusal-some}
 use Rattle.code_engine.specs.Filled.{FilledIn}
 use Rattle.code_services.specs.Recover.{recover_refusal_in}
 use Rattle.code_services.specs.Attempt.{AcceptedIn}
@@ -18,7 +20,7 @@ use Rattle.code_services.specs.RepairLaws.{filled-tested, part-done, part-failed
 use Rattle.code_services.specs.RepairOrder.{held, held_after_list}
 use Rattle.code_services.specs.RepairOrderLaws.{list-turn, list-end}
 use Rattle.code_loops.specs.EndsLaws.{Ends, ends-refused, ends-nine, ends-done}
-use Rattle.code_loops.specs.RecoverLaws.{not-nine}
+use Rattle.code_services.specs.PlainLaws.{recover-plain}
 
 -- ---- a stretch of a word with its marks
 pub record Part (E : Edition) (c : ℕ) (part marks : List ℕ) : Type 0 where
@@ -63,34 +65,35 @@ module _ {E : Edition} {c : ℕ} {part marks : List ℕ} (P : Part E c part mark
   few-lost = subst (λ k. k ≤ c) lost
 
   module _ (S : Sound E) (g : ℕ) where
-    pub part-eight : c < n → Ends (Mending.Refused 8) part marks (repaired E (length part) c g part marks)
+    pub part-eight : c < n → Ends (Err Refusal.Undetermined) part marks (repaired E (length part) c g part marks)
     part-eight h =
         ends-refused (repaired-eight E S (length part) c P.wide P.narrow part marks (record { size = refl; each = P.small }) g
-        (subst (λ k. c < k) lost h)) (λ z. omega arith) (λ z. omega arith)
+        (subst (λ k. c < k) lost h)) (λ z. omega arith)
 
     module _ (h : n ≤ c) {after held : List ℕ} {b : Bool} (A : PartAttemptIn E (length part) c marks part after b) where
-      pub part-nine : b ≡ false → held ≡ marks → Ends (Mending.Contradictory g) after held (repaired E (length part) c g part marks)
+      pub part-nine : b ≡ false → held ≡ marks → Ends (Err (Refusal.Contradictory g)) after held (repaired E (length part) c g part marks)
       part-nine f q =
           ends-nine (repaired-nine E S (length part) c P.wide P.narrow part marks (record { size = refl; each = P.small }) g (few-lost h)
           (A.failed f).1) (A.failed f).0 q
 
-      pub part-mended : b ≡ true → held ≡ replicate (length marks) 0 → Ends Mending.Done after held (repaired E (length part) c g part marks)
+      pub part-mended : b ≡ true → held ≡ replicate (length marks) 0 → Ends (Ok tt) after held (repaired E (length part) c g part marks)
       part-mended y q =
           ends-done marks (repaired-done E S (length part) c P.wide P.narrow part marks (record { size = refl; each = P.small }) g after (few-lost h)
           (A.done y)) q
 
 -- ---- the call
 module _ (E : Edition) (m w c g : ℕ) (word marks : List ℕ) where
-  pub repair-refused : {r : ℕ} → r ≡ recover_refusal_in E.limits m w c word marks → (r ≡ 0 → ⊥)
-      → Ends (Mending.Refused r) word marks (repair_in E m w c g word marks)
-  repair-refused {r} e some =
-      ends-refused (service-refused E m w c g word marks r (refused-early E.limits m w c g word marks r e some) some) some
-      (λ z. not-nine E.limits m w c word marks (sym e ∙ z))
+  pub repair-refused : {e : Refusal} → refusal_number e ≡ recover_refusal_in E.limits m w c word marks
+      → Ends (Err e) word marks (repair_in E m w c g word marks)
+  repair-refused {e} is =
+      let some = refusal-some e in
+      ends-refused (service-refused E m w c g word marks _ (refused-early E.limits m w c g word marks _ is some) some)
+      (λ z. (recover-plain E.limits m w c word marks).1 (sym is ∙ z))
 
-  pub repair-seven : AcceptedIn E.limits m w c word marks → m ≤ g → Ends (Mending.Refused 7) word marks (repair_in E m w c g word marks)
+  pub repair-seven : AcceptedIn E.limits m w c word marks → m ≤ g → Ends (Err Refusal.GroupNumber) word marks (repair_in E m w c g word marks)
   repair-seven A h =
       ends-refused (service-refused E m w c g word marks 7 (refused-seven E.limits m w c g word marks A.refusal h) (λ z. omega arith))
-      (λ z. omega arith) (λ z. omega arith)
+      (λ z. omega arith)
 
 -- an accepted call: the stretches of group g
 module _ {L : Limits} {m w c g : ℕ} {word marks : List ℕ} (A : AcceptedIn L m w c word marks) (l : g < m) where

@@ -14,14 +14,14 @@ use Rattle.std.proofs.Math.Seq.{drop-cons}
 use Rattle.std.proofs.lemmas.Bool.{lt-leb}
 use Rattle.code.specs.Limits.{Limits, data_count, GoodIn}
 use Rattle.code_engine.specs.GroupsLaws.{group-next, groups-passed}
-use Rattle.code_services.specs.Places.{is_check, others_from, data_places, bytes_at, extract_of, spread_from, placed_of, mark, marks_from, check_marks}
+use Rattle.code_services.specs.Places.{is_check, others_from, data_places, symbols_at, extract_over, spread_over, placed_over, mark, marks_from, check_marks}
 use Rattle.code_services.specs.PlacesLaws.{check-inner, check-last}
 use Rattle.code_services.specs.PlacesRuns.{data_of, data_in}
 
 -- nothing is read of no places
-nothing : (check : ℕ → Bool) (word : List ℕ) (p : ℕ) (x : List ℕ) → x ++ bytes_at word (others_from check p 0) ≡ x
-unfolding others_from bytes_at
-nothing check word p x = append-nil x
+nothing : {A : Type 0} (z : A) (check : ℕ → Bool) (word : List A) (p : ℕ) (x : List A) → x ++ symbols_at z word (others_from check p 0) ≡ x
+unfolding others_from symbols_at
+nothing z check word p x = append-nil x
 
 module _ (check : ℕ → Bool) where
   -- the places from p on as those from the next on
@@ -31,24 +31,24 @@ module _ (check : ℕ → Bool) where
   here : (v : Bool) (p d : ℕ) → ((j : ℕ) → j < suc d → check (p + j) ≡ v) → check p ≡ v
   here v p d h = ap check (sym (add-zero p)) ∙ h 0 (omega arith)
 
-  pub data-run : (d s p : ℕ) (bytes : List ℕ) → ((j : ℕ) → j < d → check (p + j) ≡ false) → d ≤ length bytes
-      → spread_from check p (d + s) bytes ≡ take d bytes ++ spread_from check (p + d) s (drop d bytes)
-  unfolding spread_from
-  data-run zero s p bytes h l = rw (zero-add s, add-zero p)
-  data-run (suc d) s p [] h l = absurd (omega arith)
-  data-run (suc d) s p (b ∷ bytes) h l =
+  pub data-run : {A : Type 0} (z : A) (d s p : ℕ) (bytes : List A) → ((j : ℕ) → j < d → check (p + j) ≡ false) → d ≤ length bytes
+      → spread_over z check p (d + s) bytes ≡ take d bytes ++ spread_over z check (p + d) s (drop d bytes)
+  unfolding spread_over
+  data-run z zero s p bytes h l = rw (zero-add s, add-zero p)
+  data-run z (suc d) s p [] h l = absurd (omega arith)
+  data-run z (suc d) s p (b ∷ bytes) h l =
       rw (suc-add d s, here false p d h)
-      (ap (λ t. b ∷ t) (data-run d s (suc p) bytes (after false p d h) (le_of_suc-le-suc l)
-      ∙ ap (λ q. take d bytes ++ spread_from check q s (drop d bytes)) (suc-add p d ∙ sym (add-suc p d))))
+      (ap (λ t. b ∷ t) (data-run z d s (suc p) bytes (after false p d h) (le_of_suc-le-suc l)
+      ∙ ap (λ q. take d bytes ++ spread_over z check q s (drop d bytes)) (suc-add p d ∙ sym (add-suc p d))))
 
-  pub check-run : (e s p : ℕ) (bytes : List ℕ) → ((j : ℕ) → j < e → check (p + j) ≡ true)
-      → spread_from check p (e + s) bytes ≡ replicate e 0 ++ spread_from check (p + e) s bytes
-  unfolding spread_from
-  check-run zero s p bytes h = rw (zero-add s, add-zero p)
-  check-run (suc e) s p bytes h =
+  pub check-run : {A : Type 0} (z : A) (e s p : ℕ) (bytes : List A) → ((j : ℕ) → j < e → check (p + j) ≡ true)
+      → spread_over z check p (e + s) bytes ≡ replicate e z ++ spread_over z check (p + e) s bytes
+  unfolding spread_over
+  check-run z zero s p bytes h = rw (zero-add s, add-zero p)
+  check-run z (suc e) s p bytes h =
       rw (suc-add e s, here true p e h)
-      (ap (λ t. 0 ∷ t) (check-run e s (suc p) bytes (after true p e h)
-      ∙ ap (λ q. replicate e 0 ++ spread_from check q s bytes) (suc-add p e ∙ sym (add-suc p e))))
+      (ap (λ t. z ∷ t) (check-run z e s (suc p) bytes (after true p e h)
+      ∙ ap (λ q. replicate e z ++ spread_over z check q s bytes) (suc-add p e ∙ sym (add-suc p e))))
 
   pub marks-run : (v : Bool) (e s p : ℕ) → ((j : ℕ) → j < e → check (p + j) ≡ v)
       → marks_from check p (e + s) ≡ replicate e (mark v) ++ marks_from check (p + e) s
@@ -59,14 +59,14 @@ module _ (check : ℕ → Bool) where
       (ap (λ t. mark v ∷ t) (marks-run v e s (suc p) (after v p e h) ∙ ap (λ q. replicate e (mark v) ++ marks_from check q s) (suc-add p e ∙ sym (add-suc p e))))
 
   -- what is read of a run of data
-  pub read-run : (d s p : ℕ) (word : List ℕ) → ((j : ℕ) → j < d → check (p + j) ≡ false) → p + d ≤ length word
-      → bytes_at word (others_from check p (d + s)) ≡ take d (drop p word) ++ bytes_at word (others_from check (p + d) s)
-  unfolding others_from bytes_at
-  read-run zero s p word h l = rw (zero-add s, add-zero p)
-  read-run (suc d) s p word h l =
-      rw (suc-add d s, here false p d h, drop-cons word p 0 (omega arith))
-      (ap (λ t. get_or word p 0 ∷ t) (read-run d s (suc p) word (after false p d h) (omega (arith, suc-add p d, add-suc p d))
-      ∙ ap (λ q. take d (drop (suc p) word) ++ bytes_at word (others_from check q s)) (suc-add p d ∙ sym (add-suc p d))))
+  pub read-run : {A : Type 0} (z : A) (d s p : ℕ) (word : List A) → ((j : ℕ) → j < d → check (p + j) ≡ false) → p + d ≤ length word
+      → symbols_at z word (others_from check p (d + s)) ≡ take d (drop p word) ++ symbols_at z word (others_from check (p + d) s)
+  unfolding others_from symbols_at
+  read-run z zero s p word h l = rw (zero-add s, add-zero p)
+  read-run z (suc d) s p word h l =
+      rw (suc-add d s, here false p d h, drop-cons word p z (omega arith))
+      (ap (λ t. get_or word p z ∷ t) (read-run z d s (suc p) word (after false p d h) (omega (arith, suc-add p d, add-suc p d))
+      ∙ ap (λ q. take d (drop (suc p) word) ++ symbols_at z word (others_from check q s)) (suc-add p d ∙ sym (add-suc p d))))
 
   -- and of a run of checks nothing
   pub pass-run : (e s p : ℕ) → ((j : ℕ) → j < e → check (p + j) ≡ true) → others_from check p (e + s) ≡ others_from check (p + e) s
@@ -138,31 +138,31 @@ module _ (m w c p d : ℕ) (R : Runs m w c p d) where
       ∙ ap (λ t. replicate d 0 ++ t) (marks-run (is_check m w c) true (w - d) r (p + d) R.checks)
       ∙ sym (append_assoc (replicate d 0) (replicate (w - d) 1) _) ∙ ap (λ q. (replicate d 0 ++ replicate (w - d) 1) ++ marks_from (is_check m w c) q r) ends
 
-  spread-group : (r : ℕ) (bytes : List ℕ) → d ≤ length bytes
-      → spread_from (is_check m w c) p (w + r) bytes ≡ (take d bytes ++ replicate (w - d) 0) ++ spread_from (is_check m w c) (p + w) r (drop d bytes)
-  spread-group r bytes long =
-      ap (λ n. spread_from (is_check m w c) p n bytes) (halves r) ∙ data-run (is_check m w c) d (w - d + r) p bytes R.others long
-      ∙ ap (λ t. take d bytes ++ t) (check-run (is_check m w c) (w - d) r (p + d) (drop d bytes) R.checks)
-      ∙ sym (append_assoc (take d bytes) (replicate (w - d) 0) _)
-      ∙ ap (λ q. (take d bytes ++ replicate (w - d) 0) ++ spread_from (is_check m w c) q r (drop d bytes)) ends
+  spread-group : {A : Type 0} (z : A) (r : ℕ) (bytes : List A) → d ≤ length bytes
+      → spread_over z (is_check m w c) p (w + r) bytes ≡ (take d bytes ++ replicate (w - d) z) ++ spread_over z (is_check m w c) (p + w) r (drop d bytes)
+  spread-group z r bytes long =
+      ap (λ n. spread_over z (is_check m w c) p n bytes) (halves r) ∙ data-run (is_check m w c) z d (w - d + r) p bytes R.others long
+      ∙ ap (λ t. take d bytes ++ t) (check-run (is_check m w c) z (w - d) r (p + d) (drop d bytes) R.checks)
+      ∙ sym (append_assoc (take d bytes) (replicate (w - d) z) _)
+      ∙ ap (λ q. (take d bytes ++ replicate (w - d) z) ++ spread_over z (is_check m w c) q r (drop d bytes)) ends
 
-  read-group : (r : ℕ) (word : List ℕ) → p + w ≤ length word
-      → bytes_at word (others_from (is_check m w c) p (w + r)) ≡ take d (drop p word) ++ bytes_at word (others_from (is_check m w c) (p + w) r)
-  read-group r word long =
-      ap (λ n. bytes_at word (others_from (is_check m w c) p n)) (halves r)
-      ∙ read-run (is_check m w c) d (w - d + r) p word R.others (let f = R.fits in omega arith)
-      ∙ ap (λ t. take d (drop p word) ++ bytes_at word t)
+  read-group : {A : Type 0} (z : A) (r : ℕ) (word : List A) → p + w ≤ length word
+      → symbols_at z word (others_from (is_check m w c) p (w + r)) ≡ take d (drop p word) ++ symbols_at z word (others_from (is_check m w c) (p + w) r)
+  read-group z r word long =
+      ap (λ n. symbols_at z word (others_from (is_check m w c) p n)) (halves r)
+      ∙ read-run (is_check m w c) z d (w - d + r) p word R.others (let f = R.fits in omega arith)
+      ∙ ap (λ t. take d (drop p word) ++ symbols_at z word t)
       (pass-run (is_check m w c) (w - d) r (p + d) R.checks ∙ ap (λ q. others_from (is_check m w c) q r) ends)
 
 -- what is written up to the end of a part of d places that starts at i, and what stays after it
-module _ (i d : ℕ) (x part : List ℕ) (l : i ≤ length x) (own : length part ≡ d) where
+module _ {A : Type 0} (i d : ℕ) (x part : List A) (l : i ≤ length x) (own : length part ≡ d) where
   length-written : length (take i x ++ part) ≡ i + d
   length-written = length-append (take i x) part ∙ (let t = length-take-le i x l in omega arith)
 
-  written : (rest : List ℕ) → take (i + d) (take i x ++ (part ++ rest)) ≡ take i x ++ part
+  written : (rest : List A) → take (i + d) (take i x ++ (part ++ rest)) ≡ take i x ++ part
   written rest = ap (take (i + d)) (sym (append_assoc (take i x) part rest)) ∙ take_at (take i x ++ part) rest (i + d) length-written
 
-  pub stays : (y : List ℕ) → drop i x ≡ drop i y → drop (i + d) (take i x ++ (part ++ drop (i + d - i) (drop i x))) ≡ drop (i + d) y
+  pub stays : (y : List A) → drop i x ≡ drop i y → drop (i + d) (take i x ++ (part ++ drop (i + d - i) (drop i x))) ≡ drop (i + d) y
   stays y e =
       let z : i + d - i ≡ d = omega arith in
       ap (drop (i + d)) (sym (append_assoc (take i x) part (drop (i + d - i) (drop i x))))
@@ -193,36 +193,36 @@ module _ (m w g : ℕ) (l : g < m) where
       own : length {A = ℕ} (replicate d 0 ++ replicate (w - d) 1) ≡ w
       own = simp (length-append, length-replicate) (let f = R.fits in omega arith)
 
-  module _ (c d : ℕ) (R : Runs m w c (g * w) d) (x part rest : List ℕ) where
-    pub spread-turn : length x ≡ m * w → (bytes : List ℕ) (i : ℕ) → i + d ≤ length bytes → part ≡ take d (drop i bytes) ++ replicate (w - d) 0
-        → take ((g + 1) * w) (take (g * w) x ++ (part ++ rest)) ++ spread_from (is_check m w c) ((g + 1) * w) ((m - (g + 1)) * w) (drop (i + d) bytes)
-        ≡ take (g * w) x ++ spread_from (is_check m w c) (g * w) ((m - g) * w) (drop i bytes)
+  module _ {A : Type 0} (z : A) (c d : ℕ) (R : Runs m w c (g * w) d) (x part rest : List A) where
+    pub spread-turn : length x ≡ m * w → (bytes : List A) (i : ℕ) → i + d ≤ length bytes → part ≡ take d (drop i bytes) ++ replicate (w - d) z
+        → take ((g + 1) * w) (take (g * w) x ++ (part ++ rest)) ++ spread_over z (is_check m w c) ((g + 1) * w) ((m - (g + 1)) * w) (drop (i + d) bytes)
+        ≡ take (g * w) x ++ spread_over z (is_check m w c) (g * w) ((m - g) * w) (drop i bytes)
     spread-turn size bytes i long e =
         ap₂ ◌++◌ (ap (λ n. take n (take (g * w) x ++ (part ++ rest))) group-end
         ∙ written (g * w) w x part (let r = group-room in omega arith) (ap length e ∙ own) rest)
-        (ap₂ (λ q b. spread_from (is_check m w c) q ((m - (g + 1)) * w) b) group-end (sym (drop-drop d i bytes)))
+        (ap₂ (λ q b. spread_over z (is_check m w c) q ((m - (g + 1)) * w) b) group-end (sym (drop-drop d i bytes)))
         ∙ append_assoc (take (g * w) x) part _
         ∙ ap (λ t. take (g * w) x ++ t)
-        (ap (λ y. y ++ spread_from (is_check m w c) (g * w + w) ((m - (g + 1)) * w) (drop d (drop i bytes))) e
-        ∙ sym (spread-group m w c (g * w) d R ((m - (g + 1)) * w) (drop i bytes) enough)
-        ∙ ap (λ n. spread_from (is_check m w c) (g * w) n (drop i bytes)) (sym groups-left))
+        (ap (λ y. y ++ spread_over z (is_check m w c) (g * w + w) ((m - (g + 1)) * w) (drop d (drop i bytes))) e
+        ∙ sym (spread-group m w c (g * w) d R z ((m - (g + 1)) * w) (drop i bytes) enough)
+        ∙ ap (λ n. spread_over z (is_check m w c) (g * w) n (drop i bytes)) (sym groups-left))
       where
         enough : d ≤ length (drop i bytes)
         enough = simp length-drop (omega arith)
 
-        own : length (take d (drop i bytes) ++ replicate (w - d) 0) ≡ w
+        own : length (take d (drop i bytes) ++ replicate (w - d) z) ≡ w
         own = simp (length-append, length-replicate) (let f = R.fits in let t = length-take-le d (drop i bytes) enough in omega arith)
 
-    pub read-turn : (word : List ℕ) (i : ℕ) → length word ≡ m * w → i ≤ length x → part ≡ take d (drop (g * w) word)
-        → take (i + d) (take i x ++ (part ++ rest)) ++ bytes_at word (others_from (is_check m w c) ((g + 1) * w) ((m - (g + 1)) * w))
-        ≡ take i x ++ bytes_at word (others_from (is_check m w c) (g * w) ((m - g) * w))
+    pub read-turn : (word : List A) (i : ℕ) → length word ≡ m * w → i ≤ length x → part ≡ take d (drop (g * w) word)
+        → take (i + d) (take i x ++ (part ++ rest)) ++ symbols_at z word (others_from (is_check m w c) ((g + 1) * w) ((m - (g + 1)) * w))
+        ≡ take i x ++ symbols_at z word (others_from (is_check m w c) (g * w) ((m - g) * w))
     read-turn word i size long e =
-        ap₂ ◌++◌ (written i d x part long own rest) (ap (λ q. bytes_at word (others_from (is_check m w c) q ((m - (g + 1)) * w))) group-end)
+        ap₂ ◌++◌ (written i d x part long own rest) (ap (λ q. symbols_at z word (others_from (is_check m w c) q ((m - (g + 1)) * w))) group-end)
         ∙ append_assoc (take i x) part _
         ∙ ap (λ t. take i x ++ t)
-        (ap (λ y. y ++ bytes_at word (others_from (is_check m w c) (g * w + w) ((m - (g + 1)) * w))) e
-        ∙ sym (read-group m w c (g * w) d R ((m - (g + 1)) * w) word room)
-        ∙ ap (λ n. bytes_at word (others_from (is_check m w c) (g * w) n)) (sym groups-left))
+        (ap (λ y. y ++ symbols_at z word (others_from (is_check m w c) (g * w + w) ((m - (g + 1)) * w))) e
+        ∙ sym (read-group m w c (g * w) d R z ((m - (g + 1)) * w) word room)
+        ∙ ap (λ n. symbols_at z word (others_from (is_check m w c) (g * w) n)) (sym groups-left))
       where
         room : g * w + w ≤ length word
         room = let r = group-room in omega arith
@@ -241,39 +241,39 @@ module _ (m w c : ℕ) where
   unfolding check_marks
   marks-first x = rw (sub-zero m)
 
-  pub spread-first : (x bytes : List ℕ) → take (0 * w) x ++ spread_from (is_check m w c) (0 * w) ((m - 0) * w) bytes ≡ placed_of m w c bytes
-  unfolding placed_of
-  spread-first x bytes = rw (first-place, sub-zero m)
+  pub spread-first : {A : Type 0} (z : A) (x bytes : List A) → take (0 * w) x ++ spread_over z (is_check m w c) (0 * w) ((m - 0) * w) bytes ≡ placed_over z m w c bytes
+  unfolding placed_over
+  spread-first z x bytes = rw (first-place, sub-zero m)
 
-  pub read_first : (x word : List ℕ) → take 0 x ++ bytes_at word (others_from (is_check m w c) (0 * w) ((m - 0) * w)) ≡ extract_of m w c word
-  unfolding extract_of data_places
-  read_first x word = rw (first-place, sub-zero m)
+  pub read_first : {A : Type 0} (z : A) (x word : List A) → take 0 x ++ symbols_at z word (others_from (is_check m w c) (0 * w) ((m - 0) * w)) ≡ extract_over z m w c word
+  unfolding extract_over data_places
+  read_first z x word = rw (first-place, sub-zero m)
 
-  module _ (g : ℕ) (e : g ≡ m) (x : List ℕ) where
+  module _ (g : ℕ) (e : g ≡ m) where
     none_left : (m - g) * w ≡ 0
     none_left = let z : m - g ≡ 0 = omega arith in ap (λ n. n * w) z ∙ zero-mul w
 
-    pub marks-last : (p : ℕ) → take p x ++ marks_from (is_check m w c) p ((m - g) * w) ≡ take p x
+    pub marks-last : (x : List ℕ) (p : ℕ) → take p x ++ marks_from (is_check m w c) p ((m - g) * w) ≡ take p x
     unfolding marks_from
-    marks-last p = rw (none_left, append-nil)
+    marks-last x p = rw (none_left, append-nil)
 
-    pub spread-last : length x ≡ m * w → (bytes : List ℕ) → take (g * w) x ++ spread_from (is_check m w c) (g * w) ((m - g) * w) bytes ≡ x
-    unfolding spread_from
-    spread-last size bytes = rw (none_left, append-nil) (take_all (g * w) x (let q : g * w ≡ m * w = ap (λ n. n * w) e in omega arith))
+    pub spread-last : {A : Type 0} (z : A) (x : List A) → length x ≡ m * w → (bytes : List A) → take (g * w) x ++ spread_over z (is_check m w c) (g * w) ((m - g) * w) bytes ≡ x
+    unfolding spread_over
+    spread-last z x size bytes = rw (none_left, append-nil) (take_all (g * w) x (let q : g * w ≡ m * w = ap (λ n. n * w) e in omega arith))
 
     -- a list as long as the data, whose first places are the data, is the data
-    pub read-last : (word : List ℕ) (i : ℕ) → take i x ++ bytes_at word (others_from (is_check m w c) (g * w) ((m - g) * w)) ≡ extract_of m w c word
-        → length x ≡ length (extract_of m w c word) → x ≡ extract_of m w c word
-    read-last word i h size =
-        let front : take i x ≡ extract_of m w c word = sym (none_read word i) ∙ h in
+    pub read-last : {A : Type 0} (z : A) (x word : List A) (i : ℕ) → take i x ++ symbols_at z word (others_from (is_check m w c) (g * w) ((m - g) * w)) ≡ extract_over z m w c word
+        → length x ≡ length (extract_over z m w c word) → x ≡ extract_over z m w c word
+    read-last {A} z x word i h size =
+        let front : take i x ≡ extract_over z m w c word = sym (none_read word i) ∙ h in
         sym (take_all i x (let n = length-take i x in let k = ap length front in omega arith)) ∙ front
       where
-        none_read : (word : List ℕ) (i : ℕ) → take i x ++ bytes_at word (others_from (is_check m w c) (g * w) ((m - g) * w)) ≡ take i x
-        none_read word i = rw none_left (nothing (is_check m w c) word (g * w) (take i x))
+        none_read : (word : List A) (i : ℕ) → take i x ++ symbols_at z word (others_from (is_check m w c) (g * w) ((m - g) * w)) ≡ take i x
+        none_read word i = rw none_left (nothing z (is_check m w c) word (g * w) (take i x))
 
 -- ---- a part written in two pieces, p of d bytes and then q
-module _ (d : ℕ) (xs p : List ℕ) (e : length p ≡ d) where
-  two-pieces : (q : List ℕ) → take d (p ++ drop d xs) ++ (q ++ drop (length (p ++ drop d xs) - d) (drop d (p ++ drop d xs))) ≡ p ++ q
+module _ {A : Type 0} (d : ℕ) (xs p : List A) (e : length p ≡ d) where
+  two-pieces : (q : List A) → take d (p ++ drop d xs) ++ (q ++ drop (length (p ++ drop d xs) - d) (drop d (p ++ drop d xs))) ≡ p ++ q
   two-pieces q =
       let z : length (drop d xs) ≤ length (p ++ drop d xs) - d = (let n = length-append p (drop d xs) in omega arith) in
       ap₂ ◌++◌ (take_at p (drop d xs) d e)
@@ -287,12 +287,12 @@ module _ (d : ℕ) (xs p : List ℕ) (e : length p ≡ d) where
       length-take-le (length (p ++ drop d xs) - d) (drop d (p ++ drop d xs)) (omega arith) ∙ omega arith
 
   -- of which the second is a run of one value
-  pub front-and-run : (v : ℕ) (front q : List ℕ) → p ≡ front → q ≡ replicate (length (take (length (p ++ drop d xs) - d) (drop d (p ++ drop d xs)))) v
+  pub front-and-run : (v : A) (front q : List A) → p ≡ front → q ≡ replicate (length (take (length (p ++ drop d xs) - d) (drop d (p ++ drop d xs)))) v
       → take d (p ++ drop d xs) ++ (q ++ drop (length (p ++ drop d xs) - d) (drop d (p ++ drop d xs))) ≡ front ++ replicate (length xs - d) v
   front-and-run v front q f h = two-pieces q ∙ ap₂ ◌++◌ f (h ∙ ap (λ n. replicate n v) second-piece)
 
 -- the part of group g that a loop lends
-pub lent-size : (m w g : ℕ) → g < m → (x : List ℕ) → length x ≡ m * w → length (take (g * w + w - g * w) (drop (g * w) x)) ≡ w
+pub lent-size : {A : Type 0} (m w g : ℕ) → g < m → (x : List A) → length x ≡ m * w → length (take (g * w + w - g * w) (drop (g * w) x)) ≡ w
 lent-size m w g l x size =
     let r = group-room m w g l in
     let k = length-drop (g * w) x in

@@ -1,6 +1,6 @@
 -- What the service Encode gives.
-use Rattle.std.specs.Prelude.{List, ℕ, length}
-use Rattle.answers.specs.declared.Answer.{Answer}
+use Rattle.std.specs.Prelude.{List, ℕ, length, Result}
+use Rattle.answers.specs.declared.Refusal.{Refusal}
 use Rattle.answers.specs.Answers.{answer_at}
 use Rattle.code.specs.Refusals.{◌or_else◌, unless_refused}
 use Rattle.code.specs.Limits.{Limits, sale_refusal_in, buffer_refusal_in}
@@ -17,7 +17,7 @@ unfoldable pub encode_refusal_in : Limits → ℕ → ℕ → ℕ → ℕ → �
 encode_refusal_in L m w c word bytes' = sale_refusal_in L m w c or_else buffer_refusal_in L m w c word bytes'
 
 -- the answer
-unfoldable pub encode_in : Limits → ℕ → ℕ → ℕ → List ℕ → List ℕ → Answer
+unfoldable pub encode_in : Limits → ℕ → ℕ → ℕ → List ℕ → List ℕ → Result Unit Refusal
 encode_in L m w c carried word = answer_at (encode_refusal_in L m w c (length word) (length carried))
 
 -- the word buffer at the end

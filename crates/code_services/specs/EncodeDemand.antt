@@ -1,6 +1,6 @@
 -- Demand 2 of Encode: "Encoding gives the one codeword that carries the data, and the data come out again."
-use Rattle.std.specs.Prelude.{◌≡◌, List, ℕ}
-use Rattle.answers.specs.declared.Answer.{Answer}
+use Rattle.std.specs.Prelude.{◌≡◌, List, ℕ, Result, Ok, Err}
+use Rattle.answers.specs.declared.Refusal.{Refusal}
 use Rattle.code_services.specs.Places.{extract_of}
 use Rattle.code.specs.Edition.{Edition}
 use Rattle.code.specs.Word.{Codeword}
@@ -14,10 +14,10 @@ pub record Encoded (E : Edition) (m w c : ℕ) (carried word : List ℕ) : Type 
 
 -- Of a call: it is done, and leaves the one codeword that carries the data. "Demand 2's encoding half now speaks of c up to 3".
 pub record EncodeDemandTwo (E : Edition) (m w c : ℕ) (carried word : List ℕ) : Type 0 where
-  pub done : encode_in E.limits m w c carried word ≡ Answer.Done
+  pub done : encode_in E.limits m w c carried word ≡ Ok tt
   pub encoded : Encoded E m w c carried (encoded_buffer_in E m w c carried word)
 
 -- "Encode [..] with c = 4 [is] refused", with 29, and the word stays as it was
 pub record Retired (E : Edition) (m w c : ℕ) (carried word : List ℕ) : Type 0 where
-  pub refused : encode_in E.limits m w c carried word ≡ Answer.Refused 29
+  pub refused : encode_in E.limits m w c carried word ≡ Err Refusal.Retired
   pub stays : encoded_buffer_in E m w c carried word ≡ word

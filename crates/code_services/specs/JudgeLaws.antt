@@ -1,5 +1,5 @@
 -- What the answer of Judge says.
-use Rattle.std.specs.Prelude.{◌≡◌, refl, ◌↔◌, List, ℕ, zero, suc, ◌+◌, ◌*◌, ◌≤◌, ◌<◌, ltb}
+use Rattle.std.specs.Prelude.{◌≡◌, refl, ◌↔◌, List, ℕ, ◌+◌, ◌*◌, ◌≤◌, ◌<◌, ltb, Err}
 use Rattle.std.proofs.Common.{ap, ◌∙◌, arith, lt-ltb, le-ltb}
 use Rattle.std.proofs.Math.Decide.{dec_le}
 use Rattle.counting.specs.Count.{count_below}
@@ -11,24 +11,22 @@ use Rattle.code.specs.DeterminedLaws.{above-two, undetermined}
 use Rattle.code.specs.Limits.{Limits, sure_count, GoodIn}
 use Rattle.code_services.specs.Marks.{MarkedIn, marks_refusal_in}
 use Rattle.code_services.specs.MarksLaws.{good-of-marks, marks-of-good}
-use Rattle.answers.specs.declared.Judged.{Judged}
+use Rattle.answers.specs.declared.Refusal.{Refusal}
+use Rattle.answers.specs.Answers.{refusal_number, Plain}
+use Rattle.answers.specs.AnswersLaws.{answer-refused}
 use Rattle.answers.specs.Figures.{judged_at, judged_number}
 use Rattle.code_services.specs.Judge.{judged_number_in, judged_in}
+use Rattle.code_services.specs.PlainLaws.{judged-plain}
 use Rattle.code_services.specs.Sure.{first_lost}
 use Rattle.code_services.specs.SureLaws.{first-length, first-mark, first_count, sure-excess, first-many}
 use Rattle.code_services.specs.SureCount.{IsSureIn, FailsIn}
 
-pub judged-refused : (r : ℕ) → (r ≡ 0 → ⊥) → judged_at r ≡ Judged.Refused r
-judged-refused zero h = absurd (h refl)
-judged-refused (suc r) h = refl
+pub judged-refused : {e : Refusal} (r : ℕ) → refusal_number e ≡ r → Plain r → judged_at r ≡ Err e
+judged-refused r is p = answer-refused is p
 
 pub judged-number : (L : Limits) (m w c : ℕ) (marks : List ℕ) → judged_number (judged_in L m w c marks) ≡ judged_number_in L m w c marks
 unfolding judged_in
-judged-number L m w c marks = go (judged_number_in L m w c marks)
-  where
-    go : (r : ℕ) → judged_number (judged_at r) ≡ r
-    go zero = refl
-    go (suc r) = refl
+judged-number L m w c marks = (judged-plain L m w c marks).0
 
 module _ (L : Limits) (m w c : ℕ) (marks : List ℕ) (accepted : marks_refusal_in L m w c marks ≡ 0) where
   pub number_of : judged_number_in L m w c marks ≡ refuse 8 (ltb 2 (excess m w c marks))

@@ -31,3 +31,4 @@ pub mod EncodeDemand
 pub mod EncodeLaws
 pub mod RepairOrder
 pub mod RepairOrderLaws
+pub mod PlainLaws

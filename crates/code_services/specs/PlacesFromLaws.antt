@@ -10,7 +10,7 @@ use Rattle.std.proofs.Math.Nat.{add-zero, le_refl}
 use native.Mathlib.Omega.{arith}
 use Rattle.std.proofs.Math.ListN.{length, get_or, length-append}
 use Rattle.std.proofs.lemmas.List.{get_or_at}
-use Rattle.code_services.specs.Places.{others_from, bytes_at, spread_from, mark, marks_from}
+use Rattle.code_services.specs.Places.{others_from, bytes_at, spread_from, mark, marks_from, spread_over, symbols_at}
 use Rattle.counting.specs.Count.{total_below, count_below}
 
 module _ (check : ℕ → Bool) where
@@ -61,7 +61,7 @@ module _ (check : ℕ → Bool) where
           i (cc) l
 
   pub spread-length : (p r : ℕ) (bytes : List ℕ) → length (spread_from check p r bytes) ≡ r
-  unfolding spread_from
+  unfolding spread_over
   spread-length p zero bytes = refl
   spread-length p (suc r) bytes = go (check p) refl (spread-length (suc p) r)
     where
@@ -70,7 +70,7 @@ module _ (check : ℕ → Bool) where
       go false e i = rw e (ap suc (i (drop 1 bytes)))
 
   pub spread-check : (p r : ℕ) (bytes : List ℕ) (i : ℕ) → i < r → check (p + i) ≡ true → get_or (spread_from check p r bytes) i 0 ≡ 0
-  unfolding spread_from
+  unfolding spread_over
   spread-check p zero bytes i l e = absurd (not-suc-le-zero l)
   spread-check p (suc r) bytes zero l e = let s : check p ≡ true = ap check (sym (add-zero p)) ∙ e in rw s
   spread-check p (suc r) bytes (suc i) l e = go (check p) refl (λ bs. spread-check (suc p) r bs i (le_of_suc-le-suc l)
@@ -81,7 +81,7 @@ module _ (check : ℕ → Bool) where
       go false s h = rw s (h (drop 1 bytes))
 
   pub spread-below : (b : ℕ) → 0 < b → (p r : ℕ) (bytes : List ℕ) → ((i : ℕ) → get_or bytes i 0 < b) → (i : ℕ) → get_or (spread_from check p r bytes) i 0 < b
-  unfolding spread_from
+  unfolding spread_over
   spread-below b l p zero bytes h i = l
   spread-below b l p (suc r) bytes h i = go (check p) refl (spread-below b l (suc p) r) i
     where
@@ -116,7 +116,7 @@ module _ (check : ℕ → Bool) where
   -- behind the places before p, what was spread is found again
   pub others-spread : (p r : ℕ) (before bytes : List ℕ) → length before ≡ p → length bytes ≡ length (others_from check p r)
       → map (λ q. get_or (before ++ spread_from check p r bytes) q 0) (others_from check p r) ≡ bytes
-  unfolding others_from spread_from
+  unfolding others_from spread_over
   others-spread p zero before [] h k = refl
   others-spread p zero before (b ∷ bytes) h k = absurd (omega arith)
   others-spread p (suc r) before bytes h k = go (check p) refl bytes k (others-spread (suc p) r)
@@ -133,7 +133,7 @@ module _ (check : ℕ → Bool) where
           (simp append_assoc at (i (before ++ (b ∷ [])) bytes (simp length-append (omega arith)) (omega arith))))
 
 pub bytes_below : (b : ℕ) → 0 < b → (word : List ℕ) → ((i : ℕ) → get_or word i 0 < b) → (places : List ℕ) (i : ℕ) → get_or (bytes_at word places) i 0 < b
-unfolding bytes_at
+unfolding symbols_at
 bytes_below b l word h [] i = l
 bytes_below b l word h (p ∷ places) zero = h p
 bytes_below b l word h (p ∷ places) (suc i) = bytes_below b l word h places i

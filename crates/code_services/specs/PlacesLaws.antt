@@ -13,7 +13,7 @@ use Rattle.std.proofs.lemmas.Bool.{lt-leb}
 use Rattle.code.specs.RefusalsLaws.{or_else-zero}
 use Rattle.code.specs.Limits.{Limits, place_count, data_count, GoodIn, sale_refusal_in, word_refusal_in}
 use Rattle.code.specs.LimitsLaws.{data-and-checks, good-of-word, word-of-good, buffers-of-good}
-use Rattle.code_services.specs.Places.{is_check, others_from, data_places, bytes_at, extract_of, placed_of, mark, check_marks, extracted_data_in}
+use Rattle.code_services.specs.Places.{is_check, others_from, data_places, bytes_at, extract_of, placed_of, mark, check_marks, extracted_data_in, extract_over, placed_over, symbols_at}
 use Rattle.code_services.specs.Places.{marks_from, check_marks_refusal_in}
 use Rattle.code_services.specs.PlacesRuns.{with_checks}
 use Rattle.code_engine.specs.GroupsLaws.{groups-whole}
@@ -84,26 +84,29 @@ module _ {L : Limits} {m w c : ℕ} (good : GoodIn L m w c) where
             m c,
       )
 
+  pub extract-over-length : {A : Type 0} (z : A) (word : List A) → length (extract_over z m w c word) ≡ data_count m w c
+  unfolding extract_over symbols_at
+  extract-over-length z word = length-map (data_places m w c) (λ p. get_or word p z) ∙ data-length
+
   pub extract-length : (word : List ℕ) → length (extract_of m w c word) ≡ data_count m w c
-  unfolding extract_of bytes_at
-  extract-length word = length-map (data_places m w c) (λ p. get_or word p 0) ∙ data-length
+  extract-length word = extract-over-length 0 word
 
   pub extract-placed : (bytes : List ℕ) → length bytes ≡ data_count m w c → extract_of m w c (placed_of m w c bytes) ≡ bytes
-  unfolding extract_of placed_of data_places bytes_at
+  unfolding extract_over placed_over data_places symbols_at
   extract-placed bytes e = FromLaws.others-spread (is_check m w c) 0 (place_count m w) [] bytes refl (e ∙ sym data-length)
 
 module _ (m w c : ℕ) where
   pub placed-length : (bytes : List ℕ) → length (placed_of m w c bytes) ≡ place_count m w
-  unfolding placed_of
+  unfolding placed_over
   placed-length bytes = FromLaws.spread-length (is_check m w c) 0 (place_count m w) bytes
 
   -- numbers below b stay below b
   pub placed_below : (b : ℕ) → 0 < b → (bytes : List ℕ) → ((i : ℕ) → get_or bytes i 0 < b) → (p : ℕ) → get_or (placed_of m w c bytes) p 0 < b
-  unfolding placed_of
+  unfolding placed_over
   placed_below b l bytes h p = FromLaws.spread-below (is_check m w c) b l 0 (place_count m w) bytes h p
 
   pub extract-below : (b : ℕ) → 0 < b → (word : List ℕ) → ((p : ℕ) → get_or word p 0 < b) → (i : ℕ) → get_or (extract_of m w c word) i 0 < b
-  unfolding extract_of
+  unfolding extract_over
   extract-below b l word h i = FromLaws.bytes_below b l word h (data_places m w c) i
 
   pub marks-length : length (check_marks m w c) ≡ place_count m w
@@ -121,13 +124,13 @@ module _ (m w c : ℕ) where
   -- words that agree at the data places have the same data
   pub extract-agree : (x y : List ℕ) → ((p : ℕ) → p < place_count m w → is_check m w c p ≡ false → get_or x p 0 ≡ get_or y p 0) → extract_of m w c x
       ≡ extract_of m w c y
-  unfolding extract_of data_places bytes_at
+  unfolding extract_over data_places symbols_at
   extract-agree x y h =
       FromLaws.others-ext (is_check m w c) (λ p. get_or x p 0) (λ p. get_or y p 0) 0 (place_count m w) (λ p a b e. h p (omega arith) e)
 
   -- and those that have the same data agree there
   pub agree-extract : (x y : List ℕ) → extract_of m w c x ≡ extract_of m w c y → (p : ℕ) → p < place_count m w → is_check m w c p ≡ false → get_or x p 0 ≡ get_or y p 0
-  unfolding extract_of data_places bytes_at
+  unfolding extract_over data_places symbols_at
   agree-extract x y h p l e =
       FromLaws.ext-others (is_check m w c) (λ p. get_or x p 0) (λ p. get_or y p 0) 0 (place_count m w) h p (omega arith) (omega arith) e
 
@@ -150,10 +153,10 @@ no-groups w c marks e =
 
 -- "m 2, w 3, c 1, data 1, 1: word 1, 1, 0, 78, 206, 128."
 pub extract-2-3-1 : extract_of 2 3 1 (1 ∷ 1 ∷ 0 ∷ 78 ∷ 206 ∷ 128 ∷ []) ≡ 1 ∷ 1 ∷ []
-unfolding extract_of data_places others_from is_check bytes_at
+unfolding extract_over data_places others_from is_check symbols_at
 extract-2-3-1 = refl
 
 -- "m 1, w 4, c 1, data 1: word 1, 79, 147, 221."
 pub extract-1-4-1 : extract_of 1 4 1 (1 ∷ 79 ∷ 147 ∷ 221 ∷ []) ≡ 1 ∷ []
-unfolding extract_of data_places others_from is_check bytes_at
+unfolding extract_over data_places others_from is_check symbols_at
 extract-1-4-1 = refl

@@ -1,13 +1,13 @@
 -- Laws: What the service Repair answers, and what word and marks hold then; and why a filling by the first equations is the only one that can
 -- satisfy them all.
-use Rattle.std.specs.Prelude.{◌≡◌, refl, Bool, true, false, not, List, ◌++◌, ℕ, zero, ◌+◌, ◌-◌, ◌*◌, ◌^◌, ◌<◌, ◌≤◌, T, ltb, length, get_or, take, drop}
+use Rattle.std.specs.Prelude.{◌≡◌, refl, Bool, true, false, not, List, ◌++◌, ℕ, zero, ◌+◌, ◌-◌, ◌*◌, ◌^◌, ◌<◌, ◌≤◌, T, ltb, length, get_or, take, drop, Result}
 use Rattle.std.proofs.Common.{sym, ◌∙◌, subst, le_refl, arith, lt-ltb, le-ltb, ext_get_or}
 use Rattle.std.proofs.Math.Path.{ap, ap₂}
 use Rattle.std.proofs.Math.Decide.{dec_lt}
 use Rattle.std.specs.Float.Ieee.Bits.{is_true}
 use Rattle.code.specs.Refusals.{refuse, ◌or_else◌}
 use Rattle.code.specs.RefusalsLaws.{refuse-most, or_else-most, or_else-first}
-use Rattle.answers.specs.declared.Mending.{Mending}
+use Rattle.answers.specs.declared.Refusal.{Refusal}
 use Rattle.code.specs.Lent.{LentIn}
 use Rattle.code.specs.LentLaws.{part-stretch, part_length, with-lent}
 use Rattle.code.specs.Limits.{Limits}
@@ -129,14 +129,13 @@ module _ (E : Edition) (m w c g : ℕ) (word marks : List ℕ) (A : AcceptedIn E
       ∙ ap in_whole (sym (ap (λ n. repaired E n c g (lent_of word) (lent_of marks)) (part_length L g l refl)
       ∙ ap₂ (repaired E w c g) (part-stretch L g l refl) (part-stretch M g l refl)))
 
-  pub service-lent : (r : Mending) (part held : List ℕ) → AnswersBy r left → part ≡ left.word → held ≡ left.marks
+  pub service-lent : (r : Result Unit Refusal) (part held : List ℕ) → AnswersBy r left → part ≡ left.word → held ≡ left.marks
       → AnswersBy r (repair_in E m w c g word marks)
       × ((put_back word part ≡ (repair_in E m w c g word marks).word) × (put_back marks held ≡ (repair_in E m w c g word marks).marks))
   service-lent r part held n p h = (
     record {
       number = n.number ∙ ap (λ o. o.number) (sym whole);
       group = n.group ∙ ap (λ o. o.group) (sym whole);
-      refusal = n.refusal;
     },
     (
       with-lent w g word part ∙ ap (with_stretch w g word) p ∙ ap (λ o. o.word) (sym whole),

@@ -1,6 +1,6 @@
 -- Laws: Demand 3 of the services as they run: calls of Repair first, in any order, repeated and refused ones included, do not change what a call
 -- of Recover answers.
-use Rattle.std.specs.Prelude.{◌≡◌, ◌↔◌, Bool, not, ltb, length, get_or, drop, replicate}
+use Rattle.std.specs.Prelude.{◌≡◌, ◌↔◌, Bool, not, ltb, length, get_or, drop, replicate, Result}
 use Rattle.std.proofs.Math.Path.{refl, ap, ap₂, subst}
 use Rattle.std.proofs.Common.{sym, ◌∙◌, mul-le-mul_right, add-one, arith, lt-ltb, le-ltb, drop_of_length-le, drop-cons}
 use Rattle.std.proofs.Math.Bool.{true, false, cond}
@@ -8,7 +8,7 @@ use mathlib.Core.List.{List, [], ◌∷◌}
 use Prim.Native.Nat.{ℕ, suc, ◌+◌, ◌*◌, ◌<◌, ◌≤◌, ◌^◌}
 use Rattle.std.proofs.Math.Decide.{dec_lt, ℕ_discrete}
 use Rattle.std.proofs.lemmas.List.{length-replicate, get_or-replicate}
-use Rattle.answers.specs.declared.Mending.{Mending}
+use Rattle.answers.specs.declared.Refusal.{Refusal}
 use Rattle.code.specs.Refusals.{refuse, ◌or_else◌}
 use Rattle.code.specs.RefusalsLaws.{or_else-zero}
 use Rattle.code.specs.Limits.{GoodIn, word_refusal_in}
@@ -217,7 +217,7 @@ module _ (E : Edition) (m w c : ℕ) (list : List ℕ) (i : ℕ) (word marks : L
   list-end l = ap (λ gs. held_after_list E m w c gs (held word marks)) (sym (drop_of_length-le list l)) ∙ left
 
 -- ---- the contract, from what the calls say: word₁ and marks₁ stand before the recovery, word₂ and marks₂ after it
-module _ {E : Edition} (sound : Sound E) (m w c : ℕ) (list word marks word₁ marks₁ word₂ marks₂ : List ℕ) (r : Mending)
+module _ {E : Edition} (sound : Sound E) (m w c : ℕ) (list word marks word₁ marks₁ word₂ marks₂ : List ℕ) (r : Result Unit Refusal)
     (small : (p : ℕ) → get_or word p 0 < 2 ^ E.bits)
     (before : held word₁ marks₁ ≡ held_after_list E m w c list (held word marks))
     (answer-is : AnswersBy r (recover_in E m w c word₁ marks₁))

@@ -6,7 +6,10 @@ use Rattle.std.proofs.Math.Decide.{ℕ_discrete, dec_lt}
 use Rattle.std.proofs.lemmas.Bool.{lt-leb}
 use Rattle.std.proofs.Math.Seq.{get_or-set_same, set-get_or, set-set, set_out, take-set-lt}
 use Rattle.counting.specs.Count.{one}
-use Rattle.answers.specs.declared.Answer.{Answer}
+use Rattle.std.specs.Prelude.{Ok, Err}
+use Rattle.answers.specs.declared.Refusal.{Refusal}
+use Rattle.answers.specs.Answers.{refusal_number}
+use Rattle.answers.specs.AnswersLaws.{else-first}
 use Rattle.code.specs.Refusals.{refuse, ◌or_else◌}
 use Rattle.code.specs.RefusalsLaws.{refuse-zero, or_else-zero}
 use Rattle.shape.specs.Shapes.{byte_limits}
@@ -274,22 +277,21 @@ refusal-parts handle place desk e =
 -- ---- what Lose and Find give
 
 module _ (mark handle place : ℕ) (desk : Desk) where
-  gives-by : (r : ℕ) → (r ≡ 0 → ⊥) → change_number mark handle place desk ≡ r → ChangeGives (change_of mark handle place desk) desk (Answer.Refused r)
+  gives-by : (e : Refusal) → refusal_number e ≡ change_number mark handle place desk → ChangeGives (change_of mark handle place desk) desk (Err e)
   unfolding change_of
-  gives-by r some e = call-refused (change_number mark handle place desk) r e some _ desk
+  gives-by e is = call-refused (change_number mark handle place desk) e is _ desk
 
   -- 31, 12 or 25
-  pub gives-refused : (r : ℕ) → (r ≡ 0 → ⊥) → place_refusal handle place desk ≡ r → ChangeGives (change_of mark handle place desk) desk (Answer.Refused r)
+  pub gives-refused : (e : Refusal) → refusal_number e ≡ place_refusal handle place desk → ChangeGives (change_of mark handle place desk) desk (Err e)
   unfolding place_refusal change_number place_number
-  gives-refused r some e = gives-by r some (first (handle_refusal handle desk) (past place job) e)
+  gives-refused e is = gives-by e (first (handle_refusal handle desk) (past place job) is)
     where
       job : Job
       job = job_at desk (slot_of handle)
 
-      first : (h p : ℕ) → (h or_else p) ≡ r → (h or_else p or_else refuse 8 (ltb 2 (changed mark place job).excess)) ≡ r
-      first zero zero e = absurd (some (sym e))
-      first zero (suc p) e = e
-      first (suc h) p e = e
+      first : (h p : ℕ) → refusal_number e ≡ h or_else p → refusal_number e ≡ (h or_else p or_else refuse 8 (ltb 2 (changed mark place job).excess))
+      first zero p is = else-first e is _
+      first (suc h) p is = is
 
   module _ (held : handle_refusal handle desk ≡ 0) where
     pub change-place : change_number mark handle place desk ≡ place_number mark place (job_at desk (slot_of handle))
@@ -301,11 +303,11 @@ module _ (mark handle place : ℕ) (desk : Desk) where
     open-sound = let T = open-taken handle desk held in (sound-job-iff (job_at desk (slot_of handle))).1 (T.good, T.figures)
 
     -- 8
-    pub gives-place : (r : ℕ) → (r ≡ 0 → ⊥) → place_number mark place (job_at desk (slot_of handle)) ≡ r
-        → ChangeGives (change_of mark handle place desk) desk (Answer.Refused r)
-    gives-place r some e = gives-by r some (change-place ∙ e)
+    pub gives-place : (e : Refusal) → refusal_number e ≡ place_number mark place (job_at desk (slot_of handle))
+        → ChangeGives (change_of mark handle place desk) desk (Err e)
+    gives-place e is = gives-by e (is ∙ sym change-place)
 
     pub gives-done : place_number mark place (job_at desk (slot_of handle)) ≡ 0
-        → ChangeGives (change_of mark handle place desk) (with_job desk (slot_of handle) (changed mark place (job_at desk (slot_of handle)))) Answer.Done
+        → ChangeGives (change_of mark handle place desk) (with_job desk (slot_of handle) (changed mark place (job_at desk (slot_of handle)))) (Ok tt)
     unfolding change_of
     gives-done e = call-done (change_number mark handle place desk) (change-place ∙ e) _ desk

@@ -1,7 +1,8 @@
 -- What Read answers.
-use Rattle.std.specs.Prelude.{◌≡◌, ℕ, zero, suc}
+use Rattle.std.specs.Prelude.{◌≡◌, ℕ, zero, suc, Result, Ok, Err}
+use Rattle.answers.specs.declared.Refusal.{Refusal}
+use Rattle.answers.specs.Answers.{refused_number}
 use Rattle.desk_record.specs.declared.Desk.{Desk}
-use Rattle.desk_close.specs.declared.Counted.{Counted}
 use Rattle.desk_record.specs.Desks.{job_at, slot_of}
 use Rattle.desk_record.specs.Refusal.{handle_refusal}
 
@@ -20,18 +21,15 @@ unfoldable pub read_of : ℕ → Desk → Reading
 read_of handle desk = read_by (handle_refusal handle desk) handle desk
 
 -- the number of an answer, 0 for done
-abbrev pub counted_number : Counted → ℕ
-counted_number (Counted.Served served) = 0
-counted_number (Counted.Refused r) = r
+abbrev pub counted_number : Result ℕ Refusal → ℕ
+counted_number = refused_number
 
 -- the served count of an answer, 0 if there is none
-abbrev pub counted_served : Counted → ℕ
-counted_served (Counted.Served served) = served
-counted_served (Counted.Refused r) = 0
+abbrev pub counted_served : Result ℕ Refusal → ℕ
+counted_served (Ok served) = served
+counted_served (Err e) = 0
 
--- what Read answers
-pub record ReadGives (o : Reading) (answer : Counted) : Type 0 where
+-- what Read answers; by its type no refusal has the number of done
+pub record ReadGives (o : Reading) (answer : Result ℕ Refusal) : Type 0 where
   pub number_is : counted_number answer ≡ o.number
   pub served-is : counted_served answer ≡ o.served
-  -- no refusal has the number of done
-  pub refusal-some : ¬ (answer ≡ Counted.Refused 0)

@@ -6,46 +6,34 @@ ghost use Rattle.desk_record.specs.Calls.{ChangeGives};
 ghost use Rattle.desk_close.specs.Read.{read_of, ReadGives};
 ghost use Rattle.desk_close.specs.Close.{close_of};
 
-use answers::Answer;
+use answers::Refusal;
 use desk_record::{After, Desk};
 
-// The served count of a job, or the number of a refusal.
-#[derive(Clone, Copy)]
-pub enum Counted {
-    Served(u32),
-    Refused(u8),
-}
-
-// The service Read.
-pub fn read(desk: Desk, handle: u64) -> Counted
+// The service Read: the served count of a job.
+pub fn read(desk: Desk, handle: u64) -> Result<u32, Refusal>
     ensures { ReadGives (read_of handle desk) result }
 {
-    let r = desk_record::handle_refusal(&desk, handle);
-    if r != 0 {
-        return Counted::Refused(r);
-    }
+    desk_record::handle_refusal(&desk, handle)?;
     let s = (handle % 8) as usize;
     let job = desk.jobs[s];
-    Counted::Served(job.served)
+    Ok(job.served)
 }
 
 // The service Close.
-pub fn close(desk: Desk, handle: u64) -> After
+pub fn close(desk: Desk, handle: u64) -> After<()>
     ensures { ChangeGives (close_of handle desk) result.desk result.answer }
 {
-    let r = desk_record::handle_refusal(&desk, handle);
-    if r != 0 {
+    if let Err(e) = desk_record::handle_refusal(&desk, handle) {
         return After {
-            desk: desk,
-            answer: Answer::Refused(r),
+            desk,
+            answer: Err(e),
         };
     }
     let s = (handle % 8) as usize;
     let mut d = desk;
-    let free = desk_job::empty();
-    d.jobs[s] = free;
+    d.jobs[s] = desk_job::empty();
     After {
         desk: d,
-        answer: Answer::Done,
+        answer: Ok(()),
     }
 }

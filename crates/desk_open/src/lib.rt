@@ -2,40 +2,22 @@
 
 #![tactic(auto)]
 
-ghost use Rattle.std.specs.Prelude.{◌≡◌, ◌++◌, ◌-◌, ◌≤◌, length, replicate};
+ghost use Rattle.std.specs.Prelude.{◌≡◌, ◌++◌, ◌-◌, ◌≤◌, IfOk, not, length, replicate};
+ghost use Rattle.std.specs.List.{position};
+ghost use Rattle.desk_job.specs.Jobs.{is_taken};
+ghost use Rattle.answers.specs.Answers.{refused_number};
 ghost use Rattle.desk_open.specs.Open.{free_slot, open_number, open_of, OpenGives};
 
+use answers::Refusal;
 use desk_job::Job;
-use desk_record::Desk;
+use desk_record::{After, Desk};
 use shape::Shape;
 
-// The handle of an opened job, or the number of a refusal.
-#[derive(Clone, Copy)]
-pub enum Opened {
-    Handle(u64),
-    Refused(u8),
-}
-
-// What Open answers, and the desk then.
-#[derive(Clone, Copy)]
-pub struct AfterOpen {
-    pub desk: Desk,
-    pub answer: Opened,
-}
-
-// The lowest free slot; 8 if all are taken.
-fn free_slot(desk: Desk) -> usize
-    ensures { result ≡ free_slot desk }
+// The lowest free slot, if there is one.
+fn free_slot(desk: &Desk) -> Option<usize>
+    ensures { result ≡ position (λ job. not (is_taken job)) desk.now.jobs }
 {
-    let mut slot: usize = 0;
-    while slot < 8 {
-        let job = desk.jobs[slot];
-        if job.taken != 1 {
-            return slot;
-        }
-        slot += 1;
-    }
-    slot
+    desk.jobs.iter().position(|job| job.taken != 1)
 }
 
 // A copy of the marks, with 0 past them.
@@ -44,48 +26,41 @@ fn kept(marks: &[u8]) -> [u8; Shape::MAX_PLACES]
     ensures { result ≡ marks.now ++ replicate (240 - length marks.now) 0 }
 {
     let mut copy = [0u8; Shape::MAX_PLACES];
-    let mut i: usize = 0;
-    while i < marks.len() {
-        copy[i] = marks[i];
-        i += 1;
-    }
+    buffers::copy_from_slice(&mut copy[..marks.len()], marks);
     copy
 }
 
-// The refusal of Open; 0 if there is none.
-fn open_refusal(desk: &Desk, m: usize, w: usize, c: usize, marks: &[u8]) -> u8
-    ensures { result ≡ open_number m w c marks.now desk.now }
+// The slot that Open takes, or the number by which it refuses.
+fn open_slot(desk: Desk, m: usize, w: usize, c: usize, marks: &[u8]) -> Result<usize, Refusal>
+    ensures number { refused_number result ≡ open_number m w c marks.now desk }
+    ensures slot { IfOk result (λ s. s ≡ free_slot desk) }
 {
-    if !desk_record::is_sound(desk) {
-        return 31;
+    if !desk_record::is_sound(&desk) {
+        return Err(Refusal::Unsound);
     }
-    let r = desk_job::judged(m, w, c, marks);
-    if r != 0 {
-        return r;
+    desk_job::judged(m, w, c, marks)?;
+    if desk.t == Desk::MAX_ISSUED {
+        return Err(Refusal::AllIssued);
     }
-    let last = desk.t == Desk::MAX_ISSUED;
-    let full = free_slot(*desk) == 8;
-    if last {
-        return 10;
-    }
-    if full { 11 } else { 0 }
+    free_slot(&desk).ok_or(Refusal::DeskFull)
 }
 
 // The service Open.
-pub fn open(desk: Desk, m: usize, w: usize, c: usize, marks: &[u8]) -> AfterOpen
+pub fn open(desk: Desk, m: usize, w: usize, c: usize, marks: &[u8]) -> After<u64>
     ensures { OpenGives (open_of m w c marks.now desk) result.desk result.answer }
 {
-    let r = open_refusal(&desk, m, w, c, marks);
-    if r != 0 {
-        return AfterOpen {
-            desk: desk,
-            answer: Opened::Refused(r),
-        };
-    }
-    let s = free_slot(desk);
+    let s = match open_slot(desk, m, w, c, marks) {
+        Ok(s) => s,
+        Err(e) => {
+            return After {
+                desk,
+                answer: Err(e),
+            };
+        }
+    };
     let t = desk.t + 1;
     let handle = 8 * t + (s as u64);
-    let copy = kept(marks);
+    let marks_kept = kept(marks);
     let worked = desk_job::figures_of(m, w, c, marks);
     let lost = worked.lost;
     let mut d = desk;
@@ -95,14 +70,14 @@ pub fn open(desk: Desk, m: usize, w: usize, c: usize, marks: &[u8]) -> AfterOpen
         w: w as u8,
         c: c as u8,
         served: 0,
-        handle: handle,
-        marks: copy,
-        lost: lost,
+        handle,
+        marks: marks_kept,
+        lost,
         excess: worked.excess as u8,
     };
     d.t = t;
-    AfterOpen {
+    After {
         desk: d,
-        answer: Opened::Handle(handle),
+        answer: Ok(handle),
     }
 }

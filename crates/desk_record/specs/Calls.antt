@@ -1,6 +1,6 @@
 -- What a call that changes a desk leaves and answers, where the answer has no figures: Close, Lose and Find.
-use Rattle.std.specs.Prelude.{◌≡◌, ℕ, zero, suc}
-use Rattle.answers.specs.declared.Answer.{Answer}
+use Rattle.std.specs.Prelude.{◌≡◌, ℕ, zero, suc, Result}
+use Rattle.answers.specs.declared.Refusal.{Refusal}
 use Rattle.answers.specs.Answers.{answer_number}
 use Rattle.desk_record.specs.declared.Desk.{Desk}
 
@@ -14,9 +14,7 @@ abbrev pub changing_by : ℕ → Desk → Desk → Changing
 changing_by zero new old = record { number = 0; desk = new }
 changing_by (suc r) new old = record { number = suc r; desk = old }
 
--- what such a call leaves and answers
-pub record ChangeGives (o : Changing) (desk : Desk) (answer : Answer) : Type 0 where
+-- what such a call leaves and answers; by its type no refusal has the number of done
+pub record ChangeGives (o : Changing) (desk : Desk) (answer : Result Unit Refusal) : Type 0 where
   pub desk-is : desk ≡ o.desk
   pub number_is : answer_number answer ≡ o.number
-  -- no refusal has the number of done
-  pub refusal-some : ¬ (answer ≡ Answer.Refused 0)

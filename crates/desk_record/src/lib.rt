@@ -3,12 +3,13 @@
 #![tactic(auto)]
 
 ghost use Rattle.std.specs.Prelude.{◌≡◌, cond, not, ◌&&◌, ◌<◌, eqb, get_or};
+ghost use Rattle.answers.specs.Answers.{refused_number};
 ghost use Rattle.counting.specs.Test.{any_below};
 ghost use Rattle.desk_job.specs.Jobs.{is_taken};
 ghost use Rattle.desk_record.specs.Desks.{fresh_desk, issue_of, is_issued, is_sound_slot, is_sound, is_open};
 ghost use Rattle.desk_record.specs.Refusal.{sound_refusal, handle_refusal};
 
-use answers::Answer;
+use answers::Refusal;
 use desk_job::Job;
 
 // Eight jobs in a fixed row, and the count t of handles issued.
@@ -24,14 +25,15 @@ impl Desk {
     pub const MAX_ISSUED: u64 = 65535;
 }
 
-// What Close, Lose and Find answer, and the desk then.
+// What a call answers, done with its figure or refused, and the desk then. Open's figure is a handle; Serve, Close, Lose and Find have none.
 #[derive(Clone, Copy)]
-pub struct After {
+pub struct After<X> {
     pub desk: Desk,
-    pub answer: Answer,
+    pub answer: Result<X, Refusal>,
 }
 
 // The service Fresh.
+#[tactic(auto, unfolding(crate::specs::Desks::fresh_desk))]
 pub fn fresh() -> Desk
     ensures { result ≡ fresh_desk }
 {
@@ -42,32 +44,23 @@ pub fn fresh() -> Desk
 }
 
 // Whether u is an issue number, from 1 to t.
+#[tactic(auto, unfolding(crate::specs::Desks::is_issued))]
 fn is_issued(t: u64, u: u64) -> bool
     ensures { result ≡ is_issued t u }
 {
-    if u < 1 {
-        return false;
-    }
-    u <= t
+    1 <= u && u <= t
 }
 
 // Whether slot s is free, or taken by a sound job with a handle 8u+s, u from 1 to t.
+#[tactic(auto, unfolding(crate::specs::Desks::is_sound_slot))]
 fn is_sound_slot(t: u64, s: usize, job: Job) -> bool
     ensures { result ≡ is_sound_slot t s job }
 {
-    if job.taken == 0 {
-        return true;
-    }
-    if job.taken != 1 {
-        return false;
-    }
-    if !desk_job::is_sound_job(job) {
-        return false;
-    }
-    if job.handle % 8 != s as u64 {
-        return false;
-    }
-    is_issued(t, job.handle / 8)
+    job.taken == 0
+        || job.taken == 1
+            && desk_job::is_sound_job(job)
+            && job.handle % 8 == s as u64
+            && is_issued(t, job.handle / 8)
 }
 
 // The issue number under which a slot is taken; 0 if it is not taken.
@@ -86,20 +79,10 @@ fn is_twice(issues: [u64; 8], s: usize) -> bool
     ensures { result ≡ not (eqb (get_or issues s 0) 0) && any_below s (λ k. eqb (get_or issues k 0) (get_or issues s 0)) }
 {
     let u = issues[s];
-    if u == 0 {
-        return false;
-    }
-    let mut r: usize = 0;
-    while r < s {
-        if issues[r] == u {
-            return true;
-        }
-        r += 1;
-    }
-    false
+    u != 0 && issues[..s].contains(&u)
 }
 
-// Whether a desk is sound. Slot 0, which has no lower one, is tested before the loop.
+// Whether a desk is sound. Slot 0, which has no lower one, is tested before the loop, so that the test of a slot keeps a stack frame of its own.
 pub fn is_sound(desk: &Desk) -> bool
     ensures { result ≡ is_sound desk.now }
 {
@@ -113,8 +96,7 @@ pub fn is_sound(desk: &Desk) -> bool
     }
     let mut issues = [0u64; 8];
     issues[0] = issue_in(first);
-    let mut s: usize = 1;
-    while s < 8 {
+    for s in 1..8 {
         let job = desk.jobs[s];
         if !is_sound_slot(t, s, job) {
             return false;
@@ -123,38 +105,39 @@ pub fn is_sound(desk: &Desk) -> bool
         if is_twice(issues, s) {
             return false;
         }
-        s += 1;
     }
     true
 }
 
-// Whether a handle is open. Its issue number is tested and its slot is taken out of it before the row is indexed.
+// Whether a handle is open. Its slot is taken out of it before the row is indexed.
+#[tactic(auto, unfolding(crate::specs::Desks::is_open))]
 fn is_open(desk: &Desk, handle: u64) -> bool
     ensures { result ≡ is_open desk.now handle }
 {
-    if !is_issued(desk.t, handle / 8) {
-        return false;
-    }
     let s = (handle % 8) as usize;
     let job = desk.jobs[s];
-    if job.taken != 1 {
-        return false;
+    is_issued(desk.t, handle / 8) && job.taken == 1 && job.handle == handle
+}
+
+// Refuses a desk that is not sound, as 31.
+fn sound_refusal(desk: &Desk) -> Result<(), Refusal>
+    ensures { refused_number result ≡ sound_refusal desk.now }
+{
+    if is_sound(desk) {
+        Ok(())
+    } else {
+        Err(Refusal::Unsound)
     }
-    job.handle == handle
 }
 
-// 31 if a desk is not sound; 0 if it is.
-fn sound_refusal(desk: &Desk) -> u8
-    ensures { result ≡ sound_refusal desk.now }
+// Refuses a call with a handle, in this order: as 31 if the desk is not sound, as 12 if the handle is not open.
+pub fn handle_refusal(desk: &Desk, handle: u64) -> Result<(), Refusal>
+    ensures { refused_number result ≡ handle_refusal handle desk.now }
 {
-    if is_sound(desk) { 0 } else { 31 }
-}
-
-// The refusals of a call with a handle, in this order: 31 for a desk that is not sound, 12 for a handle that is not open; 0 if there is none.
-pub fn handle_refusal(desk: &Desk, handle: u64) -> u8
-    ensures { result ≡ handle_refusal handle desk.now }
-{
-    let open = is_open(desk, handle);
-    let r = sound_refusal(desk);
-    if r == 0 { if open { 0 } else { 12 } } else { r }
+    sound_refusal(desk)?;
+    if is_open(desk, handle) {
+        Ok(())
+    } else {
+        Err(Refusal::NotOpen)
+    }
 }

@@ -3,15 +3,13 @@
 
 #![tactic(auto)]
 
+use answers::Refusal;
 use desk_job::Job;
 use desk_record::Desk;
 use std::io;
 
-fn number(rt: &impl Print, n: u64, end: &str) -> io::Result<()> {
-    print!(rt; "{n}{end}")
-}
-
-fn refused(rt: &impl Print, r: u8) -> io::Result<()> {
+fn refused(rt: &impl Print, refusal: Refusal) -> io::Result<()> {
+    let r = refusal.number();
     println!(rt; "refused {r}")
 }
 
@@ -19,30 +17,23 @@ fn refused(rt: &impl Print, r: u8) -> io::Result<()> {
 fn open(rt: &impl Print, d: Desk) -> io::Result<Desk> {
     let after = desk_open::open(d, 2, 3, 1, &[1, 1, 1, 0, 0, 0]);
     match after.answer {
-        desk_open::Opened::Handle(h) => println!(rt; "handle {h}")?,
-        desk_open::Opened::Refused(r) => refused(rt, r)?,
+        Ok(h) => println!(rt; "handle {h}")?,
+        Err(e) => refused(rt, e)?,
     }
     Ok(after.desk)
 }
 
-fn done(rt: &impl Print, answer: answers::Answer) -> io::Result<()> {
+fn done(rt: &impl Print, answer: Result<(), Refusal>) -> io::Result<()> {
     match answer {
-        answers::Answer::Done => println!(rt; "done"),
-        answers::Answer::Refused(r) => refused(rt, r),
-    }
-}
-
-fn mended(rt: &impl Print, answer: answers::Mending) -> io::Result<()> {
-    match answer {
-        answers::Mending::Done => println!(rt; "done"),
-        answers::Mending::Contradictory(group) => println!(rt; "refused 9 {group}"),
-        answers::Mending::Refused(r) => refused(rt, r),
+        Ok(()) => println!(rt; "done"),
+        Err(Refusal::Contradictory(group)) => println!(rt; "refused 9 {group}"),
+        Err(e) => refused(rt, e),
     }
 }
 
 fn serve(rt: &impl Print, d: Desk, handle: u64, word: &mut [u8]) -> io::Result<Desk> {
     let after = desk_serve::serve(d, handle, word);
-    mended(rt, after.answer)?;
+    done(rt, after.answer)?;
     Ok(after.desk)
 }
 
@@ -54,8 +45,8 @@ fn close(rt: &impl Print, d: Desk, handle: u64) -> io::Result<Desk> {
 
 fn read(rt: &impl Print, d: Desk, handle: u64) -> io::Result<()> {
     match desk_close::read(d, handle) {
-        desk_close::Counted::Served(n) => println!(rt; "served {n}"),
-        desk_close::Counted::Refused(r) => refused(rt, r),
+        Ok(n) => println!(rt; "served {n}"),
+        Err(e) => refused(rt, e),
     }
 }
 
@@ -71,19 +62,10 @@ fn find(rt: &impl Print, d: Desk, handle: u64, place: usize) -> io::Result<Desk>
     Ok(after.desk)
 }
 
-fn byte(rt: &impl Print, x: u8, end: &str) -> io::Result<()> {
-    number(rt, u64::from(x), end)
-}
-
 // The bytes of a word of six places.
 fn show(rt: &impl Print, word: [u8; 6]) -> io::Result<()> {
-    print!(rt; "word ")?;
-    byte(rt, word[0], " ")?;
-    byte(rt, word[1], " ")?;
-    byte(rt, word[2], " ")?;
-    byte(rt, word[3], " ")?;
-    byte(rt, word[4], " ")?;
-    byte(rt, word[5], "\n")
+    let [a, b, c, d, e, f] = word;
+    println!(rt; "word {a} {b} {c} {d} {e} {f}")
 }
 
 // Handles 0, 7 and a closed one are refused 12. A word whose second group, numbered 1, breaks its own equation is refused 9 with 1.

@@ -1,5 +1,5 @@
 -- What Serve answers, and what the desk and the word hold then.
-use Rattle.std.specs.Prelude.{◌≡◌, not, cond, List, ℕ, zero, suc, ◌+◌, eqb, length}
+use Rattle.std.specs.Prelude.{◌≡◌, not, cond, List, ℕ, zero, suc, ◌+◌, eqb, length, Result}
 use Rattle.code.specs.Refusals.{refuse, ◌or_else◌}
 use Rattle.code.specs.Outcome.{Outcome}
 use Rattle.code.specs.Limits.{place_count}
@@ -7,7 +7,7 @@ use Rattle.byte_edition.specs.Edition.{byte_edition}
 use Rattle.code_services.specs.Recover.{recover_in}
 use Rattle.desk_job.specs.declared.Job.{Job}
 use Rattle.desk_record.specs.declared.Desk.{Desk}
-use Rattle.answers.specs.declared.Mending.{Mending}
+use Rattle.answers.specs.declared.Refusal.{Refusal}
 use Rattle.answers.specs.Answers.{mending_at, mending_number, mending_group}
 use Rattle.desk_record.specs.Desks.{job_at, with_job, slot_of}
 use Rattle.desk_job.specs.Jobs.{job_marks}
@@ -73,7 +73,7 @@ unfoldable pub serve_of : ℕ → List ℕ → Desk → Serving
 serve_of handle word desk = serve_by (serve_number handle word desk) handle word desk
 
 -- what Serve leaves and answers
-pub record ServeGives (o : Serving) (word : List ℕ) (desk : Desk) (answer : Mending) : Type 0 where
+pub record ServeGives (o : Serving) (word : List ℕ) (desk : Desk) (answer : Result Unit Refusal) : Type 0 where
   pub word-is : word ≡ o.word
   pub desk-is : desk ≡ o.desk
   pub answer-is : answer ≡ mending_at o.number o.group

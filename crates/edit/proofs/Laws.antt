@@ -1,29 +1,29 @@
 -- Laws of the steps: refusals, a group refilled, and the last group corrected.
 use mathlib.Core.Path.{◌≡◌, refl, sym, ap, ap₂, ◌∙◌, subst}
 use mathlib.Core.Bool.{Bool, true, false, not}
-use mathlib.Core.Logic.{◌⊎◌, inl, inr}
-use mathlib.Core.List.{List, [], ◌∷◌, ◌++◌, append-nil}
+use mathlib.Core.List.{List, ◌++◌, append-nil}
 use Prim.Native.Nat.{ℕ, zero, suc, ◌+◌, ◌-◌, ◌*◌, ◌<◌, ◌≤◌}
-use native.Mathlib.Nat.{suc-mul, mul-le-mul_right, mul-le-mul}
+use native.Mathlib.Nat.{suc-mul, mul-le-mul_right}
 use native.Mathlib.Omega.{arith}
 use native.Mathlib.Decide.{dec_lt}
-use borrow.Author.Tests.{lt-leb, le-leb}
-use lib.Bits.{bit_xor}
 use lib.Dec.{leb}
-use lib.ListN.{length, get_or, set, take, drop, length-set, length-append, length-take, length-drop, drop_of_length-le, replicate, get_or-append}
+use lib.ListN.{length, get_or, set, take, drop, length-set, length-append, length-drop, drop_of_length-le, replicate, get_or-append}
 use lib.Seq.{ext_get_or, get_or-append-add, get_or-take, get_or-drop, length-take-le, take_all}
 use Rattle.binary_field.specs.Xor.{◌⊕◌}
-use Rattle.binary_field.specs.XorLaws.{⊕-bits, ⊕-zero-r, ⊕-zero-l, ⊕-self}
+use Rattle.binary_field.specs.XorLaws.{⊕-zero-r, ⊕-zero-l, ⊕-self}
 use Rattle.binary_field.specs.ProductLaws.{product-zero}
 use Rattle.binary_field.specs.SumLaws.{sum-none, sum-suc}
 use Rattle.code.specs.Pair.{pair_at}
-use Rattle.answers.specs.declared.Mending.{Mending}
-use Rattle.answers.specs.Answers.{mending_at}
-use Rattle.answers.specs.AnswersLaws.{mending-refused}
+use Rattle.std.specs.Prelude.{Ok, Err}
+use Rattle.answers.specs.declared.Refusal.{Refusal}
+use Rattle.answers.specs.Answers.{refusal_number, mending_at, Plain}
+use Rattle.answers.specs.AnswersLaws.{refusal-some, else-first, plain-refuse, plain-else}
+use Rattle.answers.specs.PlainLaws.{sale-plain, word-plain}
+use Rattle.edit.specs.Laws.{mending-refused}
 use Rattle.code.specs.Refusals.{◌or_else◌, refuse, unless_refused}
-use Rattle.code.specs.RefusalsLaws.{or_else-first, or_else-zero, unless-refused}
+use Rattle.code.specs.RefusalsLaws.{or_else-zero, unless-refused}
 use Rattle.shape.specs.Shapes.{byte_limits}
-use Rattle.shape.specs.Laws.{sold-of-refusal, sale-numbers, word-most}
+use Rattle.shape.specs.Laws.{sold-of-refusal}
 use Rattle.code.specs.Edition.{times, raised}
 use Rattle.code.specs.Contradiction.{contradicting_group}
 use Rattle.code.specs.Word.{group_sum, local_sum, coefficient, second_coefficient, is_codeword}
@@ -44,16 +44,15 @@ use Rattle.edit.specs.Steps.{Refilled, AddedRows, corrected_of}
 
 -- ---- refusals, in their order
 module _ (m w c lent number : ℕ) where
-  pub refused-sale : (sale_refusal_in byte_limits m w c ≡ 0 → ⊥) → number_refusal_in byte_limits m w c lent number ≡ sale_refusal_in byte_limits m w c
+  pub refused-sale : (e : Refusal) → refusal_number e ≡ sale_refusal_in byte_limits m w c → refusal_number e ≡ number_refusal_in byte_limits m w c lent number
   unfolding number_refusal_in
-  refused-sale n = or_else-first (sale_refusal_in byte_limits m w c) _ n
+  refused-sale e is = else-first e is _
 
-  pub refused-length : sale_refusal_in byte_limits m w c ≡ 0 → (word_refusal_in byte_limits m w c lent ≡ 0 → ⊥)
-      → number_refusal_in byte_limits m w c lent number ≡ word_refusal_in byte_limits m w c lent
+  pub refused-length : (e : Refusal) → sale_refusal_in byte_limits m w c ≡ 0 → refusal_number e ≡ word_refusal_in byte_limits m w c lent
+      → refusal_number e ≡ number_refusal_in byte_limits m w c lent number
   unfolding number_refusal_in
-  refused-length e n =
-      ap (λ r. r or_else (word_refusal_in byte_limits m w c lent or_else refuse 30 (leb (data_count m w c) number))) e
-      ∙ or_else-first (word_refusal_in byte_limits m w c lent) _ n
+  refused-length e z is =
+      else-first e is _ ∙ ap (λ r. r or_else (word_refusal_in byte_limits m w c lent or_else refuse 30 (leb (data_count m w c) number))) (sym z)
 
   pub refused-number : sale_refusal_in byte_limits m w c ≡ 0 → word_refusal_in byte_limits m w c lent ≡ 0
       → number_refusal_in byte_limits m w c lent number ≡ refuse 30 (leb (data_count m w c) number)
@@ -256,17 +255,12 @@ module _ (m w c lent number : ℕ) (accepted : number_refusal_in byte_limits m w
   sold-of-number = sold-of-refusal m w c (or_else-zero (sale_refusal_in byte_limits m w c) _ accepted).0
 
 -- none of these refusals is 9
-pub not-nine : (m w c lent number : ℕ) → number_refusal_in byte_limits m w c lent number ≡ 9 → ⊥
+pub number-plain : (m w c lent number : ℕ) → Plain (number_refusal_in byte_limits m w c lent number)
 unfolding number_refusal_in
-not-nine m w c lent number = go (sale_refusal_in byte_limits m w c) (word_refusal_in byte_limits m w c lent) (leb (data_count m w c) number) (sale-numbers m w c)
-    (word-most m w c lent)
-  where
-    go : (r t : ℕ) (b : Bool) → (r ≤ 4) ⊎ (r ≡ 29) → t ≤ 5 → (r or_else (t or_else refuse 30 b)) ≡ 9 → ⊥
-    go zero zero true n l e = let k : ◌≡◌ {A = ℕ} 30 9 = e in omega arith
-    go zero zero false n l e = let k : ◌≡◌ {A = ℕ} 0 9 = e in omega arith
-    go zero (suc t) b n l e = let k : suc t ≡ 9 = e in omega arith
-    go (suc r) t b (inl n) l e = let k : suc r ≡ 9 = e in omega arith
-    go (suc r) t b (inr n) l e = let k : suc r ≡ 9 = e in omega arith
+number-plain m w c lent number =
+    plain-else (sale_refusal_in byte_limits m w c) _ (sale-plain byte_limits m w c)
+    (plain-else (word_refusal_in byte_limits m w c lent) _ (word-plain byte_limits m w c lent)
+    (plain-refuse 30 (leb (data_count m w c) number) (refl, λ z. omega arith)))
 
 -- number, answer and buffer of a call, by how it goes
 module _ (m w c : ℕ) (word : List ℕ) (number b : ℕ) where
@@ -280,16 +274,15 @@ module _ (m w c : ℕ) (word : List ℕ) (number b : ℕ) where
   by_number r e =
       (ap (λ n. mending_at n group) e, ap (λ n. unless_refused n (edited_in byte_edition m w c word number b) word) e)
 
-  pub edit-refused : (r : ℕ) → r ≡ number_refusal_in byte_limits m w c (length word) number → (r ≡ 0 → ⊥)
-      → (Mending.Refused r ≡ edit_in byte_edition m w c word number)
-      × ((r ≡ edit_refusal_in byte_edition m w c word number) × (word ≡ edited_buffer_in byte_edition m w c word number b))
+  pub edit-refused : (e : Refusal) → refusal_number e ≡ number_refusal_in byte_limits m w c (length word) number
+      → (Err e ≡ edit_in byte_edition m w c word number)
+      × ((refusal_number e ≡ edit_refusal_in byte_edition m w c word number) × (word ≡ edited_buffer_in byte_edition m w c word number b))
   unfolding edit_refusal_in
-  edit-refused r e n =
-      let f : r ≡ edit_refusal_in byte_edition m w c word number = e
-      ∙ sym (or_else-first (number_refusal_in byte_limits m w c (length word) number) _ (λ z. n (e ∙ z))) in
-      let B = by_number r f in (
-        sym (mending-refused r group n (λ z. not-nine m w c (length word) number (sym e ∙ z))) ∙ B.0,
-        (f, sym (unless-refused r (edited_in byte_edition m w c word number b) word n) ∙ B.1),
+  edit-refused e is =
+      let f : refusal_number e ≡ edit_refusal_in byte_edition m w c word number = else-first e is _ in
+      let B = by_number (refusal_number e) f in (
+        sym (mending-refused e group (λ z. (number-plain m w c (length word) number).1 (sym is ∙ z))) ∙ B.0,
+        (f, sym (unless-refused (refusal_number e) (edited_in byte_edition m w c word number b) word (refusal-some e)) ∙ B.1),
       )
 
   module _ (accepted : number_refusal_in byte_limits m w c (length word) number ≡ 0) where
@@ -298,15 +291,15 @@ module _ (m w c : ℕ) (word : List ℕ) (number b : ℕ) where
     decided v e = sym (ap (λ r. r or_else refuse 9 (not (is_codeword byte_edition m w c word))) accepted ∙ ap (λ v. refuse 9 (not v)) e)
 
     pub edit-contradictory : (g : ℕ) → is_codeword byte_edition m w c word ≡ false → g ≡ contradicting_group byte_edition m w c word (replicate (length word) 0)
-        → (Mending.Contradictory g ≡ edit_in byte_edition m w c word number)
+        → (Err (Refusal.Contradictory g) ≡ edit_in byte_edition m w c word number)
         × ((9 ≡ edit_refusal_in byte_edition m w c word number) × (word ≡ edited_buffer_in byte_edition m w c word number b))
     unfolding group
     edit-contradictory g e h =
         let B = by_number 9 (decided false e) in
-        (ap Mending.Contradictory h ∙ B.0, (decided false e, B.1))
+        (ap (λ k. Err (Refusal.Contradictory k)) h ∙ B.0, (decided false e, B.1))
 
     pub edit-done : (end : List ℕ) → is_codeword byte_edition m w c word ≡ true → end ≡ edited_in byte_edition m w c word number b
-        → (Mending.Done ≡ edit_in byte_edition m w c word number)
+        → (Ok tt ≡ edit_in byte_edition m w c word number)
         × ((0 ≡ edit_refusal_in byte_edition m w c word number) × (end ≡ edited_buffer_in byte_edition m w c word number b))
     edit-done end e h =
         let B = by_number 0 (decided true e) in

@@ -1,5 +1,5 @@
 -- What is shown of edits, in the edition of bytes: of the definitions that the contract of edit::edit cites.
-use Rattle.std.specs.Prelude.{◌≡◌, refl, Bool, true, false, not, List, ℕ, ◌*◌, ◌<◌, length, get_or, replicate}
+use Rattle.std.specs.Prelude.{◌≡◌, refl, Bool, true, false, not, List, ℕ, ◌*◌, ◌<◌, length, get_or}
 use Rattle.std.proofs.Common.{sym, ap, ◌∙◌}
 use Rattle.answers.specs.Answers.{mending_at}
 use Rattle.code.specs.Refusals.{refuse, ◌or_else◌}

@@ -12,7 +12,7 @@ use Rattle.std.proofs.Math.Arith.{digits_div}
 use Rattle.std.proofs.Math.ListN.{get_or}
 use Rattle.std.proofs.Math.Seq.{get_or-set_other}
 use Rattle.binary_field.specs.Xor.{◌⊕◌}
-use Rattle.binary_field.specs.XorLaws.{⊕-zero-l, ⊕-zero-r, ⊕-self, ⊕-lt, ⊕-cancel}
+use Rattle.binary_field.specs.XorLaws.{⊕-zero-l, ⊕-zero-r, ⊕-self, ⊕-lt}
 use Rattle.binary_field.specs.ProductLaws.{product-zero, product-one, product_lt}
 use Rattle.binary_field.specs.Sum.{sum_below}
 use Rattle.binary_field.specs.SumLaws.{sum-none, sum-suc, sum-ext, sum-add, sum-single, sum_lt, sum-zero}
@@ -22,7 +22,7 @@ use Rattle.code.specs.Pair.{pair_at}
 use Rattle.code_services.specs.Places.{is_check, extract_of}
 use Rattle.code_services.specs.PlacesLaws.{check-inner, check-last, extract-agree}
 use Rattle.code.specs.Edition.{times, raised}
-use Rattle.code.specs.Word.{group_sum, local_sum, word_sum, coefficient, second_coefficient, Symbols, Codeword}
+use Rattle.code.specs.Word.{group_sum, local_sum, word_sum, coefficient, second_coefficient, Codeword}
 use Rattle.code.specs.WordLaws.{equations, is-codeword}
 use Rattle.code.specs.Combined.{combined}
 use Rattle.code.specs.CombinedLaws.{combined-at, combined-group, combined-word, combined-symbols}

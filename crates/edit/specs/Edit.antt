@@ -1,6 +1,6 @@
 -- What the service Edit gives: "Given a shape, a codeword, a data number below k and a byte, leave the word as encoding the changed data would."
-use Rattle.std.specs.Prelude.{Bool, not, List, ℕ, leb, length, get_or, set, replicate}
-use Rattle.answers.specs.declared.Mending.{Mending}
+use Rattle.std.specs.Prelude.{not, List, ℕ, leb, length, get_or, set, replicate, Result}
+use Rattle.answers.specs.declared.Refusal.{Refusal}
 use Rattle.answers.specs.Answers.{mending_at}
 use Rattle.code.specs.Refusals.{refuse, ◌or_else◌, unless_refused}
 use Rattle.code.specs.Limits.{Limits, data_count, sale_refusal_in, word_refusal_in}
@@ -31,7 +31,7 @@ unfoldable pub edit_refusal_in : Edition → ℕ → ℕ → ℕ → List ℕ �
 edit_refusal_in E m w c word number = number_refusal_in E.limits m w c (length word) number or_else refuse 9 (not (is_codeword E m w c word))
 
 -- the answer; a 9 carries the group that contradicts where every place is present
-unfoldable pub edit_in : Edition → ℕ → ℕ → ℕ → List ℕ → ℕ → Mending
+unfoldable pub edit_in : Edition → ℕ → ℕ → ℕ → List ℕ → ℕ → Result Unit Refusal
 edit_in E m w c word number = mending_at (edit_refusal_in E m w c word number) (contradicting_group E m w c word (replicate (length word) 0))
 
 -- the word at the end

@@ -1,7 +1,7 @@
 -- What holds of edits: both words, before and after, are codewords, so each is known by its data, and each group by its data and its own equations.
-use Rattle.std.specs.Prelude.{◌≡◌, Bool, not, ◌||◌, ◌&&◌, ◌⊎◌, List, leb, set, replicate}
+use Rattle.std.specs.Prelude.{◌≡◌, Bool, not, List, set, replicate, Ok, Err}
 use Rattle.std.proofs.Math.Path.{refl, sym, ap, subst}
-use Rattle.std.proofs.Common.{ap₂, ◌∙◌, inl, inr, div-add-mod', mod-lt, div-lt_iff_lt-mul, arith, length-set, pow_pos, get_or-set_same, ext_get_or}
+use Rattle.std.proofs.Common.{◌∙◌, inl, inr, div-add-mod', mod-lt, div-lt_iff_lt-mul, arith, ne_eqb, length-set, pow_pos, get_or-set_same, ext_get_or}
 use Rattle.std.proofs.Math.Bool.{true, false}
 use Prim.Native.Nat.{ℕ, zero, suc, ◌+◌, ◌*◌, ◌/◌, ◌%◌, ◌<◌, ◌≤◌, ◌^◌}
 use Rattle.std.proofs.Math.Decide.{dec_lt, dec_le, ℕ_discrete}
@@ -15,9 +15,9 @@ use Rattle.std.proofs.lemmas.List.{set-get_or, set_comm}
 use Rattle.counting.specs.First.{first_below}
 use Rattle.counting.specs.FirstLaws.{first-most, first-before, first_holds}
 use Rattle.counting.specs.CountLaws.{count-ext}
-use Rattle.answers.specs.declared.Mending.{Mending}
-use Rattle.answers.specs.Answers.{mending_at}
-use Rattle.answers.specs.AnswersLaws.{mending-refused}
+use Rattle.answers.specs.declared.Refusal.{Refusal}
+use Rattle.answers.specs.Answers.{refusal_number, refusal_group, mending_at}
+use Rattle.answers.specs.AnswersLaws.{refusal-some, mending-at}
 use Rattle.code.specs.Refusals.{refuse, ◌or_else◌, unless_refused}
 use Rattle.code.specs.RefusalsLaws.{or_else-zero, or_else-first, refuse-zero, unless-refused}
 use Rattle.code.specs.Limits.{Limits, data_count, GoodIn, SoldIn, sale_refusal_in, word_refusal_in}
@@ -27,7 +27,7 @@ use Rattle.code_services.specs.PlacesLaws.{check-inner, check-last, checks-inner
 use Rattle.code.specs.Edition.{Edition, Sound}
 use Rattle.code.specs.Word.{is_local, is_codeword, Symbols, Codeword}
 use Rattle.code.specs.WordLaws.{equations}
-use Rattle.code.specs.Marks.{lost, lost_in}
+use Rattle.code.specs.Marks.{lost_in}
 use Rattle.code.specs.DeterminedLaws.{local-unique}
 use Rattle.code.specs.CombinedLaws.{place-less}
 use Rattle.code.specs.Contradiction.{contradicting_group}
@@ -37,7 +37,7 @@ use Rattle.code_services.specs.EncodeDemand.{Encoded}
 use Rattle.code_services.specs.EncodeLaws.{encoded, lost-check}
 use Rattle.edit.specs.Edit.{place_of, changed_data, edited_in, number_refusal_in, edit_refusal_in, edit_in, edited_buffer_in}
 use Rattle.edit.specs.Demand.{EditCall, MayDiffer, Edited, EitherOrder, edited_below, AllEdited, LowestGroup, Refusals}
-use Rattle.edit.specs.PlacesLaws.{place_inside, extract-set}
+use Rattle.edit.specs.PlacesLaws.{extract-set}
 
 -- a bound on every entry holds after a change
 set_below : (b : ℕ) (xs : List ℕ) (i v : ℕ) → i < length xs → v < b → ((p : ℕ) → get_or xs p 0 < b) → (p : ℕ) → get_or (set xs i v) p 0 < b
@@ -301,11 +301,19 @@ module _ {E : Edition} (S : Sound E) where
         (λ j l. B.new j (subst (λ n. j < n) (extract-length s.good (edited_below E m w c word carried k)) l)))
 
 -- ---- refusals
+-- a number other than 9 carries no group
+other-group : (r g h : ℕ) → (r ≡ 9 → ⊥) → mending_at r g ≡ mending_at r h
+other-group zero g h n = refl
+other-group (suc r) g h n = rw (ne_eqb (suc r) 9 n) refl
+
+pub mending-refused : (e : Refusal) (g : ℕ) → (refusal_number e ≡ 9 → ⊥) → mending_at (refusal_number e) g ≡ Err e
+mending-refused e g n = other-group (refusal_number e) g (refusal_group e) n ∙ mending-at (Err e)
+
 module _ (E : Edition) (m w c : ℕ) (word : List ℕ) (number symbol : ℕ) where
   group : ℕ
   group = contradicting_group E m w c word (replicate (length word) 0)
 
-  stays : ¬ (edit_in E m w c word number ≡ Mending.Done) → edited_buffer_in E m w c word number symbol ≡ word
+  stays : ¬ (edit_in E m w c word number ≡ Ok tt) → edited_buffer_in E m w c word number symbol ≡ word
   unfolding edit_in edited_buffer_in group
   stays n = go (edit_refusal_in E m w c word number) refl
     where
@@ -314,29 +322,29 @@ module _ (E : Edition) (m w c : ℕ) (word : List ℕ) (number symbol : ℕ) whe
       go (suc r) e = refl
 
   -- the first refusal that applies is the answer
-  by-refusal : (r : ℕ) → (r ≡ 0 → ⊥) → (r ≡ 9 → ⊥) → number_refusal_in E.limits m w c (length word) number ≡ r
-      → edit_in E m w c word number ≡ Mending.Refused r
+  by-refusal : (e : Refusal) → (refusal_number e ≡ 9 → ⊥) → number_refusal_in E.limits m w c (length word) number ≡ refusal_number e
+      → edit_in E m w c word number ≡ Err e
   unfolding edit_in edit_refusal_in group
-  by-refusal r n k e =
-      ap (λ t. mending_at (t or_else refuse 9 (not (is_codeword E m w c word))) group) e
-      ∙ ap (λ t. mending_at t group) (or_else-first r _ n) ∙ mending-refused r group n k
+  by-refusal e k is =
+      ap (λ t. mending_at (t or_else refuse 9 (not (is_codeword E m w c word))) group) is
+      ∙ ap (λ t. mending_at t group) (or_else-first (refusal_number e) _ (refusal-some e)) ∙ mending-refused e group k
 
-  retired : GoodIn E.limits m w c → c ≡ 4 → edit_in E m w c word number ≡ Mending.Refused 29
+  retired : GoodIn E.limits m w c → c ≡ 4 → edit_in E m w c word number ≡ Err Refusal.Retired
   unfolding number_refusal_in
-  retired g e = by-refusal 29 (λ z. omega arith) (λ z. omega arith) (simp (retired-of-good m w c g e))
+  retired g e = by-refusal Refusal.Retired (λ z. omega arith) (simp (retired-of-good m w c g e))
 
-  other_length : SoldIn E.limits m w c → ¬ (length word ≡ m * w) → edit_in E m w c word number ≡ Mending.Refused 5
+  other_length : SoldIn E.limits m w c → ¬ (length word ≡ m * w) → edit_in E m w c word number ≡ Err Refusal.Length
   unfolding number_refusal_in
-  other_length s n = by-refusal 5 (λ z. omega arith) (λ z. omega arith) (simp (refusal-of-sold m w c s, word-length m w c (length word) s.good n))
+  other_length s n = by-refusal Refusal.Length (λ z. omega arith) (simp (refusal-of-sold m w c s, word-length m w c (length word) s.good n))
 
-  beyond : SoldIn E.limits m w c → length word ≡ m * w → data_count m w c ≤ number → edit_in E m w c word number ≡ Mending.Refused 30
+  beyond : SoldIn E.limits m w c → length word ≡ m * w → data_count m w c ≤ number → edit_in E m w c word number ≡ Err Refusal.DataNumber
   unfolding number_refusal_in
   beyond s size l =
-      by-refusal 30 (λ z. omega arith) (λ z. omega arith)
+      by-refusal Refusal.DataNumber (λ z. omega arith)
       (simp (refusal-of-sold m w c s, word-of-good m w c (length word) s.good size, le-leb (data_count m w c) number l))
 
   contradictory : SoldIn E.limits m w c → Symbols E (m * w) word → number < data_count m w c → ¬ Codeword E m w c word
-      → (g : ℕ) × (edit_in E m w c word number ≡ Mending.Contradictory g) × LowestGroup E m w c word g
+      → (g : ℕ) × (edit_in E m w c word number ≡ Err (Refusal.Contradictory g)) × LowestGroup E m w c word g
   unfolding edit_in edit_refusal_in group
   contradictory s y l n = (
     group,

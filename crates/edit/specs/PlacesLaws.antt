@@ -1,9 +1,9 @@
 -- The place of a data number, and the data of a word with one data place changed.
-use Rattle.std.specs.Prelude.{◌≡◌, Bool, leb}
+use Rattle.std.specs.Prelude.{◌≡◌, Bool}
 use Rattle.std.proofs.Math.Path.{refl, sym, ap, ap₂}
 use Rattle.std.proofs.Common.{◌∙◌, subst, add-zero, add-suc, suc-add, zero-add, not-suc-le-zero, mod-lt, div-lt_iff_lt-mul, suc-mul, mul-le-mul_right, get_or-set_same}
 use Rattle.std.proofs.Math.Bool.{true, false}
-use mathlib.Core.List.{List, [], ◌∷◌, ◌++◌, map}
+use mathlib.Core.List.{List, ◌∷◌, ◌++◌, map}
 use Prim.Native.Nat.{ℕ, zero, suc, ◌+◌, ◌-◌, ◌*◌, ◌/◌, ◌%◌, ◌≤◌, ◌<◌}
 use Rattle.std.proofs.Math.Nat.{le_of_suc-le-suc, div-add-mod', mul-le-mul_left, mul-sub}
 use native.Mathlib.Omega.{arith}
@@ -11,10 +11,10 @@ use Rattle.std.proofs.Math.Decide.{dec_lt}
 use Rattle.std.proofs.lemmas.Bool.{lt-leb}
 use Rattle.std.proofs.Math.ListN.{length, get_or, set}
 use Rattle.std.proofs.Math.Seq.{get_or-set_other, get_or-append_seam}
-use Rattle.counting.specs.Count.{total_below, count_below, one}
+use Rattle.counting.specs.Count.{count_below, one}
 use Rattle.counting.specs.CountLaws.{total-append, total-zero}
-use Rattle.code.specs.Limits.{Limits, place_count, data_count, GoodIn}
-use Rattle.code_services.specs.Places.{is_check, others_from, data_places, bytes_at, extract_of}
+use Rattle.code.specs.Limits.{Limits, data_count, GoodIn}
+use Rattle.code_services.specs.Places.{is_check, others_from, data_places, extract_of, extract_over, symbols_at}
 use Rattle.code_services.specs.PlacesFromLaws.{others-ext, others-length}
 use Rattle.code_services.specs.PlacesLaws.{check-inner, check-last, checks-before, data-length}
 use Rattle.edit.specs.Edit.{place_of}
@@ -149,7 +149,7 @@ module _ {L : Limits} {m w c : ℕ} (good : GoodIn L m w c) where
 
     -- the data of the word with that place changed
     pub extract-set : (word : List ℕ) (b : ℕ) → length word ≡ m * w → extract_of m w c (set word (place_of m w c i) b) ≡ set (extract_of m w c word) i b
-    unfolding place_of extract_of data_places bytes_at
+    unfolding place_of extract_over data_places symbols_at
     extract-set word b size =
         others-set (is_check m w c) word b 0 (m * w) i (omega arith) (subst (λ n. i < n) (sym long) l)
       where

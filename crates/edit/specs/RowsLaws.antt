@@ -1,9 +1,9 @@
 -- Laws: The constants of an edit: one test over all rows, and one over all marks.
-use Rattle.std.specs.Prelude.{◌≡◌, Bool, ◌&&◌, ◌||◌, List, [], ◌∷◌, ◌++◌, eqb, ltb, leb, length, get_or, take, drop, replicate}
+use Rattle.std.specs.Prelude.{◌≡◌, Bool, ◌&&◌, ◌||◌, List, ◌++◌, eqb, ltb, leb, length, get_or, take, drop, replicate}
 use Rattle.std.proofs.Math.Path.{refl, sym, ap}
-use Rattle.std.proofs.Common.{ap₂, ◌∙◌, subst, le-ltb, lit<, get_or-append-add, get_or-take, get_or-drop}
+use Rattle.std.proofs.Common.{◌∙◌, subst, le-ltb, lit<, get_or-append-add, get_or-take, get_or-drop}
 use Rattle.std.proofs.Math.Bool.{true, false, not}
-use Prim.Native.Nat.{ℕ, zero, suc, ◌+◌, ◌-◌, ◌*◌, ◌<◌, ◌≤◌}
+use Prim.Native.Nat.{ℕ, suc, ◌+◌, ◌-◌, ◌<◌, ◌≤◌}
 use native.Mathlib.Omega.{arith}
 use Rattle.std.proofs.lemmas.Bool.{lt-leb}
 use Rattle.std.proofs.Math.Dec.{T, eqb→eq}
@@ -25,7 +25,7 @@ use Rattle.byte_edition.specs.Edition.{byte_edition}
 use Rattle.byte_edition.specs.Rows.{power_rows, first_rows, second_rows, no_row}
 use Rattle.syndrome.specs.PartsLaws.{power-group, first_group, second_group}
 use Rattle.code_engine.specs.PartsLaws.{second-coefficient-group}
-use Rattle.edit.specs.Rows.{tail_marks, local_marks, first_fixes, second_fixes, row_start, fix_of, fixes_at}
+use Rattle.edit.specs.Rows.{tail_marks, local_marks, first_fixes, second_fixes, row_start, fix_of}
 
 -- ---- the rows
 -- the inner product of a row with row i of the coefficients

@@ -6,29 +6,27 @@ mod rows;
 
 ghost use Rattle.std.specs.Prelude.{◌≡◌, ◌+◌, ◌-◌, ◌*◌, ◌≤◌, ◌<◌, T, length};
 ghost use Rattle.shape.specs.Shapes.{byte_limits};
-ghost use Rattle.answers.specs.Answers.{mending_number};
+ghost use Rattle.answers.specs.Answers.{refused_number, mending_number};
 ghost use Rattle.code.specs.Limits.{data_count, GoodIn};
 ghost use Rattle.byte_edition.specs.Edition.{byte_edition};
 ghost use Rattle.code.specs.Word.{is_codeword};
 ghost use Rattle.edit.specs.Edit.{edited_in, number_refusal_in, edit_refusal_in, edit_in, edited_buffer_in};
 ghost use Rattle.edit.specs.Steps.{Refilled, AddedRows, corrected_of};
 
-use answers::Mending;
+use answers::Refusal;
+use shape::Bytes;
 use syndrome::Sums;
 
-// The refusal of a call by its shape, its length and its number: 1 to 4, 29, 5, then 30; 0 if there is none.
-fn refusal(m: usize, w: usize, c: usize, lent: usize, number: usize) -> u8
-    ensures { result ≡ number_refusal_in byte_limits m w c lent number }
+// Refuses a call by its shape, its length and its number, as 1 to 4, 29, 5, then 30.
+fn refusal(m: usize, w: usize, c: usize, lent: usize, number: usize) -> Result<(), Refusal>
+    ensures { refused_number result ≡ number_refusal_in byte_limits m w c lent number }
 {
-    let unsold = shape::sale_refusal(m, w, c);
-    if unsold != 0 {
-        return unsold;
+    shape::sale_refusal::<Bytes>(m, w, c)?;
+    shape::word_refusal::<Bytes>(m, w, c, lent)?;
+    if m * (w - c) - 2 <= number {
+        return Err(Refusal::DataNumber);
     }
-    let length = shape::word_refusal(m, w, c, lent);
-    if length != 0 {
-        return length;
-    }
-    if m * (w - c) - 2 <= number { 30 } else { 0 }
+    Ok(())
 }
 
 // Sets place j of group g's stretch and fills the group's c checks; gives what that changes in the two sums across.
@@ -58,12 +56,10 @@ fn add_rows(u: u8, h: &[u8], v: u8, k: &[u8], part: &mut [u8])
     requires k_len { length k.now ≡ length part.old }
     ensures { AddedRows u h.now v k.now part.old part.new }
 {
-    let mut i: usize = 0;
-    while i < part.len() {
+    for (i, byte) in part.iter_mut().enumerate() {
         let a = gf256::shifted_product(u, h[i]);
         let b = gf256::shifted_product(v, k[i]);
-        part[i] = part[i] ^ (a ^ b);
-        i += 1;
+        *byte ^= a ^ b;
     }
 }
 
@@ -104,19 +100,23 @@ fn change(m: usize, w: usize, c: usize, number: usize, byte: u8, word: &mut [u8]
 }
 
 // Changes the data byte of this number in a codeword, and leaves it as encoding the changed data would; or refuses and changes nothing.
-pub fn edit(m: usize, w: usize, c: usize, word: &mut [u8], number: usize, byte: u8) -> Mending
+pub fn edit(
+    m: usize,
+    w: usize,
+    c: usize,
+    word: &mut [u8],
+    number: usize,
+    byte: u8,
+) -> Result<(), Refusal>
     ensures answer { result ≡ edit_in byte_edition m w c word.old number }
     ensures number { mending_number result ≡ edit_refusal_in byte_edition m w c word.old number }
     ensures word { word.new ≡ edited_buffer_in byte_edition m w c word.old number byte }
 {
-    let r = refusal(m, w, c, word.len(), number);
-    if r != 0 {
-        return Mending::Refused(r);
-    }
+    refusal(m, w, c, word.len(), number)?;
     let tested = syndrome::test(m, w, c, word);
     if !tested.codeword {
-        return Mending::Contradictory(tested.group as u8);
+        return Err(Refusal::Contradictory(tested.group as u8));
     }
     change(m, w, c, number, byte, word);
-    Mending::Done
+    Ok(())
 }

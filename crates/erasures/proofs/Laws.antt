@@ -2,8 +2,8 @@
 use mathlib.Core.Path.{◌≡◌, refl, ap, ap₂, ◌∙◌}
 use mathlib.Core.Bool.{Bool, true, false, not, ◌&&◌}
 use mathlib.Core.List.{List, ◌++◌, append_assoc, append-nil}
-use Prim.Native.Nat.{ℕ, suc, ◌+◌, ◌-◌, ◌*◌, ◌≤◌, ◌<◌}
-use native.Mathlib.Nat.{suc-mul}
+use Prim.Native.Nat.{ℕ, suc, ◌+◌, ◌-◌, ◌*◌, ◌/◌, ◌≤◌, ◌<◌}
+use native.Mathlib.Nat.{suc-mul, le-div_iff_mul-le}
 use native.Mathlib.Numerals.{add-one}
 use native.Mathlib.Omega.{arith}
 use lib.Dec.{eqb}
@@ -43,6 +43,13 @@ module _ (xs : List ℕ) (i : ℕ) (h : i < length xs) where
 pub bound-end : (xs : List ℕ) (i d : ℕ) → length xs ≤ i → take i xs ++ bound_of d (drop i xs) ≡ xs
 unfolding bound_of
 bound-end xs i d h = rw (drop_of_length-le xs, take_all, append-nil)
+
+-- group g of those that are whole lies within the list
+pub group-room : (n w g : ℕ) → (w ≡ 0 → ⊥) → g < n / w → g * w + w ≤ n
+group-room n w g some l =
+    let pos : 0 < w = omega arith in
+    let h : suc g * w ≤ n = (le-div_iff_mul-le {k = w} {x = suc g} {y = n} pos).0 l in
+    let e = suc-mul g w in omega arith
 
 -- the part of group g, which starts at a, is lent and comes back as ys
 module _ (g w c a : ℕ) (marks held ys : List ℕ) (at : a ≡ g * w) (y : ys ≡ bound_of c (take (a + w - a) (drop a held))) where

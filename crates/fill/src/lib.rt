@@ -15,11 +15,8 @@ fn place(part: &mut [u8], at: [usize; 4], rows: [[u8; 16]; 4], t: usize)
     requires { (t ≤ 4) × Inside (length part.old) at t }
     ensures { part.new ≡ placed part.old at rows t }
 {
-    let mut i: usize = 0;
-    while i < t {
-        let p = at[i];
-        part[p] = rows[i][4];
-        i += 1;
+    for i in 0..t {
+        part[at[i]] = rows[i][4];
     }
 }
 
@@ -59,18 +56,15 @@ fn equations_of(part: &[u8], at: [usize; 4], t: usize) -> [[u8; 16]; 4]
     ensures { EquationsIn byte_edition part.now at t result }
 {
     let mut rows = [[0u8; 16]; 4];
-    let mut e: usize = 0;
-    while e < t {
-        let x = equation(part, at, t, e);
-        rows[e] = x;
-        e += 1;
+    for e in 0..t {
+        rows[e] = equation(part, at, t, e);
     }
     rows
 }
 
 // Whether sums over so many places are fast enough as they are: sixteen are one step of the vector unit, and a few take no longer than padding.
 fn sixteen_or_few(places: usize) -> bool {
-    if places < 5 { true } else { places == 16 }
+    places < 5 || places == 16
 }
 
 // The same; any other part of fewer than sixteen places is padded.

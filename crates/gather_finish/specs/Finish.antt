@@ -1,6 +1,6 @@
 -- What Finish answers, and what the word and the record hold then.
-use Rattle.std.specs.Prelude.{◌≡◌, not, List, ℕ, zero, suc, eqb, length}
-use Rattle.answers.specs.declared.Mending.{Mending}
+use Rattle.std.specs.Prelude.{◌≡◌, not, List, ℕ, zero, suc, eqb, length, Result}
+use Rattle.answers.specs.declared.Refusal.{Refusal}
 use Rattle.answers.specs.Answers.{mending_at, mending_number, mending_group}
 use Rattle.code.specs.Refusals.{refuse, ◌or_else◌, unless_refused}
 use Rattle.code.specs.Outcome.{Outcome}
@@ -44,7 +44,7 @@ unfoldable pub finish_of : List ℕ → Gather → Finishing
 finish_of word g = finish_by (finish_refusal (length word) g) word g
 
 -- what Finish leaves and answers
-pub record FinishGives (o : Finishing) (word : List ℕ) (gather : Gather) (answer : Mending) : Type 0 where
+pub record FinishGives (o : Finishing) (word : List ℕ) (gather : Gather) (answer : Result Unit Refusal) : Type 0 where
   pub word-is : word ≡ o.word
   pub gather-is : gather ≡ o.gather
   pub answer-is : answer ≡ mending_at o.number o.group

@@ -1,14 +1,15 @@
 -- Laws of Finish.
-use Rattle.std.specs.Prelude.{◌≡◌, true, false, not, List, ◌⊎◌, eqb, ltb, length}
+use Rattle.std.specs.Prelude.{◌≡◌, true, false, not, List, ◌⊎◌, eqb, ltb, length, Result, Ok, Err}
 use Rattle.std.proofs.Math.Path.{refl, sym, ap, subst}
 use Rattle.std.proofs.Common.{◌∙◌, inl, inr, arith, eqb-true, eq-eqb, ne_eqb}
 use Rattle.std.proofs.Math.Bool.{Bool}
 use Prim.Native.Nat.{ℕ, zero, suc, ◌^◌, ◌≤◌}
 use Rattle.std.proofs.Math.Decide.{ℕ_discrete}
 use Rattle.std.proofs.lemmas.Bool.{not-false}
-use Rattle.answers.specs.declared.Mending.{Mending}
-use Rattle.answers.specs.Answers.{mending_at, mending_number, mending_group}
-use Rattle.answers.specs.AnswersLaws.{mending-number, mending-refused}
+use Rattle.answers.specs.declared.Refusal.{Refusal}
+use Rattle.answers.specs.Answers.{refusal_number, mending_at, mending_number, mending_group, Listed}
+use Rattle.answers.specs.AnswersLaws.{refusal-some, refusal-no-group, mending-at, mending-is as answer-is, mending-some as answer-some, mending-no-group}
+use Rattle.code_services.specs.PlainLaws.{recover-listed}
 use Rattle.code.specs.Refusals.{refuse, ◌or_else◌}
 use Rattle.code.specs.RefusalsLaws.{refuse-zero, or_else-zero, or_else-first}
 use Rattle.shape.specs.Shapes.{byte_limits}
@@ -96,41 +97,43 @@ recovery-group m w c word marks = go (recover_refusal_in byte_limits m w c word 
     go (suc r) = λ _. refl
 
 mending-group : (r group : ℕ) → ((r ≡ 9 → ⊥) → group ≡ 0) → mending_group (mending_at r group) ≡ group
-mending-group zero group none = sym (none (λ e. omega arith))
-mending-group (suc r) group none = elim (ℕ_discrete (suc r) 9) [
+mending-group r group none = elim (ℕ_discrete r 9) [
   | yes e ↦ ap (λ n. mending_group (mending_at n group)) e
-  | no n ↦ ap mending_group (mending-refused (suc r) group (λ e. omega arith) n) ∙ sym (none n)
+  | no n ↦ mending-no-group r group n ∙ sym (none n)
 ]
 
 -- ---- what Finish gives
 
-pub mending-is : (n group : ℕ) {a : Mending} → a ≡ mending_at n group → n ≡ mending_number a
-mending-is n group e = sym (mending-number n group) ∙ ap mending_number (sym e)
+pub mending-is : (n group : ℕ) {a : Result Unit Refusal} → Listed n → a ≡ mending_at n group → n ≡ mending_number a
+mending-is n group l e = answer-is n group l e
 
-pub mending-some : (n group r : ℕ) → Mending.Refused r ≡ mending_at n group → n ≡ 0 → ⊥
-mending-some zero group r e h = let z : ◌≡◌ {A = ℕ} 0 1 = cc in omega arith
-mending-some (suc n) group r e h = omega arith
+pub mending-some : (n group : ℕ) {f : Refusal} → Err f ≡ mending_at n group → n ≡ 0 → ⊥
+mending-some n group e h = answer-some n group e h
 
 not-nine : {r : ℕ} → (r ≤ 6) ⊎ (r ≡ 22) → r ≡ 9 → ⊥
 not-nine (inl l) e = omega arith
 not-nine (inr l) e = omega arith
 
 module _ (word : List ℕ) (g : Gather) where
-  pub finish-refused : (r : ℕ) → (r ≡ 0 → ⊥) → finish_refusal (length word) g ≡ r → (h : Gather) (a : Mending) → h ≡ g → a ≡ Mending.Refused r
-      → FinishGives (finish_of word g) word h a
+  finishing-refused : (r : ℕ) → (r ≡ 0 → ⊥) → finish_by r word g ≡ record { number = r; group = 0; word = word; gather = g }
+  finishing-refused zero some = absurd (some refl)
+  finishing-refused (suc r) some = refl
+
+  pub finish-refused : (e : Refusal) → refusal_number e ≡ finish_refusal (length word) g → (h : Gather) → h ≡ g → FinishGives (finish_of word g) word h (Err e)
   unfolding finish_of
-  finish-refused zero some e h a q d = absurd (some refl)
-  finish-refused (suc r) some e h a q d =
-      subst (λ n. FinishGives (finish_by n word g) word h a) (sym e)
-      (record {
+  finish-refused e is h q =
+      let other : refusal_number e ≡ 9 → ⊥ = λ k. not-nine (finish-numbers (length word) g) (sym is ∙ k) in
+      let none = refusal-no-group e other in
+      subst (λ n. FinishGives (finish_by n word g) word h (Err e)) is
+      (subst (λ o. FinishGives o word h (Err e)) (sym (finishing-refused (refusal_number e) (refusal-some e))) (record {
         word-is = refl;
         gather-is = q;
-        answer-is = d ∙ sym (mending-refused (suc r) 0 some (λ k. not-nine (finish-numbers (length word) g) (e ∙ k)));
-        number_is = ap mending_number d;
-        group-is = ap mending_group d;
-      })
+        answer-is = sym (ap (mending_at (refusal_number e)) (sym none) ∙ mending-at (Err e));
+        number_is = refl;
+        group-is = none;
+      }))
 
-  pub finish-recovered : finish_refusal (length word) g ≡ 0 → (word' : List ℕ) (h : Gather) (a : Mending) → word' ≡ (finish_by 0 word g).word → h ≡ closed g
+  pub finish-recovered : finish_refusal (length word) g ≡ 0 → (word' : List ℕ) (h : Gather) (a : Result Unit Refusal) → word' ≡ (finish_by 0 word g).word → h ≡ closed g
       → a ≡ mending_at (gather_recovery g).number (gather_recovery g).group → FinishGives (finish_of word g) word' h a
   unfolding finish_of
   finish-recovered e word' h a d k q =
@@ -139,6 +142,6 @@ module _ (word : List ℕ) (g : Gather) where
         word-is = d;
         gather-is = k;
         answer-is = q;
-        number_is = ap mending_number q ∙ mending-number (gather_recovery g).number (gather_recovery g).group;
+        number_is = sym (mending-is _ _ (recover-listed byte_edition g.m g.w g.c _ _) q);
         group-is = ap mending_group q ∙ mending-group _ _ (recovery-group g.m g.w g.c _ _);
       })

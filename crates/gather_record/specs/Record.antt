@@ -1,6 +1,6 @@
 -- The record of a gather: a shape, the bytes that came, 01's marks with what has not come as lost, and whether it is finished. And Begin.
-use Rattle.std.specs.Prelude.{◌≡◌, not, List, ℕ, zero, suc, eqb, ltb, length, take, replicate}
-use Rattle.answers.specs.declared.Answer.{Answer}
+use Rattle.std.specs.Prelude.{◌≡◌, not, List, ℕ, zero, suc, eqb, ltb, length, take, replicate, Result}
+use Rattle.answers.specs.declared.Refusal.{Refusal}
 use Rattle.answers.specs.Answers.{answer_number}
 use Rattle.code.specs.Refusals.{refuse, ◌or_else◌}
 use Rattle.shape.specs.Shapes.{byte_limits}
@@ -51,9 +51,7 @@ gathering_by (suc r) new old = record { number = suc r; gather = old }
 unfoldable pub begin_of : ℕ → ℕ → ℕ → Gather → Gathering
 begin_of m w c g = gathering_by (shape_refusal_in byte_limits m w c) (begun m w c) g
 
--- what Begin and Take leave and answer
-pub record GatherGives (o : Gathering) (gather : Gather) (answer : Answer) : Type 0 where
+-- what Begin and Take leave and answer; by its type no refusal has the number of done
+pub record GatherGives (o : Gathering) (gather : Gather) (answer : Result Unit Refusal) : Type 0 where
   pub gather-is : gather ≡ o.gather
   pub number_is : answer_number answer ≡ o.number
-  -- no refusal has the number of done
-  pub refusal-some : ¬ (answer ≡ Answer.Refused 0)

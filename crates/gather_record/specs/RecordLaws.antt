@@ -1,10 +1,11 @@
 -- Laws of the record of a gather.
-use Rattle.std.specs.Prelude.{◌≡◌, refl, true, not, ℕ, zero, suc, ◌*◌, ◌<◌, T, eqb, ltb, length, get_or}
+use Rattle.std.specs.Prelude.{◌≡◌, refl, true, not, ℕ, zero, suc, ◌*◌, ◌<◌, T, eqb, ltb, length, get_or, Ok, Err}
 use Rattle.std.proofs.Math.Path.{sym}
 use Rattle.std.proofs.Common.{ap, ◌∙◌, subst, arith, ltb-false, length-take-le, get_or-take}
 use Rattle.std.proofs.lemmas.Bool.{eqb-false, not-false}
-use Rattle.answers.specs.declared.Answer.{Answer}
-use Rattle.answers.specs.Answers.{answer_number}
+use Rattle.answers.specs.declared.Refusal.{Refusal}
+use Rattle.answers.specs.Answers.{refusal_number}
+use Rattle.answers.specs.AnswersLaws.{refusal-some}
 use Rattle.code.specs.Refusals.{refuse, ◌or_else◌}
 use Rattle.code.specs.RefusalsLaws.{refuse-zero, or_else-zero, or_else-first}
 use Rattle.shape.specs.Shapes.{byte_limits}
@@ -15,18 +16,16 @@ use Rattle.code_services.specs.MarksLaws.{marks-each, each-mark}
 use Rattle.gather_record.specs.declared.Gather.{Gather}
 use Rattle.gather_record.specs.Record.{gather_places, gather_bytes, gather_marks, Whole, gather_refusal, begun, gathering_by, GatherGives}
 
-pub gives-refused : (r : ℕ) → (r ≡ 0 → ⊥) → (new old : Gather) → GatherGives (gathering_by r new old) old (Answer.Refused r)
-gives-refused zero some new old = absurd (some refl)
-gives-refused (suc r) some new old = record { gather-is = refl; number_is = refl; refusal-some = λ q. some (ap answer_number q) }
+gathering-refused : (r : ℕ) → (r ≡ 0 → ⊥) → (new old : Gather) → gathering_by r new old ≡ record { number = r; gather = old }
+gathering-refused zero some new old = absurd (some refl)
+gathering-refused (suc r) some new old = refl
 
-pub gives-done : (r : ℕ) → r ≡ 0 → (new old : Gather) → GatherGives (gathering_by r new old) new Answer.Done
-gives-done r e new old =
-    subst (λ n. GatherGives (gathering_by n new old) new Answer.Done) (sym e)
-    (record { gather-is = refl; number_is = refl; refusal-some = λ q. subst IsDone q tt })
-  where
-    IsDone : Answer → Type 0
-    IsDone Answer.Done = Unit
-    IsDone (Answer.Refused r) = ⊥
+pub gives-refused : (r : ℕ) (e : Refusal) → refusal_number e ≡ r → (new old : Gather) → GatherGives (gathering_by r new old) old (Err e)
+gives-refused r e is new old =
+    subst (λ o. GatherGives o old (Err e)) (sym (gathering-refused r (λ z. refusal-some e (is ∙ z)) new old)) (record { gather-is = refl; number_is = is })
+
+pub gives-done : (r : ℕ) → r ≡ 0 → (new old : Gather) → GatherGives (gathering_by r new old) new (Ok tt)
+gives-done r e new old = subst (λ n. GatherGives (gathering_by n new old) new (Ok tt)) (sym e) (record { gather-is = refl; number_is = refl })
 
 -- ---- the refusal of a record, case by case
 

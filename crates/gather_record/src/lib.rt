@@ -3,10 +3,11 @@
 #![tactic(auto)]
 
 ghost use Rattle.std.specs.Prelude.{◌≡◌};
+ghost use Rattle.answers.specs.Answers.{refused_number};
 ghost use Rattle.gather_record.specs.Record.{gather_refusal, begin_of, GatherGives};
 
-use answers::Answer;
-use shape::Shape;
+use answers::Refusal;
+use shape::{Bytes, Shape};
 
 // A shape, whether it is finished, 1 or 0, the bytes that came, and for each place 0 if it came and 1 if it did not.
 #[repr(C)]
@@ -20,45 +21,42 @@ pub struct Gather {
     pub marks: [u8; Shape::MAX_PLACES],
 }
 
-// What Begin and Take answer, and the record then.
+// What Begin, Take and Finish answer, and the record then.
 #[derive(Clone, Copy)]
 pub struct After {
     pub gather: Gather,
-    pub answer: Answer,
+    pub answer: Result<(), Refusal>,
 }
 
-// The refusal of a record: 1 to 4 or 6 if it is bad, 22 if it is finished; 0 if there is none.
-pub fn refusal(gather: Gather) -> u8
-    ensures { result ≡ gather_refusal gather }
+// Refuses a record: as 1 to 4 or 6 if it is bad, as 22 if it is finished.
+pub fn refusal(gather: Gather) -> Result<(), Refusal>
+    ensures { refused_number result ≡ gather_refusal gather }
 {
     let m = gather.m as usize;
     let w = gather.w as usize;
     let c = gather.c as usize;
-    let r = shape::shape_refusal(m, w, c);
-    if r != 0 {
-        return r;
-    }
+    shape::shape_refusal::<Bytes>(m, w, c)?;
     let n = m * w;
     let marks = gather.marks;
-    let r = marks::marks_refusal(m, w, c, &marks[..n]);
-    if r != 0 {
-        return r;
-    }
+    marks::marks_refusal::<Bytes>(m, w, c, &marks[..n])?;
     if 1 < gather.finished {
-        return 6;
+        return Err(Refusal::Mark);
     }
-    if gather.finished == 1 { 22 } else { 0 }
+    if gather.finished == 1 {
+        Err(Refusal::Finished)
+    } else {
+        Ok(())
+    }
 }
 
 // The service Begin.
 pub fn begin(gather: Gather, m: usize, w: usize, c: usize) -> After
     ensures { GatherGives (begin_of m w c gather) result.gather result.answer }
 {
-    let r = shape::shape_refusal(m, w, c);
-    if r != 0 {
+    if let Err(e) = shape::shape_refusal::<Bytes>(m, w, c) {
         return After {
-            gather: gather,
-            answer: Answer::Refused(r),
+            gather,
+            answer: Err(e),
         };
     }
     let new = Gather {
@@ -71,6 +69,6 @@ pub fn begin(gather: Gather, m: usize, w: usize, c: usize) -> After
     };
     After {
         gather: new,
-        answer: Answer::Done,
+        answer: Ok(()),
     }
 }

@@ -1,5 +1,5 @@
 -- Laws of Take.
-use Rattle.std.specs.Prelude.{◌≡◌, refl, Bool, true, false, ◌||◌, List, ◌++◌, ℕ, zero, suc, ◌+◌, ◌-◌, ◌<◌, ◌≤◌, eqb, drop, get_or, replicate}
+use Rattle.std.specs.Prelude.{◌≡◌, refl, Bool, true, false, ◌||◌, List, ◌++◌, ℕ, zero, suc, ◌+◌, ◌-◌, ◌<◌, ◌≤◌, eqb, drop, get_or, replicate, Ok}
 use Rattle.std.proofs.Common.{sym, ap₂, ◌∙◌, subst, le_refl, le_trans, get_or-take, drop-drop}
 use Rattle.std.proofs.Math.Path.{ap}
 use Rattle.std.proofs.Math.Bool.{not}
@@ -13,7 +13,6 @@ use Rattle.std.proofs.Math.Seq.{get_or-drop, length-take-le}
 use Rattle.counting.specs.Test.{any_below}
 use Rattle.counting.specs.TestLaws.{any-intro}
 use Rattle.code.specs.Marks.{lost}
-use Rattle.answers.specs.declared.Answer.{Answer}
 use Rattle.code.specs.Refusals.{refuse}
 use Rattle.code.specs.RefusalsLaws.{refuse-zero, or_else-zero, or_else-first}
 use Rattle.gather_record.specs.declared.Gather.{Gather}
@@ -57,7 +56,8 @@ module _ (marks : List ℕ) where
       ap (λ x. any_below (length x) (λ i. not (lost x (0 + i)))) q
       ∙ ap (λ n. any_below n (λ i. not (lost (take count (drop first marks)) (0 + i)))) k
       ∙ any-ext count _ _ (λ i l. let y : 0 + i ≡ i = omega arith in
-      ap (λ p. not (lost (take count (drop first marks)) p)) y ∙ ap (λ b. not (eqb b 1)) (get_or-take count (drop first marks) i 0 l ∙ get_or-drop first marks i 0))
+      ap (λ p. not (lost (take count (drop first marks)) p)) y
+      ∙ ap (λ b. not (eqb b 1)) (get_or-take count (drop first marks) i 0 l ∙ get_or-drop first marks i 0))
 
 -- ---- the refusal of a stretch, case by case
 
@@ -112,9 +112,9 @@ part_length first count xs h =
 -- what a stretch that is not refused gives
 pub gives-taken : (first : ℕ) (bytes : List ℕ) (g : Gather) → take_refusal first (length bytes) g ≡ 0
     → (b k : List ℕ) → b ≡ put_at first bytes g.bytes → k ≡ put_at first (replicate (length bytes) 0) g.marks
-    → GatherGives (take_of first bytes g) (record { m = g.m; w = g.w; c = g.c; finished = g.finished; bytes = b; marks = k }) Answer.Done
+    → GatherGives (take_of first bytes g) (record { m = g.m; w = g.w; c = g.c; finished = g.finished; bytes = b; marks = k }) (Ok tt)
 unfolding take_of taken
 gives-taken first bytes g e b k p q =
-    subst (λ x. GatherGives (take_of first bytes g) x Answer.Done)
+    subst (λ x. GatherGives (take_of first bytes g) x (Ok tt))
     (sym (ap₂ (λ x y. record { m = g.m; w = g.w; c = g.c; finished = g.finished; bytes = x; marks = y }) p q))
     (gives-done _ e (taken first bytes g) g)

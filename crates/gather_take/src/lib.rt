@@ -2,59 +2,42 @@
 
 #![tactic(auto)]
 
-ghost use Rattle.std.specs.Prelude.{◌≡◌, length};
-ghost use Rattle.answers.specs.Answers.{answer_at};
+ghost use Rattle.std.specs.Prelude.{◌≡◌, ◌↔◌, ◌<◌, ℕ, IsTrue, length, get_or};
+ghost use Rattle.answers.specs.Answers.{refused_number};
 ghost use Rattle.gather_record.specs.Record.{GatherGives};
-ghost use Rattle.gather_take.specs.Take.{some_came, take_refusal, take_of};
+ghost use Rattle.gather_take.specs.Take.{take_refusal, take_of};
 
-use answers::Answer;
+use answers::Refusal;
 use gather_record::{After, Gather};
 
 // Whether some place of a stretch came before, by the marks of that stretch.
 fn some_came(part: &[u8]) -> bool
-    ensures { result ≡ some_came part.now 0 (length part.now) }
+    ensures { IsTrue result ↔ ((p : ℕ) × (p < length part.now) × ¬ (get_or part.now p 0 ≡ 1)) }
 {
-    let mut i: usize = 0;
-    while i < part.len() {
-        if part[i] != 1 {
-            return true;
-        }
-        i += 1;
-    }
-    false
+    part.iter().any(|mark| *mark != 1)
 }
 
-// The refusal of a stretch of count bytes: that of the record, 23 or 24; 0 if there is none. Both numbers are compared with n before they are added.
-fn take_refusal(gather: Gather, first: usize, count: usize) -> u8
-    ensures { result ≡ take_refusal first count gather }
+// Refuses a stretch of count bytes: as the record, or as 23 or 24. Both numbers are compared with n before they are added.
+fn take_refusal(gather: Gather, first: usize, count: usize) -> Result<(), Refusal>
+    ensures { refused_number result ≡ take_refusal first count gather }
 {
-    let r = gather_record::refusal(gather);
-    if r != 0 {
-        return r;
-    }
+    gather_record::refusal(gather)?;
     let n = (gather.m as usize) * (gather.w as usize);
     if n < first {
-        return 23;
+        return Err(Refusal::Beyond);
     }
     if n < count {
-        return 23;
+        return Err(Refusal::Beyond);
     }
     let end = first + count;
     if n < end {
-        return 23;
+        return Err(Refusal::Beyond);
     }
     let marks = gather.marks;
-    if some_came(&marks[first..end]) { 24 } else { 0 }
-}
-
-// The answer with this number, 0 for done.
-fn answer_of(refusal: u8) -> Answer
-    ensures { result ≡ answer_at refusal }
-{
-    if refusal != 0 {
-        Answer::Refused(refusal)
+    if some_came(&marks[first..end]) {
+        Err(Refusal::CameBefore)
     } else {
-        Answer::Done
+        Ok(())
     }
 }
 
@@ -63,29 +46,23 @@ pub fn take(gather: Gather, first: usize, bytes: &[u8]) -> After
     ensures { GatherGives (take_of first bytes.now gather) result.gather result.answer }
 {
     let count = bytes.len();
-    let number = take_refusal(gather, first, count);
-    let answer = answer_of(number);
-    if number != 0 {
+    if let Err(e) = take_refusal(gather, first, count) {
         return After {
-            gather: gather,
-            answer: answer,
+            gather,
+            answer: Err(e),
         };
     }
     let end = first + count;
     let mut kept = gather.bytes;
-    buffers::copy(bytes, &mut kept[first..end]);
+    buffers::copy_from_slice(&mut kept[first..end], bytes);
     let mut marks = gather.marks;
-    buffers::clear_if(true, &mut marks[first..end]);
-    let new = Gather {
-        m: gather.m,
-        w: gather.w,
-        c: gather.c,
-        finished: gather.finished,
-        bytes: kept,
-        marks: marks,
-    };
+    marks[first..end].fill(0);
     After {
-        gather: new,
-        answer: answer,
+        gather: Gather {
+            bytes: kept,
+            marks,
+            ..gather
+        },
+        answer: Ok(()),
     }
 }

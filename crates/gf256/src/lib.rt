@@ -33,14 +33,12 @@ pub fn shifted_product(a: u8, b: u8) -> u8
     let mut r: u8 = 0;
     let mut x = a;
     let mut y = b;
-    let mut i: usize = 0;
-    while i < 8 {
+    for _ in 0..8u8 {
         if y % 2 == 1 {
-            r = r ^ x;
+            r ^= x;
         }
         x = double(x);
-        y = y / 2;
-        i += 1;
+        y /= 2;
     }
     r
 }
@@ -69,10 +67,8 @@ pub fn power(a: u8, n: usize) -> u8
     ensures { result ≡ power 8 285 a n }
 {
     let mut r: u8 = 1;
-    let mut i: usize = 0;
-    while i < n {
+    for _ in 0..n {
         r = shifted_product(a, r);
-        i += 1;
     }
     r
 }
@@ -82,10 +78,8 @@ pub fn power_of_two(n: usize) -> u8
     ensures { result ≡ power 8 285 2 n }
 {
     let mut r: u8 = 1;
-    let mut i: usize = 0;
-    while i < n {
+    for _ in 0..n {
         r = double(r);
-        i += 1;
     }
     r
 }
@@ -95,10 +89,8 @@ pub fn sum(u: &[u8]) -> u8
     ensures { result ≡ sum_below (length u.now) (λ i. get_or u.now i 0) }
 {
     let mut r: u8 = 0;
-    let mut i: usize = 0;
-    while i < u.len() {
-        r = r ^ u[i];
-        i += 1;
+    for x in u {
+        r ^= *x;
     }
     r
 }
@@ -107,12 +99,9 @@ pub fn sum(u: &[u8]) -> u8
 pub fn dot(u: &[u8], v: &[u8]) -> u8
     ensures { result ≡ inner_product 8 285 (length u.now) u.now v.now }
 {
-    let n = buffers::smaller(u.len(), v.len());
     let mut r: u8 = 0;
-    let mut i: usize = 0;
-    while i < n {
-        r = r ^ shifted_product(u[i], v[i]);
-        i += 1;
+    for (x, y) in u.iter().zip(v) {
+        r ^= shifted_product(*x, *y);
     }
     r
 }

@@ -8,6 +8,7 @@ const LOCATORS: [u8; 16] = [
 ];
 
 // The locator of place j; 0 past the last.
+#[tactic(auto, unfolding(crate::specs::Locators::locators))]
 pub fn locator(j: usize) -> u8
     ensures { result ≡ get_or locators j 0 }
 {

@@ -22,36 +22,34 @@ const LOCATOR_INVERSES: [u8; 16] = [
     0, 1, 68, 79, 146, 78, 215, 214, 11, 220, 221, 152, 153, 10, 69, 147,
 ];
 
-fn wide(x: u8) -> usize
-    ensures { (result ≡ x) × (result < 256) }
-{
-    x as usize
-}
-
 // The sixteenth power of the low four bits of a.
+#[tactic(auto, unfolding(crate::specs::Rows::sixteenths_low))]
 pub fn sixteenth_low(a: u8) -> u8
     ensures { result ≡ get_or sixteenths_low (a % 16) 0 }
 {
-    SIXTEENTHS_LOW[wide(a % 16)]
+    SIXTEENTHS_LOW[usize::from(a % 16)]
 }
 
 // The sixteenth power of the high four bits of a, where they stand.
+#[tactic(auto, unfolding(crate::specs::Rows::sixteenths_high))]
 pub fn sixteenth_high(a: u8) -> u8
     ensures { result ≡ get_or sixteenths_high (a / 16) 0 }
 {
-    SIXTEENTHS_HIGH[wide(a / 16)]
+    SIXTEENTHS_HIGH[usize::from(a / 16)]
 }
 
 // The locator with the low four bits of a.
+#[tactic(auto, unfolding(crate::specs::Rows::locators_by_low))]
 pub fn locator_like(a: u8) -> u8
     ensures { result ≡ get_or locators_by_low (a % 16) 0 }
 {
-    LOCATORS_BY_LOW[wide(a % 16)]
+    LOCATORS_BY_LOW[usize::from(a % 16)]
 }
 
 // The inverse of the locator a, by its low four bits; 0 for 0.
+#[tactic(auto, unfolding(crate::specs::Rows::locator_inverses))]
 pub fn locator_inverse(a: u8) -> u8
     ensures { result ≡ get_or locator_inverses (a % 16) 0 }
 {
-    LOCATOR_INVERSES[wide(a % 16)]
+    LOCATOR_INVERSES[usize::from(a % 16)]
 }

@@ -3,89 +3,74 @@
 
 #![tactic(auto)]
 
+use answers::Refusal;
+use shape::Bytes;
 use std::io;
 
-fn number(rt: &impl Print, n: u64, end: &str) -> io::Result<()> {
-    print!(rt; "{n}{end}")
-}
-
 fn product_line(rt: &impl Print, a: u8, b: u8) -> io::Result<()> {
-    number(rt, u64::from(a), " * ")?;
-    number(rt, u64::from(b), " = ")?;
-    number(rt, u64::from(gf256::shifted_product(a, b)), "\n")
+    println!(rt; "{a} * {b} = {}", gf256::shifted_product(a, b))
 }
 
 fn locator_line(rt: &impl Print) -> io::Result<()> {
     print!(rt; "locators")?;
     for j in 0..16 {
-        print!(rt; " ")?;
-        number(rt, u64::from(gf256::locators::locator(j)), "")?;
+        print!(rt; " {}", gf256::locators::locator(j))?;
     }
     println!(rt)
 }
 
 fn describe_line(rt: &impl Print, m: usize, w: usize, c: usize) -> io::Result<()> {
-    match shape::describe(m, w, c) {
-        answers::Described::Figures { n, k, sure } => println!(rt;
-            "{n} bytes, {k} data, sure {sure}"
-        ),
-        answers::Described::Refused(r) => refused_line(rt, r),
+    match shape::describe::<Bytes>(m, w, c) {
+        Ok(f) => println!(rt; "{} bytes, {} data, sure {}", f.n, f.k, f.sure),
+        Err(e) => refused_line(rt, e),
     }
 }
 
-fn refused_line(rt: &impl Print, r: u8) -> io::Result<()> {
-    println!(rt; "refused {r}")
+fn refused_line(rt: &impl Print, refusal: Refusal) -> io::Result<()> {
+    println!(rt; "refused {}", refusal.number())
 }
 
 fn check_line(rt: &impl Print, word: &[u8]) -> io::Result<()> {
     match word_check::check(2, 3, 1, word) {
-        answers::Checked::Codeword => println!(rt; "codeword"),
-        answers::Checked::Other(group) => println!(rt; "no codeword {group}"),
-        answers::Checked::Refused(r) => refused_line(rt, r),
+        Ok(None) => println!(rt; "codeword"),
+        Ok(Some(group)) => println!(rt; "no codeword {group}"),
+        Err(e) => refused_line(rt, e),
     }
 }
 
 fn judge_line(rt: &impl Print, marks: &[u8]) -> io::Result<()> {
-    match judge::judge(2, 3, 1, marks) {
-        answers::Judged::Determined => println!(rt; "determined"),
-        answers::Judged::Refused(r) => refused_line(rt, r),
+    match judge::judge::<Bytes>(2, 3, 1, marks) {
+        Ok(()) => println!(rt; "determined"),
+        Err(e) => refused_line(rt, e),
     }
 }
 
 fn bytes_line(rt: &impl Print, bytes: &[u8]) -> io::Result<()> {
     for byte in bytes {
-        print!(rt; " ")?;
-        number(rt, u64::from(*byte), "")?;
+        print!(rt; " {byte}")?;
     }
     println!(rt)
 }
 
-fn answer_line(rt: &impl Print, answer: answers::Answer, word: &[u8]) -> io::Result<()> {
+fn answer_line(rt: &impl Print, answer: Result<(), Refusal>, word: &[u8]) -> io::Result<()> {
     match answer {
-        answers::Answer::Done => {
+        Ok(()) => {
             print!(rt; "done:")?;
             bytes_line(rt, word)
         }
-        answers::Answer::Refused(r) => refused_line(rt, r),
-    }
-}
-
-fn mending_line(rt: &impl Print, mending: answers::Mending, word: &[u8]) -> io::Result<()> {
-    match mending {
-        answers::Mending::Done => answer_line(rt, answers::Answer::Done, word),
-        answers::Mending::Contradictory(group) => println!(rt; "refused 9 {group}"),
-        answers::Mending::Refused(r) => refused_line(rt, r),
+        Err(Refusal::Contradictory(group)) => println!(rt; "refused 9 {group}"),
+        Err(e) => refused_line(rt, e),
     }
 }
 
 fn recover_line(rt: &impl Print, word: &mut [u8], marks: &mut [u8]) -> io::Result<()> {
     let mending = recover::recover(2, 3, 1, word, marks);
-    mending_line(rt, mending, word)
+    answer_line(rt, mending, word)
 }
 
 fn repair_line(rt: &impl Print, word: &mut [u8], marks: &mut [u8]) -> io::Result<()> {
     let mending = repair::repair(2, 3, 1, 1, word, marks);
-    mending_line(rt, mending, word)
+    answer_line(rt, mending, word)
 }
 
 fn encodings(rt: &impl Print) -> io::Result<()> {
@@ -143,10 +128,8 @@ fn field(rt: &impl Print) -> io::Result<()> {
     product_line(rt, 152, 152)?;
     product_line(rt, 152, 11)?;
     product_line(rt, 0, 77)?;
-    print!(rt; "3 ^ 16 = ")?;
-    number(rt, u64::from(gf256::power(3, 16)), "\n")?;
-    print!(rt; "1 / 152 = ")?;
-    number(rt, u64::from(gf256::inverse(152)), "\n")?;
+    println!(rt; "3 ^ 16 = {}", gf256::power(3, 16))?;
+    println!(rt; "1 / 152 = {}", gf256::inverse(152))?;
     locator_line(rt)
 }
 

@@ -8,44 +8,42 @@ ghost use Rattle.code.specs.Marks.{lost_in, excess};
 ghost use Rattle.code.specs.Limits.{GoodIn};
 ghost use Rattle.code.specs.Refusals.{refuse, ◌or_else◌};
 ghost use Rattle.code_services.specs.Marks.{are_marks, marks_refusal_in};
+ghost use Rattle.answers.specs.Answers.{refused_number};
+
+use answers::Refusal;
+use shape::{Bytes, Edition};
 
 // Whether every mark is 0 or 1. Computes the largest of all marks: a loop without an early exit is fast.
 pub fn are_marks(marks: &[u8]) -> bool
     ensures { result ≡ are_marks marks.now }
 {
     let mut most: u8 = 0;
-    let mut i: usize = 0;
-    while i < marks.len() {
-        if most < marks[i] {
-            most = marks[i];
-        }
-        i += 1;
+    for mark in marks {
+        most = most.max(*mark);
     }
-    if 1 < most {
-        return false;
-    }
-    true
+    most <= 1
 }
 
-// The refusal, 1 to 6, of a service that is lent marks; 0 if there is none.
-pub fn marks_refusal(m: usize, w: usize, c: usize, marks: &[u8]) -> u8
-    ensures { result ≡ marks_refusal_in byte_limits m w c marks.now }
+// Refuses as 1 to 4, 26, 5 and 6, for a service that is lent marks.
+pub fn marks_refusal<E: Edition>(m: usize, w: usize, c: usize, marks: &[u8]) -> Result<(), Refusal>
+    ensures { refused_number result ≡ marks_refusal_in E.limits m w c marks.now }
 {
-    let r = shape::shape_refusal(m, w, c);
-    if r != 0 {
-        return r;
-    }
+    shape::shape_refusal::<E>(m, w, c)?;
     beside_refusal(marks, m * w)
 }
 
-// The refusal of marks that are lent beside a word of n places: 5 if they are not as many, 6 if one is neither 0 nor 1; 0 if there is none.
-pub fn beside_refusal(marks: &[u8], n: usize) -> u8
-    ensures { result ≡ refuse 5 (not (eqb (length marks.now) n)) or_else refuse 6 (not (are_marks marks.now)) }
+// Refuses marks that are lent beside a word of n places: as 5 if they are not as many, as 6 if one is neither 0 nor 1.
+pub fn beside_refusal(marks: &[u8], n: usize) -> Result<(), Refusal>
+    ensures { refused_number result ≡ refuse 5 (not (eqb (length marks.now) n)) or_else refuse 6 (not (are_marks marks.now)) }
 {
     if marks.len() != n {
-        return 5;
+        return Err(Refusal::Length);
     }
-    if are_marks(marks) { 0 } else { 6 }
+    if are_marks(marks) {
+        Ok(())
+    } else {
+        Err(Refusal::Mark)
+    }
 }
 
 // How many of at most sixteen places are lost. They are counted in a byte: sixteen bytes are one step of the vector unit.
@@ -54,13 +52,8 @@ fn few_lost(part: &[u8]) -> u8
     ensures { result ≡ lost_in (length part.now) part.now 0 }
 {
     let mut n: u8 = 0;
-    let mut i: usize = 0;
-    while i < part.len() {
-        let mark = part[i];
-        if mark == 1 {
-            n += 1;
-        }
-        i += 1;
+    for mark in part {
+        n += u8::from(*mark == 1);
     }
     n
 }
@@ -70,16 +63,11 @@ pub fn lost_in(part: &[u8]) -> usize
     ensures { result ≡ lost_in (length part.now) part.now 0 }
 {
     if part.len() <= 16 {
-        let few = few_lost(part);
-        return few as usize;
+        return usize::from(few_lost(part));
     }
     let mut n: usize = 0;
-    let mut i: usize = 0;
-    while i < part.len() {
-        if part[i] == 1 {
-            n += 1;
-        }
-        i += 1;
+    for mark in part {
+        n += usize::from(*mark == 1);
     }
     n
 }
@@ -88,7 +76,7 @@ pub fn lost_in(part: &[u8]) -> usize
 pub fn less(l: usize, c: usize) -> usize
     ensures { result ≡ l - c }
 {
-    if c < l { l - c } else { 0 }
+    l.saturating_sub(c)
 }
 
 // The excess of a pattern: the lost places less those that each group of w places can fill by its own c checks.
@@ -101,13 +89,10 @@ pub fn pattern_excess(w: usize, c: usize, marks: &[u8]) -> usize
     }
     let mut lost: usize = 0;
     let mut own: usize = 0;
-    let mut a: usize = 0;
-    while w <= marks.len() - a {
-        let e = a + w;
-        let l = lost_in(&marks[a..e]);
+    for group in marks.chunks_exact(w) {
+        let l = lost_in(group);
         lost += l;
-        own += buffers::smaller(l, c);
-        a = e;
+        own += l.min(c);
     }
     less(lost, own)
 }
@@ -117,7 +102,7 @@ pub fn excess_of(m: usize, w: usize, c: usize, marks: &[u8]) -> usize
     ensures value { GoodIn byte_limits m w c → length marks.now ≡ m * w → result ≡ excess m w c marks.now }
     ensures value_2 { (GoodIn byte_limits m w c → length marks.now ≡ m * w → ⊥) → result ≡ 0 }
 {
-    if shape::word_refusal(m, w, c, marks.len()) != 0 {
+    if shape::word_refusal::<Bytes>(m, w, c, marks.len()).is_err() {
         return 0;
     }
     pattern_excess(w, c, marks)

@@ -3,93 +3,98 @@
 #![tactic(auto)]
 
 ghost use Rattle.std.specs.Prelude.{◌≡◌, ◌++◌, ◌-◌, ◌≤◌, length, replicate};
-ghost use Rattle.shape.specs.Shapes.{byte_limits};
-ghost use Rattle.answers.specs.Answers.{answer_number};
+ghost use Rattle.answers.specs.Answers.{refused_number, answer_number};
 ghost use Rattle.code.specs.Limits.{place_count, data_count, GoodIn, buffer_refusal_in};
-ghost use Rattle.code_services.specs.Places.{extract_of, placed_of};
-ghost use Rattle.code_services.specs.Places.{extracted_in, extracted_data_in, check_marks_refusal_in, check_marks_answer_in, check_marks_buffer_in};
-ghost use Rattle.code_services.specs.PlacesRuns.{data_of, data_in, with_checks};
+ghost use Rattle.code_services.specs.Places.{extract_over, placed_over};
+ghost use Rattle.code_services.specs.Places.{extracted_in, extracted_data_over, check_marks_refusal_in, check_marks_answer_in, check_marks_buffer_in};
+ghost use Rattle.code_services.specs.PlacesRuns.{data_in, with_checks};
 
-use answers::Answer;
+use answers::Refusal;
+use shape::Edition;
 
-// How many places of a group carry data, in the last group and in another; none where its checks are too many.
-fn data_of(w: usize, c: usize, last: bool) -> usize
-    ensures { result ≡ data_of w c last }
-{
-    let inner = marks::less(w, c);
-    if last { marks::less(inner, 2) } else { inner }
-}
-
-// How many places of group g carry data.
+// How many places of group g carry data; none where its checks are too many.
 pub fn data_in(m: usize, w: usize, c: usize, g: usize) -> usize
     ensures { result ≡ data_in m w c g }
 {
-    if m <= g {
-        return data_of(w, c, false);
+    let inner = w.saturating_sub(c);
+    if m.saturating_sub(g) == 1 {
+        inner.saturating_sub(2)
+    } else {
+        inner
     }
-    data_of(w, c, m - g == 1)
 }
 
-// Copies the data bytes of word, in word order, group by group.
-fn copy_data(m: usize, w: usize, c: usize, word: &[u8], bytes: &mut [u8])
-    requires good_in { GoodIn byte_limits m w c }
+// Copies the data symbols of word, in word order, group by group.
+fn copy_data<E: Edition>(
+    m: usize,
+    w: usize,
+    c: usize,
+    word: &[E::Symbol],
+    symbols: &mut [E::Symbol],
+)
+    requires good_in { GoodIn E.limits m w c }
     requires word_len { length word.now ≡ place_count m w }
-    requires bytes_len { length bytes.old ≡ data_count m w c }
-    ensures { bytes.new ≡ extract_of m w c word.now }
+    requires symbols_len { length symbols.old ≡ data_count m w c }
+    ensures { symbols.new ≡ extract_over E.ZERO m w c word.now }
 {
     let mut i: usize = 0;
-    let mut g: usize = 0;
-    while g < m {
+    for g in 0..m {
         let a = g * w;
         let d = data_in(m, w, c, g);
         let e = a + d;
         let n = i + d;
-        buffers::copy(&word[a..e], &mut bytes[i..n]);
+        buffers::copy_from_slice(&mut symbols[i..n], &word[a..e]);
         i = n;
-        g += 1;
     }
 }
 
 // The service Extract.
-pub fn extract(m: usize, w: usize, c: usize, word: &[u8], bytes: &mut [u8]) -> Answer
-    ensures answer { result ≡ extracted_in byte_limits m w c word.now bytes.old }
-    ensures number { answer_number result ≡ buffer_refusal_in byte_limits m w c (length word.now) (length bytes.old) }
-    ensures buffer { bytes.new ≡ extracted_data_in byte_limits m w c word.now bytes.old }
+pub fn extract<E: Edition>(
+    m: usize,
+    w: usize,
+    c: usize,
+    word: &[E::Symbol],
+    symbols: &mut [E::Symbol],
+) -> Result<(), Refusal>
+    ensures answer { result ≡ extracted_in E.limits m w c word.now symbols.old }
+    ensures number { answer_number result ≡ buffer_refusal_in E.limits m w c (length word.now) (length symbols.old) }
+    ensures buffer { symbols.new ≡ extracted_data_over E.ZERO E.limits m w c word.now symbols.old }
 {
-    let r = shape::buffer_refusal(m, w, c, word.len(), bytes.len());
-    if r != 0 {
-        return Answer::Refused(r);
-    }
-    copy_data(m, w, c, word, bytes);
-    Answer::Done
+    shape::buffer_refusal::<E>(m, w, c, word.len(), symbols.len())?;
+    copy_data::<E>(m, w, c, word, symbols);
+    Ok(())
 }
 
-// Writes bytes to the front of a part, and 0 after them.
-fn spread_part(bytes: &[u8], part: &mut [u8])
-    requires { length bytes.now ≤ length part.old }
-    ensures { part.new ≡ bytes.now ++ replicate (length part.old - length bytes.now) 0 }
+// Writes symbols to the front of a part, and zero after them.
+fn spread_part<T: Copy>(zero: T, symbols: &[T], part: &mut [T])
+    requires { length symbols.now ≤ length part.old }
+    ensures { part.new ≡ symbols.now ++ replicate (length part.old - length symbols.now) zero }
 {
-    let d = bytes.len();
-    buffers::copy(bytes, &mut part[..d]);
-    buffers::set_all(&mut part[d..], 0);
+    let d = symbols.len();
+    buffers::copy(symbols, &mut part[..d]);
+    buffers::set_all(&mut part[d..], zero);
 }
 
 // Writes data into the data places, in word order, and 0 into the check places, group by group.
-pub fn spread_data(m: usize, w: usize, c: usize, bytes: &[u8], word: &mut [u8])
-    requires good_in { GoodIn byte_limits m w c }
+pub fn spread_data<E: Edition>(
+    m: usize,
+    w: usize,
+    c: usize,
+    symbols: &[E::Symbol],
+    word: &mut [E::Symbol],
+)
+    requires good_in { GoodIn E.limits m w c }
     requires word_len { length word.old ≡ place_count m w }
-    requires bytes_len { length bytes.now ≡ data_count m w c }
-    ensures { word.new ≡ placed_of m w c bytes.now }
+    requires symbols_len { length symbols.now ≡ data_count m w c }
+    ensures { word.new ≡ placed_over E.ZERO m w c symbols.now }
 {
     let mut i: usize = 0;
-    let mut g: usize = 0;
-    while g < m {
+    for g in 0..m {
         let a = g * w;
         let e = a + w;
         let n = i + data_in(m, w, c, g);
-        spread_part(&bytes[i..n], &mut word[a..e]);
+        spread_part(E::ZERO, &symbols[i..n], &mut word[a..e]);
         i = n;
-        g += 1;
     }
 }
 
@@ -98,8 +103,8 @@ fn mark_part(d: usize, part: &mut [u8])
     requires { d ≤ length part.old }
     ensures { part.new ≡ replicate d 0 ++ replicate (length part.old - d) 1 }
 {
-    buffers::set_all(&mut part[..d], 0);
-    buffers::set_all(&mut part[d..], 1);
+    part[..d].fill(0);
+    part[d..].fill(1);
 }
 
 // Marks the check places of every group of w places, and clears its other marks. Only complete groups are treated: places after the last one stay as they are,
@@ -110,34 +115,39 @@ pub fn mark_groups(w: usize, c: usize, marks: &mut [u8])
     if w == 0 {
         return;
     }
-    let mut a: usize = 0;
-    while w <= marks.len() - a {
+    let m = marks.len() / w;
+    for g in 0..m {
+        let a = g * w;
         let e = a + w;
-        let d = data_of(w, c, marks.len() - e < w);
-        mark_part(d, &mut marks[a..e]);
-        a = e;
+        mark_part(data_in(m, w, c, g), &mut marks[a..e]);
     }
 }
 
-// The refusal of Check marks by the shape and the length of the marks: 1 to 4, 29, then 5; 0 if there is none.
-fn check_marks_refusal(m: usize, w: usize, c: usize, marks: usize) -> u8
-    ensures { result ≡ check_marks_refusal_in byte_limits m w c marks }
+// Refuses Check marks by the shape and the length of the marks, as 1 to 4, 26, 29, then 5.
+fn check_marks_refusal<E: Edition>(
+    m: usize,
+    w: usize,
+    c: usize,
+    marks: usize,
+) -> Result<(), Refusal>
+    ensures { refused_number result ≡ check_marks_refusal_in E.limits m w c marks }
 {
-    let unsold = shape::sale_refusal(m, w, c);
-    let lengths = shape::word_refusal(m, w, c, marks);
-    answers::or_else(unsold, lengths)
+    shape::sale_refusal::<E>(m, w, c)?;
+    shape::word_refusal::<E>(m, w, c, marks)
 }
 
 // The service Check marks: 1 at each check place and 0 at each other.
-pub fn check_marks(m: usize, w: usize, c: usize, marks: &mut [u8]) -> Answer
-    ensures answer { result ≡ check_marks_answer_in byte_limits m w c marks.old }
-    ensures number { answer_number result ≡ check_marks_refusal_in byte_limits m w c (length marks.old) }
-    ensures marks { marks.new ≡ check_marks_buffer_in byte_limits m w c marks.old }
+pub fn check_marks<E: Edition>(
+    m: usize,
+    w: usize,
+    c: usize,
+    marks: &mut [u8],
+) -> Result<(), Refusal>
+    ensures answer { result ≡ check_marks_answer_in E.limits m w c marks.old }
+    ensures number { answer_number result ≡ check_marks_refusal_in E.limits m w c (length marks.old) }
+    ensures marks { marks.new ≡ check_marks_buffer_in E.limits m w c marks.old }
 {
-    let refused = check_marks_refusal(m, w, c, marks.len());
-    if refused != 0 {
-        return Answer::Refused(refused);
-    }
+    check_marks_refusal::<E>(m, w, c, marks.len())?;
     mark_groups(w, c, marks);
-    Answer::Done
+    Ok(())
 }

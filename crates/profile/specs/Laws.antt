@@ -1,5 +1,5 @@
 -- What the answer of the judge of the profile says.
-use Rattle.std.specs.Prelude.{◌≡◌, ◌↔◌, Bool, length}
+use Rattle.std.specs.Prelude.{◌≡◌, ◌↔◌, Bool, length, Ok, Err}
 use Rattle.std.proofs.Math.Path.{refl, sym}
 use Rattle.std.proofs.Common.{ap, ◌∙◌, subst, inl, inr, arith}
 use mathlib.Core.List.{List, [], ◌∷◌}
@@ -19,8 +19,10 @@ use Rattle.counting.specs.Count.{total_below}
 use Rattle.code_services.specs.Judge.{judged_number_in}
 use Rattle.code_services.specs.JudgeLaws.{zero-excess}
 use Rattle.profile.specs.declared.PlaceSet.{PlaceSet}
-use Rattle.profile.specs.declared.Profiled.{Profiled}
-use Rattle.profile.specs.declared.Found.{Found}
+use Rattle.answers.specs.declared.Refusal.{Refusal}
+use Rattle.answers.specs.Answers.{refusal_number, Listed, Plain}
+use Rattle.answers.specs.AnswersLaws.{refusal-some, given-refused}
+use Rattle.code_services.specs.PlainLaws.{marks-plain}
 use Rattle.counting.specs.Sets.{sets_of, sets_below, first_in}
 use Rattle.counting.specs.SetsLaws.{sets-found, sets-none, sets-before, below-found, below_none, before-total}
 use Rattle.profile.specs.Profile.{outside, covers, shown_set, Fits, Shown}
@@ -28,10 +30,11 @@ use Rattle.profile.specs.ProfileLaws.{same_set, excess-outside}
 use Rattle.profile.specs.Profiled.{place_set_of, place_numbers, no_set, profiled_number_of, profiled_at, profiled_of, profiled_number}
 use Rattle.profile.specs.Profiled.{set_shown, places_shown, profiled_places}
 use Rattle.profile.specs.Search.{found_at}
+use Rattle.std.specs.Prelude.{Some, None}
 
-pub profiled-refused : (r : ℕ) (o : Option (List ℕ)) → (r ≡ 0 → ⊥) → profiled_at r o ≡ Profiled.Refused r
-profiled-refused zero o h = absurd (h refl)
-profiled-refused (suc r) o h = refl
+pub profiled-refused : {e : Refusal} (r : ℕ) (o : Option (List ℕ)) → refusal_number e ≡ r → Plain r → profiled_at r o ≡ Err e
+profiled-refused {e} zero o is p = absurd (refusal-some e is)
+profiled-refused (suc r) o is p = given-refused (place_set_of []) is p
 
 numbers : (s : List ℕ) → length s ≤ 4 → place_numbers (place_set_of s) ≡ s
 numbers [] l = refl
@@ -44,12 +47,12 @@ numbers (a ∷ b ∷ d ∷ e ∷ f ∷ s) l = absurd (omega arith)
 module _ (m w c : ℕ) (marks : List ℕ) where
   pub profiled-number : profiled_number (profiled_of m w c marks) ≡ profiled_number_of m w c marks
   unfolding profiled_of profiled_number_of
-  profiled-number = go (marks_refusal_in byte_limits m w c marks) (shown_set m w c marks)
+  profiled-number = go (marks_refusal_in byte_limits m w c marks) (shown_set m w c marks) (marks-plain byte_limits m w c marks).0
     where
-      go : (r : ℕ) (o : Option (List ℕ)) → profiled_number (profiled_at r o) ≡ r or_else refuse 28 (no_set o)
-      go zero none = refl
-      go zero (some s) = refl
-      go (suc r) o = refl
+      go : (r : ℕ) (o : Option (List ℕ)) → Listed r → profiled_number (profiled_at r o) ≡ r or_else refuse 28 (no_set o)
+      go zero none l = refl
+      go zero (some s) l = refl
+      go (suc r) o l = l
 
   -- where no set of fewer than k numbers is found, fewer than k numbers in any order leave more than two outside
   beyond : (k : ℕ) → first_in (covers m w marks) (sets_below k w) ≡ none → (t : List ℕ) → length t < k → 2 < outside m w marks t
@@ -125,17 +128,17 @@ module _ (m w c : ℕ) (marks : List ℕ) where
     unfolding profiled_of
     answer-of o e = rw (accepted, e)
 
-    pub answered-set : (p : PlaceSet) → Found.Set p ≡ found_at (shown_set m w c marks) → Profiled.Places p ≡ profiled_of m w c marks
+    pub answered-set : (p : PlaceSet) → Some p ≡ found_at (shown_set m w c marks) → Ok p ≡ profiled_of m w c marks
     answered-set p e = go (shown_set m w c marks) refl e
       where
-        go : (o : Option (List ℕ)) → shown_set m w c marks ≡ o → Found.Set p ≡ found_at o → Profiled.Places p ≡ profiled_of m w c marks
+        go : (o : Option (List ℕ)) → shown_set m w c marks ≡ o → Some p ≡ found_at o → Ok p ≡ profiled_of m w c marks
         go none d e = let z : ◌≡◌ {A = ℕ} 0 1 = cc in absurd (omega arith)
-        go (some s) d e = let q : p ≡ place_set_of s = cc in ap Profiled.Places q ∙ sym (answer-of (some s) d)
+        go (some s) d e = let q : p ≡ place_set_of s = cc in ap Ok q ∙ sym (answer-of (some s) d)
 
-    pub answered-none : Found.Nothing ≡ found_at (shown_set m w c marks) → Profiled.Refused 28 ≡ profiled_of m w c marks
+    pub answered-none : None ≡ found_at (shown_set m w c marks) → Err Refusal.NoProfile ≡ profiled_of m w c marks
     answered-none e = go (shown_set m w c marks) refl e
       where
-        go : (o : Option (List ℕ)) → shown_set m w c marks ≡ o → Found.Nothing ≡ found_at o → Profiled.Refused 28 ≡ profiled_of m w c marks
+        go : (o : Option (List ℕ)) → shown_set m w c marks ≡ o → None ≡ found_at o → Err Refusal.NoProfile ≡ profiled_of m w c marks
         go none d e = sym (answer-of none d)
         go (some s) d e = let z : ◌≡◌ {A = ℕ} 0 1 = cc in absurd (omega arith)
 

@@ -1,11 +1,12 @@
 -- What the judge of the profile answers.
-use Rattle.std.specs.Prelude.{Bool, true, false, List, [], ◌∷◌, ℕ, zero, suc, length, get_or, take}
+use Rattle.std.specs.Prelude.{Bool, true, false, List, [], ◌∷◌, ℕ, zero, suc, length, get_or, take, Result, Ok, Err}
 use Rattle.std.proofs.Math.Option.{Option, none, some}
 use Rattle.code.specs.Refusals.{refuse, ◌or_else◌, unless_refused}
 use Rattle.shape.specs.Shapes.{byte_limits}
 use Rattle.code_services.specs.Marks.{marks_refusal_in}
 use Rattle.profile.specs.declared.PlaceSet.{PlaceSet}
-use Rattle.profile.specs.declared.Profiled.{Profiled}
+use Rattle.answers.specs.declared.Refusal.{Refusal}
+use Rattle.answers.specs.Answers.{refusal_at, refused_number}
 use Rattle.profile.specs.Profile.{shown_set}
 
 -- a set of at most four numbers: how many, and each, 0 past the last
@@ -26,19 +27,18 @@ unfoldable pub profiled_number_of : ℕ → ℕ → ℕ → List ℕ → ℕ
 profiled_number_of m w c marks = marks_refusal_in byte_limits m w c marks or_else refuse 28 (no_set (shown_set m w c marks))
 
 -- the answer by the refusal and the set
-abbrev pub profiled_at : ℕ → Option (List ℕ) → Profiled
-profiled_at zero none = Profiled.Refused 28
-profiled_at zero (some s) = Profiled.Places (place_set_of s)
-profiled_at (suc r) o = Profiled.Refused (suc r)
+abbrev pub profiled_at : ℕ → Option (List ℕ) → Result PlaceSet Refusal
+profiled_at zero none = Err Refusal.NoProfile
+profiled_at zero (some s) = Ok (place_set_of s)
+profiled_at (suc r) o = Err (refusal_at (suc r) 0)
 
--- of any call: "yes [..] and shows the set", or the number of a refusal
-unfoldable pub profiled_of : ℕ → ℕ → ℕ → List ℕ → Profiled
+-- of any call: "yes [..] and shows the set", or a refusal
+unfoldable pub profiled_of : ℕ → ℕ → ℕ → List ℕ → Result PlaceSet Refusal
 profiled_of m w c marks = profiled_at (marks_refusal_in byte_limits m w c marks) (shown_set m w c marks)
 
 -- the number given back, 0 for yes
-abbrev pub profiled_number : Profiled → ℕ
-profiled_number (Profiled.Places p) = 0
-profiled_number (Profiled.Refused r) = r
+abbrev pub profiled_number : Result PlaceSet Refusal → ℕ
+profiled_number = refused_number
 
 -- the numbers of a set that is there
 abbrev pub set_shown : Option (List ℕ) → List ℕ
@@ -50,6 +50,6 @@ unfoldable pub places_shown : ℕ → ℕ → ℕ → List ℕ → List ℕ
 places_shown m w c marks = unless_refused (profiled_number_of m w c marks) (set_shown (shown_set m w c marks)) []
 
 -- the place numbers of an answer, none on a refusal
-abbrev pub profiled_places : Profiled → List ℕ
-profiled_places (Profiled.Places p) = place_numbers p
-profiled_places (Profiled.Refused r) = []
+abbrev pub profiled_places : Result PlaceSet Refusal → List ℕ
+profiled_places (Ok p) = place_numbers p
+profiled_places (Err e) = []

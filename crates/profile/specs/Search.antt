@@ -1,9 +1,10 @@
 -- The search for a set over counts of lost places by place number.
 use Rattle.std.specs.Prelude.{◌≡◌, Bool, cond, List, ℕ, ◌+◌, ◌-◌, ◌*◌, ◌<◌, leb, get_or}
 use Rattle.std.proofs.Math.Option.{Option, none, some}
+use Rattle.std.specs.Prelude.{Option as Answer, Some, None}
 use Rattle.counting.specs.Count.{total_below, count_below}
 use Rattle.code.specs.Marks.{lost}
-use Rattle.profile.specs.declared.Found.{Found}
+use Rattle.profile.specs.declared.PlaceSet.{PlaceSet}
 use Rattle.counting.specs.Sets.{is_in, sets_of, first_in}
 use Rattle.profile.specs.Profiled.{place_set_of}
 
@@ -28,6 +29,6 @@ abbrev pub NoneSmaller : List ℕ → ℕ → ℕ → ℕ → ℕ → Type 0
 NoneSmaller counts w size left out = (k : ℕ) → k < size → found_in counts w k left out ≡ none
 
 -- the set that is found, if there is one
-abbrev pub found_at : Option (List ℕ) → Found
-found_at none = Found.Nothing
-found_at (some s) = Found.Set (place_set_of s)
+abbrev pub found_at : Option (List ℕ) → Answer PlaceSet
+found_at none = None
+found_at (some s) = Some (place_set_of s)

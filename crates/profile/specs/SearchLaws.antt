@@ -1,6 +1,7 @@
 -- Laws: The search for a set over counts of lost places by place number.
 use Rattle.std.specs.Prelude.{◌≡◌, refl, Bool, true, false, not, ◌&&◌, ◌||◌, List, [], ◌∷◌, leb, length, get_or}
 use Rattle.std.proofs.Common.{sym, ◌∙◌, subst, add-zero, add_assoc, add-one, arith, eq-eqb, ne_eqb, le-leb}
+use Rattle.std.specs.Prelude.{Some, None}
 use Rattle.std.proofs.Math.Path.{ap, ap₂}
 use Rattle.std.proofs.Math.Bool.{cond, and-true, and-false}
 use Rattle.std.proofs.Math.Option.{Option, none, some, some-ne-none}
@@ -11,7 +12,6 @@ use Rattle.counting.specs.Count.{one, total_below}
 use Rattle.counting.specs.CountLaws.{total-none, total-suc, total_ext, total-zero, total-sum, total_first}
 use Rattle.code.specs.Marks.{lost}
 use Rattle.profile.specs.declared.PlaceSet.{PlaceSet}
-use Rattle.profile.specs.declared.Found.{Found}
 use Rattle.counting.specs.Sets.{is_in, sets_of, sets_below, first_in}
 use Rattle.counting.specs.AscendingLaws.{not_in}
 use Rattle.counting.specs.SetsLaws.{step-some, step-none, empty-true, no-numbers, sets-ext, below_more, below_none, below_stays, below-ext}
@@ -209,7 +209,7 @@ pub record IsFound (o : Option (List ℕ)) (p : PlaceSet) : Type 0 where
   pub found : o ≡ some s
   pub shows : p ≡ place_set_of s
 
-pub found-set : (o : Option (List ℕ)) (p : PlaceSet) → Found.Set p ≡ found_at o → IsFound o p
+pub found-set : (o : Option (List ℕ)) (p : PlaceSet) → Some p ≡ found_at o → IsFound o p
 found-set none p e = let z : ◌≡◌ {A = ℕ} 0 1 = cc in absurd (omega arith)
 found-set (some s) p e = record { s = s; found = refl; shows = cc }
 
@@ -220,6 +220,6 @@ shows_first j t p r e f =
     f ∙ ap (λ p. record { count = p.count + 1; first = j; second = p.first; third = p.second; fourth = p.third }) e
     ∙ ap (λ n. record { count = n; first = j; second = get_or t 0 0; third = get_or t 1 0; fourth = get_or t 2 0 }) (add-one (length t))
 
-pub found_nothing : (o : Option (List ℕ)) → Found.Nothing ≡ found_at o → o ≡ none
+pub found_nothing : (o : Option (List ℕ)) → None ≡ found_at o → o ≡ none
 found_nothing none e = refl
 found_nothing (some s) e = let z : ◌≡◌ {A = ℕ} 0 1 = cc in absurd (omega arith)

@@ -79,6 +79,7 @@ fn put_all<O: Write>(output: &mut O, clock: &impl Clock, bytes: &[u8]) -> io::Re
     ensures part { (k : ℕ) × Appends (O.contents output.old) (O.contents output.new) (take k bytes.now) }
 {
     let mut done: usize = 0;
+    // A while loop: each write takes as many bytes as it will, so the step is not fixed.
     while done < bytes.len() {
         let put = write_some(output, clock, &bytes[done..])?;
         if put == 0 {
@@ -89,7 +90,7 @@ fn put_all<O: Write>(output: &mut O, clock: &impl Clock, bytes: &[u8]) -> io::Re
     Ok(())
 }
 
-// An error's text.
+// An error's text, in fixed memory, since it is also wanted where memory has run out.
 #[derive(Drop)]
 struct Text {
     bytes: [u8; 256],

@@ -1,12 +1,13 @@
 -- What is written of an output, and what has come of an input.
-use Rattle.std.proofs.Common.{◌≡◌, ◌⊎◌, ℕ, zero, suc, ◌+◌, ◌-◌, ◌≤◌, List, [], ◌++◌, None, Some, IfSome, Option, length, take, drop, refl, sym, ap, ◌∙◌, subst, false, append-nil, length-take-le, take_all, arith}
+use Rattle.std.proofs.Common.{◌≡◌, ◌⊎◌, ℕ, zero, suc, ◌+◌, ◌-◌, ◌≤◌, List, [], ◌++◌, None, Some, IfSome, Option}
+use Rattle.std.proofs.Common.{length, take, drop, refl, sym, ap, ◌∙◌, subst, false, append-nil, length-take-le, take_all, arith, Result, Ok}
 use mathlib.Core.Logic.{inl, inr}
 use Rattle.std.proofs.Math.Seq.{take-append-add}
 use Rattle.std.proofs.lemmas.List.{take_rest, take-append-le}
 use Rattle.std.specs.Io.KnownBytes.{Appends, Consumes, IsAtEnd}
 use Rattle.std.proofs.KnownBytes.{Appends-nil, Consumes-trans}
 use Rattle.text.specs.Lines.{refused_line}
-use Rattle.block_input.specs.declared.Verdict.{Verdict}
+use Rattle.block_input.specs.declared.InputFailure.{InputFailure}
 use Rattle.block_input.specs.Head.{head_refusal}
 use Rattle.block_input.specs.Output.{output_of, verdict_of, held_of, verdict_output}
 use Rattle.block_input.specs.Run.{room}
@@ -14,12 +15,12 @@ use Rattle.block_input.specs.RunLaws.{out-cut, out-more, answered-is}
 use Rattle.rebuild.specs.Runs.{WritesFront, Refuses, RefusesFront}
 
 -- what a verdict writes is the output
-pub output_is : (input : List ℕ) (v : Verdict) → verdict_of input ≡ v → verdict_output v (held_of input) ≡ output_of input
+pub output_is : (input : List ℕ) (v : Result ℕ InputFailure) → verdict_of input ≡ v → verdict_output v (held_of input) ≡ output_of input
 output_is input v e = ap (λ u. verdict_output u (held_of input)) (sym e) ∙ answered-is input
 
-pub mended : (input held : List ℕ) (start : ℕ) → verdict_of input ≡ Verdict.Mended start → held ≡ held_of input
+pub mended : (input held : List ℕ) (start : ℕ) → verdict_of input ≡ Ok start → held ≡ held_of input
     → take (length held - start) (drop start held) ≡ output_of input
-mended input held start e h = take_rest held start ∙ ap (drop start) h ∙ output_is input (Verdict.Mended start) e
+mended input held start e h = take_rest held start ∙ ap (drop start) h ∙ output_is input (Ok start) e
 
 -- a number that is not 0, as the refusal of bytes
 pub told : (output output₂ : Option (List ℕ)) (came : List ℕ) (r : ℕ) → r ≡ head_refusal false came → (r ≡ 0 → ⊥)

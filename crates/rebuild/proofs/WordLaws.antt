@@ -1,11 +1,14 @@
 -- The word that a 9 carries is below the length of a block, and so below 2 ^ 32.
-use Rattle.std.specs.Prelude.{◌≡◌, refl, Bool, true, false, cond, ◌&&◌, List, [], ◌∷◌, ℕ, zero, suc, ◌+◌, ◌-◌, ◌*◌, ◌≤◌, ◌<◌, eqb, leb, ltb, length, take, drop}
+use Rattle.std.specs.Prelude.{◌≡◌, refl, Bool, true, false, cond, ◌&&◌, List, [], ◌∷◌, ℕ, zero, suc, ◌+◌, ◌-◌, ◌*◌, ◌≤◌, ◌<◌}
+use Rattle.std.specs.Prelude.{eqb, leb, ltb, length, take, drop, Result, Ok, Err}
 use Rattle.std.proofs.Common.{ap, arith, ltb-true}
 use Rattle.text.specs.Decimal.{is_digit, unreadable, digits_after, number_of}
 use Rattle.text.specs.Fields.{same}
-use Rattle.block_rebuild.specs.declared.Rebuilt.{Rebuilt}
-use Rattle.block_rebuild.specs.Rebuild.{rebuild_refusal, contradictory_rebuild, done_rebuild, rebuild_unless, word_outcome, contradicting_word, rebuilt_blocks, words_outcome, rebuild_of, rebuilt_at}
-use Rattle.block_input.specs.declared.Verdict.{Verdict}
+use Rattle.answers.specs.Answers.{refusal_at}
+use Rattle.block_rebuild.specs.declared.Failure.{Failure}
+use Rattle.block_rebuild.specs.Rebuild.{rebuild_refusal, contradictory_rebuild, done_rebuild, rebuild_unless, word_outcome, contradicting_word}
+use Rattle.block_rebuild.specs.Rebuild.{rebuilt_blocks, words_outcome, rebuild_of, rebuilt_at, rebuilt_word}
+use Rattle.block_input.specs.declared.InputFailure.{InputFailure}
 use Rattle.block_input.specs.Length.{length_start, length_of}
 use Rattle.block_input.specs.Head.{head_refusal, input_length}
 use Rattle.block_input.specs.Output.{input_outcome, start_of, rebuilt_verdict, verdict_unless, verdict_of}
@@ -61,17 +64,17 @@ word-most m w c size blocks marks = go (rebuild_refusal m w c size (length block
     go (suc r) = omega arith
 
 -- ---- the word of a verdict
-abbrev word_of : Verdict → ℕ
-word_of (Verdict.Mended start) = 0
-word_of (Verdict.Contradictory x group) = x
-word_of (Verdict.Refused r) = 0
+abbrev word_of : Result ℕ InputFailure → ℕ
+word_of (Ok start) = 0
+word_of (Err (InputFailure.Line r)) = 0
+word_of (Err (InputFailure.Blocks failure)) = rebuilt_word (Err failure)
 
 verdict-word : (r start number word group : ℕ) → word_of (verdict_unless r (rebuilt_verdict start (rebuilt_at number word group))) ≤ word
 verdict-word (suc r) start number word group = omega arith
 verdict-word zero start zero word group = omega arith
 verdict-word zero start (suc n) word group = go (eqb (suc n) 9)
   where
-    go : (b : Bool) → word_of (rebuilt_verdict start (cond b (Rebuilt.Contradictory word group) (Rebuilt.Refused (suc n)))) ≤ word
+    go : (b : Bool) → word_of (rebuilt_verdict start (cond b (Err (Failure.Contradictory word group)) (Err (Failure.Refused (refusal_at (suc n) 0))))) ≤ word
     go true = omega arith
     go false = omega arith
 
@@ -83,10 +86,10 @@ outcome-most : (input : List ℕ) → (input_outcome input).word ≤ input_lengt
 unfolding input_outcome
 outcome-most input = word-most _ _ _ (input_length input) _ _
 
-pub word_low : (input : List ℕ) (x group : ℕ) → verdict_of input ≡ Verdict.Contradictory x group → x < 4294967296
-word_low input x group e =
+pub word_low : (input : List ℕ) (failure : Failure) → verdict_of input ≡ Err (InputFailure.Blocks failure) → rebuilt_word (Err failure) < 4294967296
+word_low input failure e =
     let v : word_of (verdict_of input) ≤ (input_outcome input).word = verdict-most input in
     let o : (input_outcome input).word ≤ input_length input = outcome-most input in
     let n : input_length input ≤ 65538 = length-most _ in
-    let f : word_of (verdict_of input) ≡ x = ap word_of e in
+    let f : word_of (verdict_of input) ≡ rebuilt_word (Err failure) = ap word_of e in
     omega arith

@@ -2,13 +2,15 @@
 
 #![tactic(auto)]
 
-ghost use Rattle.std.specs.Prelude.{◌≡◌, ◌⊎◌, ℕ, List, ◌++◌, ◌≤◌, true, length, take, IfSome};
+ghost use Rattle.std.specs.Prelude.{◌≡◌, ◌⊎◌, ℕ, List, ◌++◌, ◌≤◌, ◌<◌, true, length, take, IfSome, Err};
 ghost use Rattle.std.specs.Io.KnownBytes.{Appends, Consumes, IsAtEnd};
 ghost use Rattle.text_lines.specs.Holds.{HoldsLine};
-ghost use Rattle.block_input.specs.Output.{output_of};
+ghost use Rattle.block_rebuild.specs.Rebuild.{rebuilt_word};
+ghost use Rattle.block_input.specs.Output.{output_of, rebuilt_output};
 ghost use Rattle.rebuild.specs.Runs.{WritesFront, Refuses, RefusesFront};
 
-use block_input::Verdict;
+use block_input::InputFailure;
+use block_rebuild::Failure;
 use program_io::{Outputs, Request};
 use std::io::{Read, Write};
 use std::rt::Clock;
@@ -113,29 +115,44 @@ fn refuse<O: Write, E: Write, C: Clock>(
     written
 }
 
+// Writes the line of a rebuild that is not done, and what its number means.
+fn refuse_blocks<O: Write, E: Write, C: Clock>(to: &mut Outputs<O, E, C>, failure: Failure) -> bool
+    requires { rebuilt_word (Err failure) < 4294967296 }
+    ensures all { result ≡ true → (held : List ℕ) → Appends (O.contents to.old.output) (O.contents to.new.output) (rebuilt_output (Err failure) held) }
+    ensures front { (held : List ℕ) → WritesFront (O.contents to.old.output) (O.contents to.new.output) (rebuilt_output (Err failure) held) }
+{
+    match failure {
+        Failure::Contradictory { word, group } => refuse(
+            to,
+            text_lines::contradictory_word(word, group),
+            9,
+            0,
+        ),
+        Failure::Refused(e) => {
+            let number = e.number();
+            refuse(to, text_lines::refused(number), number, 0)
+        }
+    }
+}
+
 // Writes what a whole input gives, and tells whether all of it was written.
 fn finish<O: Write, E: Write, C: Clock>(to: &mut Outputs<O, E, C>, input: &mut [u8]) -> bool
     ensures all { result ≡ true → Appends (O.contents to.old.output) (O.contents to.new.output) (output_of input.old) }
     ensures front { WritesFront (O.contents to.old.output) (O.contents to.new.output) (output_of input.old) }
 {
     match block_input::answer(input) {
-        Verdict::Mended(start) => {
+        Ok(start) => {
             if start <= input.len() {
                 put(to, &input[start..])
             } else {
                 false
             }
         }
-        Verdict::Contradictory { word, group } => refuse(
-            to,
-            text_lines::contradictory_word(word, group),
-            9,
-            0,
-        ),
-        Verdict::Refused(r) => {
+        Err(InputFailure::Line(r)) => {
             let line = block_input::line_refused(input);
             refuse(to, text_lines::refused(r), r, line)
         }
+        Err(InputFailure::Blocks(failure)) => refuse_blocks(to, failure),
     }
 }
 
@@ -225,10 +242,11 @@ fn run_all<I: Read, O: Write, E: Write, C: Clock>(reader: &mut I, to: &mut Outpu
         whole: false,
         told: false,
     };
-    let mut turns: usize = 68612;
-    while turns > 0 && run.more {
+    for _ in 0..68612 {
+        if !run.more {
+            break;
+        }
         run = turn(reader, to, &mut input, run.used);
-        turns -= 1;
     }
     let used = run.used;
     if run.whole {

@@ -9,7 +9,7 @@ ghost use Rattle.code.specs.Repair.{repaired};
 ghost use Rattle.code_services.specs.Answered.{AnswersBy};
 ghost use Rattle.code_services.specs.Repair.{repair_in, PartAttemptIn};
 
-use answers::Mending;
+use answers::Refusal;
 
 // Fills the lost places of a stretch in found, and writes it into the stretch if it satisfies all of the group's equations.
 fn attempt(c: usize, part: &mut [u8], marks: &[u8], found: &mut [u8]) -> bool
@@ -31,7 +31,7 @@ fn attempt(c: usize, part: &mut [u8], marks: &[u8], found: &mut [u8]) -> bool
 }
 
 // Repairs the stretch of group g of the word and the marks; answers done, 8, or 9 with its own group, and changes nothing unless it is done.
-fn repair_part(c: usize, g: usize, part: &mut [u8], marks: &mut [u8]) -> Mending
+fn repair_part(c: usize, g: usize, part: &mut [u8], marks: &mut [u8]) -> Result<(), Refusal>
     requires part_nonzero { 0 < length part.old }
     requires part_len_bound { length part.old ≤ 16 }
     requires c_bound { c ≤ 4 }
@@ -42,30 +42,34 @@ fn repair_part(c: usize, g: usize, part: &mut [u8], marks: &mut [u8]) -> Mending
     ensures marks_after { marks.new ≡ (repaired byte_edition (length part.old) c g part.old marks.old).marks }
 {
     if c < marks::lost_in(marks) {
-        return Mending::Refused(8);
+        return Err(Refusal::Undetermined);
     }
     let w = part.len();
     let mut found = [0u8; 16];
     let done = attempt(c, part, marks, &mut found[..w]);
     buffers::clear_if(done, marks);
     if !done {
-        return Mending::Contradictory(g as u8);
+        return Err(Refusal::Contradictory(g as u8));
     }
-    Mending::Done
+    Ok(())
 }
 
 // Repairs group g of the word, or refuses and changes nothing.
-pub fn repair(m: usize, w: usize, c: usize, g: usize, word: &mut [u8], marks: &mut [u8]) -> Mending
+pub fn repair(
+    m: usize,
+    w: usize,
+    c: usize,
+    g: usize,
+    word: &mut [u8],
+    marks: &mut [u8],
+) -> Result<(), Refusal>
     ensures answer { AnswersBy result (repair_in byte_edition m w c g word.old marks.old) }
     ensures word { word.new ≡ (repair_in byte_edition m w c g word.old marks.old).word }
     ensures marks { marks.new ≡ (repair_in byte_edition m w c g word.old marks.old).marks }
 {
-    let r = recover::refusal(m, w, c, word, marks);
-    if r != 0 {
-        return Mending::Refused(r);
-    }
+    recover::refusal(m, w, c, word, marks)?;
     if m <= g {
-        return Mending::Refused(7);
+        return Err(Refusal::GroupNumber);
     }
     let a = g * w;
     let e = a + w;

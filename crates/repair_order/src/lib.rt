@@ -8,17 +8,14 @@ ghost use Rattle.code_services.specs.Answered.{AnswersBy};
 ghost use Rattle.code_services.specs.Recover.{recover_in};
 ghost use Rattle.code_services.specs.RepairOrder.{held, held_after_list, recover_after};
 
-use answers::Mending;
+use answers::Refusal;
 
 // Repairs the groups in the list, one after another, whatever each answers.
 fn repair_list(m: usize, w: usize, c: usize, word: &mut [u8], marks: &mut [u8], list: &[usize])
     ensures { held word.new marks.new ≡ held_after_list byte_edition m w c list.now (held word.old marks.old) }
 {
-    let mut i: usize = 0;
-    while i < list.len() {
-        let g = list[i];
-        repair::repair(m, w, c, g, word, marks);
-        i += 1;
+    for g in list {
+        let _ = repair::repair(m, w, c, *g, word, marks);
     }
 }
 
@@ -30,7 +27,7 @@ pub fn repair_then_recover(
     word: &mut [u8],
     marks: &mut [u8],
     list: &[usize],
-) -> Mending
+) -> Result<(), Refusal>
     ensures answer { AnswersBy result (recover_after byte_edition m w c list.now word.old marks.old) }
     ensures word { word.new ≡ (recover_after byte_edition m w c list.now word.old marks.old).word }
     ensures marks { marks.new ≡ (recover_after byte_edition m w c list.now word.old marks.old).marks }

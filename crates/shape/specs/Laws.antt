@@ -1,20 +1,23 @@
 -- The laws of a shape, by which whoever uses one goes.
 use Rattle.std.proofs.Math.Path.{◌≡◌, refl, ap, subst}
-use Rattle.std.proofs.Common.{sym, mul-le-mul}
-use Rattle.std.specs.Prelude.{◌↔◌, ◌⊎◌, Bool, not, ◌||◌, [], ◌∷◌}
+use Rattle.std.proofs.Common.{sym, ◌∙◌, mul-le-mul}
+use Rattle.std.specs.Prelude.{◌↔◌, ◌⊎◌, Bool, not, ◌||◌, [], Result, Ok, Err}
 use Rattle.std.proofs.Math.Logic.{inl, inr}
 use Rattle.std.proofs.Math.Bool.{true, false}
 use Prim.Native.Nat.{ℕ, zero, suc, ◌+◌, ◌-◌, ◌*◌, ◌≤◌}
 use native.Mathlib.Omega.{arith}
 use borrow.Author.Tests.{eqb-true, eqb-false, ltb-false, le-ltb}
 use Rattle.std.proofs.Math.Dec.{eqb, ltb}
-use Rattle.code.specs.Limits.{place_count, data_count, GoodIn, shape_refusal_in, retired_refusal, SoldIn, sale_refusal_in, word_refusal_in, buffer_refusal_in}
+use Rattle.code.specs.Limits.{Limits, place_count, data_count, GoodIn, shape_refusal_in, retired_refusal, SoldIn, sale_refusal_in, word_refusal_in, buffer_refusal_in}
 use Rattle.code.specs.LimitsLaws.{or-none, good-of-refusal, refusal-of-sold, retired-of-good}
-use Rattle.answers.specs.Figures.{described_number, described_figures}
+use Rattle.answers.specs.Figures.{described_in, figures_in}
 use Rattle.shape.specs.declared.Shape.{Shape}
-use Rattle.shape.specs.declared.Made.{Made}
+use Rattle.answers.specs.declared.Refusal.{Refusal}
+use Rattle.answers.specs.Answers.{refusal_number}
+use Rattle.answers.specs.AnswersLaws.{refusal-some, given-refused, given-number, else-first}
+use Rattle.answers.specs.PlainLaws.{shape-plain}
 use Rattle.code.specs.Refusals.{refuse, ◌or_else◌}
-use Rattle.code.specs.RefusalsLaws.{refuse-zero, refuse-most, or_else-zero, or_else-most, or_else-then}
+use Rattle.code.specs.RefusalsLaws.{refuse-zero, refuse-most, or_else-zero, or_else-most, or_else-then, unless-refused}
 use Rattle.shape.specs.Shapes.{made_of, made_at, made_number}
 use Rattle.shape.specs.Shapes.{byte_limits}
 
@@ -82,6 +85,20 @@ module _ (m w c : ℕ) where
       go zero false l = inl l
       go (suc r) b l = inl l
 
+-- the places of a good shape fit a machine's word in every edition
+pub places-small : {L : Limits} {m w c : ℕ} → GoodIn L m w c → L.groups ≤ 255 → L.width ≤ 256 → m * w ≤ 65280
+places-small {m} {w} g few narrow =
+    let a : m ≤ 255 = omega (arith, g.few) in
+    let b : w ≤ 256 = omega (arith, g.narrow) in
+    mul-le-mul a b
+
+-- what Describe answers of a bad shape, in any edition
+pub described-refused : (L : Limits) (m w c : ℕ) (e : Refusal) → refusal_number e ≡ shape_refusal_in L m w c
+    → (Err e ≡ described_in L m w c) × ([] ≡ figures_in L m w c)
+unfolding described_in figures_in
+described-refused L m w c e n =
+    (sym (given-refused _ n (shape-plain L m w c)), sym (unless-refused _ _ _ (λ z. refusal-some e (n ∙ z))))
+
 -- s is the good shape of m, w and c
 pub record Shaped (s : Shape) (m w c : ℕ) : Type 0 where
   pub groups : s.m ≡ m
@@ -89,45 +106,36 @@ pub record Shaped (s : Shape) (m w c : ℕ) : Type 0 where
   pub checks : s.c ≡ c
   pub good : GoodIn byte_limits m w c
 
--- r is the number of the shape's refusal
-pub record Unshaped (r m w c : ℕ) : Type 0 where
-  pub less : ℕ
-  pub number : r ≡ suc less
-  pub refusal : shape_refusal_in byte_limits m w c ≡ suc less
-
 module _ (m w c : ℕ) where
   pub made-number : made_number (made_of m w c) ≡ shape_refusal_in byte_limits m w c
   unfolding made_of
-  made-number = go (shape_refusal_in byte_limits m w c)
-    where
-      go : (r : ℕ) → made_number (made_at r (record { m = m; w = w; c = c })) ≡ r
-      go zero = refl
-      go (suc r) = refl
+  made-number = given-number _ _ (shape-plain byte_limits m w c).0
 
-  pub shaped : (s : Shape) → made_of m w c ≡ Made.Good s → Shaped s m w c
+  pub shaped : (s : Shape) → made_of m w c ≡ Ok s → Shaped s m w c
   unfolding made_of
   shaped s = go (shape_refusal_in byte_limits m w c) refl
     where
-      go : (r : ℕ) → shape_refusal_in byte_limits m w c ≡ r → made_at r (record { m = m; w = w; c = c }) ≡ Made.Good s → Shaped s m w c
+      go : (r : ℕ) → shape_refusal_in byte_limits m w c ≡ r → made_at r (record { m = m; w = w; c = c }) ≡ Ok s → Shaped s m w c
       go zero e h =
           let q : s ≡ record { m = m; w = w; c = c } = cc in
           record { groups = ap (λ t. t.m) q; width = ap (λ t. t.w) q; checks = ap (λ t. t.c) q; good = good-of-refusal m w c e }
       go (suc r) e h = let z : ◌≡◌ {A = ℕ} 0 1 = cc in absurd (omega arith)
 
-  pub unshaped : (r : ℕ) → made_of m w c ≡ Made.Refused r → Unshaped r m w c
-  unfolding made_of
-  unshaped r = go (shape_refusal_in byte_limits m w c) refl
-    where
-      go : (p : ℕ) → shape_refusal_in byte_limits m w c ≡ p → made_at p (record { m = m; w = w; c = c }) ≡ Made.Refused r → Unshaped r m w c
-      go zero e h = let z : ◌≡◌ {A = ℕ} 0 1 = cc in absurd (omega arith)
-      go (suc p) e h = record { less = p; number = cc; refusal = e }
+  pub unshaped : (e : Refusal) → made_of m w c ≡ Err e → shape_refusal_in byte_limits m w c ≡ refusal_number e
+  unshaped e h = sym (made-number) ∙ ap made_number h
 
 -- a bad shape of bytes
 module _ (m w c : ℕ) where
-  pub word-unshaped : (n r : ℕ) → Unshaped r m w c → word_refusal_in byte_limits m w c n ≡ r
+  pub word-unshaped : (n : ℕ) (e : Refusal) → made_of m w c ≡ Err e → refusal_number e ≡ word_refusal_in byte_limits m w c n
   unfolding word_refusal_in
-  word-unshaped n r u = simp (u.refusal, u.number)
+  word-unshaped n e h = else-first e (sym (unshaped m w c e h)) _
 
-  pub buffers-unshaped : (n k r : ℕ) → Unshaped r m w c → buffer_refusal_in byte_limits m w c n k ≡ r
+  pub buffers-unshaped : (n k : ℕ) (e : Refusal) → made_of m w c ≡ Err e → refusal_number e ≡ buffer_refusal_in byte_limits m w c n k
   unfolding buffer_refusal_in
-  buffers-unshaped n k r u = simp (word-unshaped n r u, u.number)
+  buffers-unshaped n k e h = else-first e (word-unshaped n e h) _
+
+  pub describes-refused : (e : Refusal) → made_of m w c ≡ Err e
+      → (Err e ≡ described_in byte_limits m w c) × ((refusal_number e ≡ shape_refusal_in byte_limits m w c) × ([] ≡ figures_in byte_limits m w c))
+  describes-refused e h =
+      let n = sym (unshaped m w c e h) in
+      let d = described-refused byte_limits m w c e n in (d.0, (n, d.1))

@@ -1,28 +1,107 @@
-// The shape of a word: how many groups, how wide each is, and how many local checks each has.
+// The shape of a word: how many groups, how wide each is, and how many local checks each has. What an edition allows, and its refusals.
 
 #![tactic(auto)]
 
-ghost use Rattle.std.specs.Prelude.{◌≡◌};
-ghost use Rattle.code.specs.Refusals.{◌or_else◌};
-ghost use Rattle.code.specs.Limits.{place_count, data_count, sure_count, shape_refusal_in, retired_refusal, sale_refusal_in, word_refusal_in, buffer_refusal_in};
+ghost use Rattle.std.specs.Prelude.{◌≡◌, refl, ℕ, ◌≤◌};
+ghost use Rattle.std.proofs.Common.{lit<};
+ghost use Rattle.code.specs.Limits.{Limits, place_count, data_count, sure_count, shape_refusal_in, sale_refusal_in, word_refusal_in, buffer_refusal_in};
+ghost use Rattle.answers.specs.Answers.{refused_number};
 ghost use Rattle.answers.specs.Figures.{described_number, described_figures, described_in, figures_in};
 ghost use Rattle.shape.specs.Shapes.{made_of, byte_limits};
 
-use answers::Described;
+use answers::{Figures, Refusal};
+
+// An edition of the code, as its services ask of it: its symbols, and how large a shape may be.
+pub trait Edition {
+    type Symbol: Copy;
+
+    const ZERO: Self::Symbol;
+
+    const MAX_GROUPS: usize;
+
+    const MAX_CHECKS: usize;
+
+    const MAX_WIDTH: usize;
+
+    const MAX_PLACES: usize;
+
+    ghost ZERO: { Self.Symbol };
+
+    ghost MAX_GROUPS: { ℕ };
+
+    ghost MAX_CHECKS: { ℕ };
+
+    ghost MAX_WIDTH: { ℕ };
+
+    ghost MAX_PLACES: { ℕ };
+
+    ghost limits: { Limits };
+
+    // The limits are the constants, and so small that no count of a word's places overflows.
+    ghost groups: { limits.groups ≡ MAX_GROUPS };
+
+    ghost checks: { limits.checks ≡ MAX_CHECKS };
+
+    ghost width: { limits.width ≡ MAX_WIDTH };
+
+    ghost places: { limits.places ≡ MAX_PLACES };
+
+    ghost few_groups: { limits.groups ≤ 255 };
+
+    ghost few_checks: { limits.checks ≤ 255 };
+
+    ghost narrow: { limits.width ≤ 256 };
+}
+
+// The edition of bytes.
+pub struct Bytes;
+
+impl Edition for Bytes {
+    type Symbol = u8;
+
+    const ZERO: u8 = 0;
+
+    const MAX_GROUPS: usize = Shape::MAX_GROUPS;
+
+    const MAX_CHECKS: usize = Shape::MAX_CHECKS;
+
+    const MAX_WIDTH: usize = Shape::MAX_WIDTH;
+
+    const MAX_PLACES: usize = Shape::MAX_PLACES;
+
+    ghost ZERO = { 0 };
+
+    ghost MAX_GROUPS = { 15 };
+
+    ghost MAX_CHECKS = { 4 };
+
+    ghost MAX_WIDTH = { 16 };
+
+    ghost MAX_PLACES = { 240 };
+
+    ghost limits = { byte_limits };
+
+    ghost groups = { refl };
+
+    ghost checks = { refl };
+
+    ghost width = { refl };
+
+    ghost places = { refl };
+
+    ghost few_groups = { lit< tt };
+
+    ghost few_checks = { lit< tt };
+
+    ghost narrow = { lit< tt };
+}
 
 // m groups of w places, with c local checks in each.
-#[derive(Clone, Copy)]
+#[derive(Clone, Copy, Debug, PartialEq, Eq)]
 pub struct Shape {
     pub m: u8,
     pub w: u8,
     pub c: u8,
-}
-
-// A good shape, or the number of a refusal.
-#[derive(Clone, Copy)]
-pub enum Made {
-    Good(Shape),
-    Refused(u8),
 }
 
 impl Shape {
@@ -34,134 +113,139 @@ impl Shape {
 
     pub const MAX_PLACES: usize = 240;
 
-    // The shape of these numbers, if it is good. A number of any size is tested before it is narrowed.
-    pub fn new(m: usize, w: usize, c: usize) -> Made
+    // The shape of these numbers, if it is good.
+    pub fn new(m: usize, w: usize, c: usize) -> Result<Shape, Refusal>
         ensures { result ≡ made_of m w c }
     {
-        if m == 0 {
-            return Made::Refused(1);
-        }
-        if Self::MAX_GROUPS < m {
-            return Made::Refused(1);
-        }
-        if c == 0 {
-            return Made::Refused(2);
-        }
-        if Self::MAX_CHECKS < c {
-            return Made::Refused(2);
-        }
-        if w < c + 2 {
-            return Made::Refused(3);
-        }
-        if Self::MAX_WIDTH < w {
-            return Made::Refused(3);
-        }
+        shape_refusal::<Bytes>(m, w, c)?;
         let s = Shape {
             m: m as u8,
             w: w as u8,
             c: c as u8,
         };
-        if s.k() == 0 {
-            return Made::Refused(4);
-        }
-        Made::Good(s)
+        Ok(s)
     }
 
     // The bytes of a word.
     pub fn n(self) -> usize
         ensures { result ≡ place_count self.m self.w }
     {
-        (self.m as usize) * (self.w as usize)
+        usize::from(self.m) * usize::from(self.w)
     }
 
     // The bytes of data in a word; 0 where the shape has no room for any.
     pub fn k(self) -> usize
         ensures { result ≡ data_count self.m self.w self.c }
     {
-        if self.w <= self.c {
-            return 0;
-        }
-        let local = (self.m as usize) * ((self.w - self.c) as usize);
-        if local <= 2 { 0 } else { local - 2 }
+        data_count(
+            usize::from(self.m),
+            usize::from(self.w),
+            usize::from(self.c),
+        )
     }
 
-    // The sure count: more where no group alone can have an excess above 2.
+    // The sure count.
     pub fn sure(self) -> usize
         ensures { result ≡ sure_count self.w self.c }
     {
-        let c = self.c as usize;
-        if self.w as usize == c + 2 {
-            2 * c + 2
-        } else {
-            c + 2
-        }
+        sure_count(usize::from(self.w), usize::from(self.c))
     }
+}
+
+// The symbols of data in a word; 0 where there is no room for any.
+pub fn data_count(m: usize, w: usize, c: usize) -> usize
+    requires few_groups { m ≤ 65535 }
+    requires narrow { w ≤ 65535 }
+    ensures { result ≡ data_count m w c }
+{
+    let local = m * w.saturating_sub(c);
+    if local <= 2 { 0 } else { local - 2 }
+}
+
+// The sure count: more where no group alone can have an excess above 2.
+pub fn sure_count(w: usize, c: usize) -> usize
+    requires { c ≤ 65535 }
+    ensures { result ≡ sure_count w c }
+{
+    if w == c + 2 { 2 * c + 2 } else { c + 2 }
+}
+
+// Refuses a shape as 1 to 4 and 26. A number of any size is tested before it is used. The edition of bytes gives no 26: fifteen groups of sixteen places fit.
+pub fn shape_refusal<E: Edition>(m: usize, w: usize, c: usize) -> Result<(), Refusal>
+    ensures { refused_number result ≡ shape_refusal_in E.limits m w c }
+{
+    if m == 0 {
+        return Err(Refusal::Groups);
+    }
+    if E::MAX_GROUPS < m {
+        return Err(Refusal::Groups);
+    }
+    if c == 0 {
+        return Err(Refusal::Checks);
+    }
+    if E::MAX_CHECKS < c {
+        return Err(Refusal::Checks);
+    }
+    if w < c + 2 {
+        return Err(Refusal::Width);
+    }
+    if E::MAX_WIDTH < w {
+        return Err(Refusal::Width);
+    }
+    if m * (w - c) <= 2 {
+        return Err(Refusal::NoData);
+    }
+    if E::MAX_PLACES < m * w {
+        return Err(Refusal::WidePlaces);
+    }
+    Ok(())
 }
 
 // The service Describe.
-pub fn describe(m: usize, w: usize, c: usize) -> Described
-    ensures answer { result ≡ described_in byte_limits m w c }
-    ensures number { described_number result ≡ shape_refusal_in byte_limits m w c }
-    ensures figures { described_figures result ≡ figures_in byte_limits m w c }
+pub fn describe<E: Edition>(m: usize, w: usize, c: usize) -> Result<Figures, Refusal>
+    ensures answer { result ≡ described_in E.limits m w c }
+    ensures number { described_number result ≡ shape_refusal_in E.limits m w c }
+    ensures figures { described_figures result ≡ figures_in E.limits m w c }
 {
-    match Shape::new(m, w, c) {
-        Made::Good(s) => Described::Figures {
-            n: s.n(),
-            k: s.k(),
-            sure: s.sure(),
-        },
-        Made::Refused(r) => Described::Refused(r),
-    }
+    shape_refusal::<E>(m, w, c)?;
+    Ok(Figures {
+        n: m * w,
+        k: data_count(m, w, c),
+        sure: sure_count(w, c),
+    })
 }
 
-// The refusal of a shape, 1 to 4; 0 if it is good.
-pub fn shape_refusal(m: usize, w: usize, c: usize) -> u8
-    ensures { result ≡ shape_refusal_in byte_limits m w c }
+// Refuses as 1 to 4, 26 and then 29, for a service that makes something new of a shape.
+pub fn sale_refusal<E: Edition>(m: usize, w: usize, c: usize) -> Result<(), Refusal>
+    ensures { refused_number result ≡ sale_refusal_in E.limits m w c }
 {
-    match Shape::new(m, w, c) {
-        Made::Refused(r) => r,
-        Made::Good(s) => 0,
-    }
+    shape_refusal::<E>(m, w, c).and(answers::retired_refusal(c))
 }
 
-// The refusal, 1 to 4 and then 29, of a service that makes something new of a shape; 0 if there is none.
-pub fn sale_refusal(m: usize, w: usize, c: usize) -> u8
-    ensures { result ≡ sale_refusal_in byte_limits m w c }
+// Refuses as 1 to 4, 26 and then 5, for a service that is lent a word or marks of this length.
+pub fn word_refusal<E: Edition>(m: usize, w: usize, c: usize, word: usize) -> Result<(), Refusal>
+    ensures { refused_number result ≡ word_refusal_in E.limits m w c word }
 {
-    let bad = shape_refusal(m, w, c);
-    let retired = answers::retired_refusal(c);
-    answers::or_else(bad, retired)
+    shape_refusal::<E>(m, w, c)?;
+    if word != m * w {
+        return Err(Refusal::Length);
+    }
+    Ok(())
 }
 
-// The refusal, 1 to 5, of a service that is lent a word or marks of this length; 0 if there is none.
-pub fn word_refusal(m: usize, w: usize, c: usize, word: usize) -> u8
-    ensures { result ≡ word_refusal_in byte_limits m w c word }
+// Refuses as 1 to 4, 26 and then 5, for a service that is lent a word and data of these lengths.
+pub fn buffer_refusal<E: Edition>(
+    m: usize,
+    w: usize,
+    c: usize,
+    word: usize,
+    symbols: usize,
+) -> Result<(), Refusal>
+    ensures { refused_number result ≡ buffer_refusal_in E.limits m w c word symbols }
 {
-    match Shape::new(m, w, c) {
-        Made::Refused(r) => r,
-        Made::Good(s) => {
-            if word != s.n() {
-                return 5;
-            }
-            0
-        }
+    word_refusal::<E>(m, w, c, word)?;
+    if symbols != data_count(m, w, c) {
+        return Err(Refusal::Length);
     }
-}
-
-// The refusal, 1 to 5, of a service that is lent a word and data of these lengths; 0 if there is none.
-pub fn buffer_refusal(m: usize, w: usize, c: usize, word: usize, bytes: usize) -> u8
-    ensures { result ≡ buffer_refusal_in byte_limits m w c word bytes }
-{
-    match Shape::new(m, w, c) {
-        Made::Refused(r) => r,
-        Made::Good(s) => {
-            if word != s.n() {
-                return 5;
-            }
-            if bytes != s.k() {
-                return 5;
-            }
-            0
-        }
-    }
+    Ok(())
 }

@@ -2,29 +2,26 @@
 use mathlib.Core.Path.{◌≡◌, refl, sym, ap, ap₂, ◌∙◌}
 use mathlib.Core.Bool.{cond}
 use mathlib.Core.List.{List, [], ◌∷◌, ◌++◌, append_assoc, append-nil}
-use Prim.Native.Nat.{ℕ, zero, suc, ◌+◌, ◌-◌, ◌*◌, ◌^◌, ◌≤◌, ◌<◌}
+use Prim.Native.Nat.{ℕ, suc, ◌+◌, ◌-◌, ◌^◌, ◌≤◌, ◌<◌}
 use native.Mathlib.Nat.{mod-eq_of_lt}
-use lib.Pow.{pow_pos}
 use native.Mathlib.Numerals.{add-one}
 use native.Mathlib.Omega.{arith}
 use borrow.Author.Tests.{eq-eqb, ne_eqb, lt-ltb, le-ltb}
+use Rattle.std.specs.Prelude.{swap}
+use Rattle.std.proofs.lemmas.List.{get_or_default}
 use lib.Dec.{eqb}
-use lib.ListN.{length, get_or, take, drop, set, drop_of_length-le, get_or-eq_default}
+use lib.ListN.{length, get_or, take, drop, set, drop_of_length-le}
 use lib.Bits.{bit_xor}
-use lib.Seq.{drop-cons, take-suc-set, drop-set-lt, take_all, set-get_or, ext_get_or, get_or-set_same, get_or-set_other}
+use lib.Seq.{drop-cons, take-suc-set, drop-set-lt, take_all, set-get_or}
 use Rattle.binary_field.specs.Xor.{◌⊕◌}
 use Rattle.binary_field.specs.XorLaws.{⊕-bits, ⊕-zero-r}
 use Rattle.binary_field.specs.ProductLaws.{zero-product, one_product}
 use Rattle.binary_field.specs.PowerLaws.{one_power}
 use Rattle.binary_field.specs.Product.{product}
-use native.Mathlib.Decide.{ℕ_discrete, dec_lt}
 use Rattle.binary_field.specs.Inverse.{inverse}
-use Rattle.code.specs.Stretch.{stretch, with_stretch}
 use Rattle.code_engine.specs.Elimination.{row, entry, scaled, added, exchanged, normalized, cleared_row, cleared, pivot_from, pivot, eliminate_column}
-use Rattle.code_engine.specs.Elimination.{eliminated_to, eliminated}
-use Rattle.code_engine.specs.EliminationRowsLaws.{length-scaled, length-added, cleared-pivot}
-use Rattle.solve.specs.Flat.{rows_of}
-use Rattle.solve.specs.FlatLaws.{row-of, entry_of, row-long, rows-with}
+use Rattle.code_engine.specs.Elimination.{eliminated_to}
+use Rattle.code_engine.specs.EliminationRowsLaws.{cleared-pivot}
 
 module _ (k m : ℕ) where
   -- ---- along two rows
@@ -84,7 +81,7 @@ module _ (k m : ℕ) where
     unfolding cleared_row
     row-skip i e = rw (eq-eqb i j e)
 
-    row-add : (i : ℕ) → (i ≡ j → ⊥) → set M i (added k m (entry M i j) (row M i) (row M j)) ≡ cleared_row k m M j i
+    pub row-add : (i : ℕ) → (i ≡ j → ⊥) → set M i (added k m (entry M i j) (row M i) (row M j)) ≡ cleared_row k m M j i
     unfolding cleared_row
     row-add i n = rw (ne_eqb i j n)
 
@@ -127,67 +124,20 @@ module _ (M : List (List ℕ)) (j t i : ℕ) where
   unfolding pivot_from
   search-end h = let e : t - i ≡ 0 = omega arith in rw e
 
--- ---- a row of those that lie one after another, worked on in its place
-module _ (k m : ℕ) (x : List ℕ) (long : length x ≡ 64) (i : ℕ) (h : i < 4) (part : List ℕ) where
-  own : length (stretch 16 i x) ≡ 16
-  own = ap length (sym (row-of x i h)) ∙ row-long x long i h
+-- ---- a row that stays as it is, and one that is put in its place
+module _ (k m : ℕ) where
+  -- an entry of 1
+  pub scaled-by-one : 0 < k → (xs : List ℕ) → ((c : ℕ) → get_or xs c 0 < 2 ^ k) → (d : ℕ) → d ≡ 1 → xs ≡ scaled k m (inverse k m d) xs
+  unfolding inverse
+  scaled-by-one pos xs small d e =
+      sym (ap (λ f. scaled k m f xs) (ap (inverse k m) e ∙ one_power k m pos (2 ^ k - 2)) ∙ scaled-one k m pos xs small)
 
-  pub normalize-row : (f : ℕ) → part ≡ scaled k m f (stretch 16 i x) → f ≡ inverse k m (get_or x (i * 16 + i) 0)
-      → rows_of (with_stretch 16 i x part) ≡ normalized k m (rows_of x) i
-  unfolding normalized
-  normalize-row f e q =
-      rows-with x long i h part (ap length e ∙ length-scaled k m f (stretch 16 i x) ∙ own)
-      ∙ ap (set (rows_of x) i) (e ∙ ap₂ (scaled k m) (q ∙ ap (inverse k m) (sym (entry_of x i i h (omega arith)))) (sym (row-of x i h)))
+  -- an entry of 0
+  pub added-by-zero : (xs ys : List ℕ) → length ys ≡ length xs → (f : ℕ) → f ≡ 0 → xs ≡ added k m f xs ys
+  added-by-zero xs ys l f z = sym (ap (λ f. added k m f xs ys) z ∙ added-zero k m xs ys l)
 
-  pub clear-part : (j : ℕ) → j < 4 → (i ≡ j → ⊥) → part ≡ added k m (get_or x (i * 16 + j) 0) (stretch 16 i x) (row (rows_of x) j)
-      → rows_of (with_stretch 16 i x part) ≡ cleared_row k m (rows_of x) j i
-  clear-part j l n e =
-      rows-with x long i h part (ap length e ∙ length-added k m _ (stretch 16 i x) (row (rows_of x) j) (row-long x long j l ∙ sym own) ∙ own)
-      ∙ ap (set (rows_of x) i) (e ∙ ap₂ (λ f r. added k m f r (row (rows_of x) j)) (sym (entry_of x i j h (omega arith))) (sym (row-of x i h)))
-      ∙ row-add k m (rows_of x) j i n
-
--- ---- a pivot of 1
-module _ (k m : ℕ) (pos : 0 < k) (M : List (List ℕ)) where
-  pub normalized-one : (i : ℕ) → ((c : ℕ) → get_or (row M i) c 0 < 2 ^ k) → entry M i i ≡ 1 → M ≡ normalized k m M i
-  unfolding normalized inverse
-  normalized-one i small e =
-      sym
-      (ap (set M i)
-      (ap (λ f. scaled k m f (row M i)) (ap (inverse k m) e ∙ one_power k m pos (2 ^ k - 2)) ∙ scaled-one k m pos (row M i) small)
-      ∙ set-get_or M i [])
-
--- ---- a row that stays as it is
-module _ (k m : ℕ) (x : List ℕ) (long : length x ≡ 64) (i : ℕ) (h : i < 4) where
-  -- an entry of 0 adds nothing
-  pub clear_zero : (j : ℕ) → j < 4 → get_or x (i * 16 + j) 0 ≡ 0 → rows_of x ≡ cleared_row k m (rows_of x) j i
-  clear_zero j l z = elim (ℕ_discrete i j) [
-    | yes e ↦ row-skip k m (rows_of x) j i e
-    | no n ↦ sym
-        (ap (set (rows_of x) i)
-        (ap (λ f. added k m f (row (rows_of x) i) (row (rows_of x) j)) (entry_of x i j h (omega arith) ∙ z)
-        ∙ added-zero k m (row (rows_of x) i) (row (rows_of x) j) (row-long x long j l ∙ sym (row-long x long i h)))
-        ∙ set-get_or (rows_of x) i [])
-        ∙ row-add k m (rows_of x) j i n
-  ]
-
-  -- an entry of 1 stays
-  pub normalize-one : 0 < k → ((c : ℕ) → get_or x c 0 < 2 ^ k) → get_or x (i * 16 + i) 0 ≡ 1 → rows_of x ≡ normalized k m (rows_of x) i
-  normalize-one pos small e = normalized-one k m pos (rows_of x) i row_small (entry_of x i i h (omega arith) ∙ e)
-    where
-      row_small : (c : ℕ) → get_or (row (rows_of x) i) c 0 < 2 ^ k
-      row_small c = elim (dec_lt c 16) [
-        | yes l ↦ (rw (entry_of x i c h l) (small (i * 16 + c)))
-        | no n ↦ (let q : length (row (rows_of x) i) ≤ c = (let s = row-long x long i h in omega arith) in
-            rw (get_or-eq_default (row (rows_of x) i) 0 q) (pow_pos k))
-      ]
-
--- ---- rows written one after another
-pub rows_more : (M N : List (List ℕ)) (i : ℕ) (r : List ℕ) → i < length M → ((e : ℕ) → e < i → row M e ≡ row N e) → r ≡ row N i
-    → (e : ℕ) → e < i + 1 → row (set M i r) e ≡ row N e
-rows_more M N i r l h q e b = elim (ℕ_discrete e i) [
-  | yes w ↦ (rw w (get_or-set_same M i r [] l ∙ q))
-  | no w ↦ get_or-set_other M i e r [] w ∙ h e (omega arith)
-]
-
-pub rows_all : (M N : List (List ℕ)) → length M ≡ 4 → length N ≡ 4 → ((e : ℕ) → e < 4 → row M e ≡ row N e) → M ≡ N
-rows_all M N l k h = ext_get_or [] M N (l ∙ sym k) (λ e b. h e (omega arith))
+-- the swap of std is the exchange of two rows that are there
+pub swap-exchanged : (M : List (List ℕ)) (i j : ℕ) → i < length M → j < length M → swap M i j ≡ exchanged M i j
+swap-exchanged [] i j h l = absurd (omega arith)
+swap-exchanged (r ∷ M) i j h l =
+    ap₂ (λ a b. set (set (r ∷ M) i a) j b) (get_or_default (r ∷ M) j r [] l) (get_or_default (r ∷ M) i r [] h)

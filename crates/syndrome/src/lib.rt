@@ -2,7 +2,7 @@
 
 #![tactic(auto)]
 
-ghost use Rattle.std.specs.Prelude.{◌≡◌, true, false, ℕ, ◌*◌, ◌≤◌, ◌<◌, length, get_or};
+ghost use Rattle.std.specs.Prelude.{◌≡◌, true, false, ◌&&◌, eqb, ℕ, ◌+◌, ◌*◌, ◌≤◌, ◌<◌, length, get_or};
 ghost use Rattle.binary_field.specs.Xor.{◌⊕◌};
 ghost use Rattle.binary_field.specs.Product.{double};
 ghost use Rattle.shape.specs.Shapes.{byte_limits};
@@ -11,12 +11,16 @@ ghost use Rattle.byte_edition.specs.Edition.{byte_edition};
 ghost use Rattle.code.specs.Word.{is_local};
 ghost use Rattle.syndrome.specs.Across.{plain_sums, group_sums, row_sums, across_of, no_sums};
 ghost use Rattle.code_engine.specs.Horner.{AddedRows, HornerRows};
-ghost use Rattle.code_engine.specs.Tests.{not_tested, broken_group_in, tested_in};
+ghost use Rattle.code_engine.specs.Tests.{not_tested, tested_in};
+ghost use Rattle.code.specs.Lent.{LentIn};
+ghost use Rattle.code.specs.Stretch.{stretch};
+ghost use Rattle.code_loops.specs.Broken.{PartTested};
 
 use answers::Tested;
+use shape::Bytes;
 
 // What the two equations across sum up to.
-#[derive(Clone, Copy)]
+#[derive(Clone, Copy, Debug, PartialEq, Eq)]
 pub struct Sums {
     pub first: u8,
     pub second: u8,
@@ -27,12 +31,10 @@ fn zero_sums(part: &[u8], c: usize) -> bool
     requires { (length part.now ≤ 16) × (c ≤ 4) }
     ensures { result ≡ is_local byte_edition (length part.now) c part.now 0 }
 {
-    let mut e: usize = 0;
-    while e < c {
+    for e in 0..c {
         if byte_edition::power_sum(part, e) != 0 {
             return false;
         }
-        e += 1;
     }
     true
 }
@@ -131,10 +133,8 @@ fn plus(x: [u8; 16], part: &[u8]) -> [u8; 16]
     ensures { (j : ℕ) → j < 16 → get_or result j 0 ≡ get_or x j 0 ⊕ get_or part.now j 0 }
 {
     let mut r = [0u8; 16];
-    let mut i: usize = 0;
-    while i < 16 {
+    for i in 0..16 {
         r[i] = x[i] ^ part[i];
-        i += 1;
     }
     r
 }
@@ -145,10 +145,8 @@ fn twice_plus(x: [u8; 16], part: &[u8]) -> [u8; 16]
     ensures { (j : ℕ) → j < 16 → get_or result j 0 ≡ double 8 285 (get_or x j 0) ⊕ get_or part.now j 0 }
 {
     let mut r = [0u8; 16];
-    let mut i: usize = 0;
-    while i < 16 {
+    for i in 0..16 {
         r[i] = gf256::double(x[i]) ^ part[i];
-        i += 1;
     }
     r
 }
@@ -182,9 +180,7 @@ fn rows_of(m: usize, w: usize, c: usize, word: &[u8]) -> Rows
 {
     let mut plain = [0u8; 16];
     let mut weighted = [0u8; 16];
-    let mut g = m;
-    while 0 < g {
-        g = g - 1;
+    for g in (0..m).rev() {
         let a = g * w;
         let r = add_part(plain, weighted, &word[a..]);
         plain = r.plain;
@@ -210,7 +206,7 @@ pub fn across(m: usize, w: usize, c: usize, word: &[u8]) -> Sums
     ensures value { GoodIn byte_limits m w c → length word.now ≡ m * w → result ≡ across_of m w c word.now }
     ensures value_2 { (GoodIn byte_limits m w c → length word.now ≡ m * w → ⊥) → result ≡ no_sums }
 {
-    if shape::word_refusal(m, w, c, word.len()) != 0 {
+    if shape::word_refusal::<Bytes>(m, w, c, word.len()).is_err() {
         return Sums {
             first: 0,
             second: 0,
@@ -222,51 +218,27 @@ pub fn across(m: usize, w: usize, c: usize, word: &[u8]) -> Sums
     row_sums(x, y, w, c)
 }
 
-// The lowest group whose local sums are not all zero; m if there is none.
-fn broken_group(m: usize, w: usize, c: usize, word: &[u8]) -> usize
-    requires good_in { GoodIn byte_limits m w c }
-    requires word_len { length word.now ≡ m * w }
-    ensures { result ≡ broken_group_in byte_edition m w c word.now }
-{
-    let mut g: usize = 0;
-    while g < m {
-        let a = g * w;
-        let e = a + w;
-        if !local_zero(&word[a..e], c) {
-            return g;
-        }
-        g += 1;
-    }
-    g
-}
-
 // The test of all the equations of a word of a good shape's length. A shape or length that is refused is no codeword, and its group is 0.
 pub fn test(m: usize, w: usize, c: usize, word: &[u8]) -> Tested
     ensures value { GoodIn byte_limits m w c → length word.now ≡ m * w → result ≡ tested_in byte_edition m w c word.now }
     ensures value_2 { (GoodIn byte_limits m w c → length word.now ≡ m * w → ⊥) → result ≡ not_tested }
 {
-    if shape::word_refusal(m, w, c, word.len()) != 0 {
+    if shape::word_refusal::<Bytes>(m, w, c, word.len()).is_err() {
         return Tested {
             codeword: false,
             group: 0,
         };
     }
-    let group = broken_group(m, w, c, word);
-    if group != m {
-        return Tested {
-            codeword: false,
-            group,
-        };
-    }
-    let s = across(m, w, c, word);
-    if s.first != 0 {
-        return Tested {
-            codeword: false,
-            group,
-        };
-    }
-    Tested {
-        codeword: s.second == 0,
-        group,
-    }
+    let is_sound = |g| -> bool
+        requires { g * w + w ≤ length word.now }
+        ensures { PartTested byte_edition c (stretch w g word.entry.now) result }
+    { local_zero(&word[g * w..g * w + w], c) };
+    let is_zero_across = || -> bool
+        requires { LentIn byte_limits m w c word.now }
+        ensures { result ≡ (eqb (across_of m w c word.entry.now).first 0 && eqb (across_of m w c word.entry.now).second 0) }
+    {
+        let s = across(m, w, c, word);
+        s.first == 0 && s.second == 0
+    };
+    Tested::by(m, is_sound, is_zero_across)
 }

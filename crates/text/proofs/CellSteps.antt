@@ -2,21 +2,12 @@
 use mathlib.Core.Path.{◌≡◌, sym, ap, ◌∙◌}
 use mathlib.Core.List.{List, [], ◌∷◌, ◌++◌, append_assoc, append-nil}
 use Prim.Native.Nat.{ℕ, suc, ◌+◌, ◌-◌, ◌/◌, ◌%◌, ◌^◌, ◌≤◌, ◌<◌}
-use native.Mathlib.Numerals.{add-one}
 use native.Mathlib.Omega.{arith}
-use lib.ListN.{length, get_or, take, set, length-append}
-use lib.Seq.{length-take-le, take-suc}
+use lib.ListN.{length, set, length-append}
 use Rattle.text.specs.Decimal.{digits_of}
 use Rattle.text.specs.DecimalLaws.{digits-one, digits-shift}
 use Rattle.text.specs.Written.{written, put_at, next_at}
 use Rattle.text.specs.WrittenLaws.{written-nothing, written_next, written-before, written_on, length-written, put-room}
-
--- a turn of the loop over a text
-pub write_step : (out after text : List ℕ) (at i : ℕ) → i < length text → at + length text ≤ length out → after ≡ written out at (take i text)
-    → set after (at + i) (get_or text i 0) ≡ written out at (take (i + 1) text)
-write_step out after text at i l h e =
-    let n : length (take i text) ≡ i = length-take-le i text (omega arith) in
-    rw (e, add-one, take-suc text i 0 l) (written_next out at (take i text) (at + i) (get_or text i 0) (omega arith) (omega arith))
 
 -- a number with its digit split off
 pub count-step : (rest : ℕ) → 10 ≤ rest → rest < 10 ^ 10 → length (digits_of 9 rest) ≡ length (digits_of 9 (rest / 10)) + 1

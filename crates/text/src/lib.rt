@@ -13,31 +13,19 @@ pub fn part_end(text: &[u8], from: usize, sep: u8) -> usize
     ensures end { result ≡ end_of sep from text.now }
     ensures bounds { (from ≤ result) × (result ≤ max from (length text.now)) }
 {
-    let mut i = from;
-    while i < text.len() {
+    for i in from..text.len() {
         if text[i] == sep {
             return i;
         }
-        i += 1;
     }
-    i
+    from.max(text.len())
 }
 
 // Whether two texts are the same.
 pub fn is_same(name: &[u8], wanted: &[u8]) -> bool
     ensures { result ≡ same name.now wanted.now }
 {
-    if name.len() != wanted.len() {
-        return false;
-    }
-    let mut i: usize = 0;
-    while i < name.len() {
-        if name[i] != wanted[i] {
-            return false;
-        }
-        i += 1;
-    }
-    true
+    name == wanted
 }
 
 // The number a with one digit more, or bound + 1 if x is no digit or the number isn't below bound.
@@ -65,13 +53,11 @@ fn digits(field: &[u8], bound: u32) -> usize
     ensures most { result ≤ bound + 1 }
 {
     let mut a: usize = 0;
-    let mut i: usize = 0;
-    while i < field.len() {
-        a = digit_after(bound, a, field[i]);
+    for x in field {
+        a = digit_after(bound, a, *x);
         if bound as usize <= a {
             return bound as usize + 1;
         }
-        i += 1;
     }
     a
 }
@@ -81,7 +67,7 @@ pub fn number(field: &[u8], bound: u32) -> usize
     ensures value { result ≡ number_of bound field.now }
     ensures most { result ≤ bound + 1 }
 {
-    if field.len() == 0 {
+    if field.is_empty() {
         return bound as usize + 1;
     }
     if 1 < field.len() {
@@ -97,11 +83,7 @@ fn write(out: &mut [u8], at: usize, text: &[u8])
     requires { at + length text.now ≤ length out.old }
     ensures { out.new ≡ written out.old at text.now }
 {
-    let mut i: usize = 0;
-    while i < text.len() {
-        out[at + i] = text[i];
-        i += 1;
-    }
+    buffers::copy_from_slice(&mut out[at..at + text.len()], text);
 }
 
 // Puts a text at a position, and gives the position after it.
@@ -125,8 +107,9 @@ fn digit_count(x: u32) -> usize
 {
     let mut n: usize = 1;
     let mut rest = x;
+    // A while loop: the quotient decides how many turns there are, and no range or list is gone over.
     while 10 <= rest {
-        rest = rest / 10;
+        rest /= 10;
         n += 1;
     }
     n
@@ -139,10 +122,11 @@ fn write_digits(out: &mut [u8], at: usize, end: usize, x: u32)
 {
     let mut i = end;
     let mut rest = x;
+    // A while loop: the quotient decides how many turns there are, and no range or list is gone over.
     while 10 <= rest {
         i -= 1;
         out[i] = b'0' + (rest % 10) as u8;
-        rest = rest / 10;
+        rest /= 10;
     }
     out[at] = b'0' + rest as u8;
 }

@@ -1,5 +1,5 @@
 -- The kind of a line from its parts, and the arrays that hold its values.
-use mathlib.Core.Path.{◌≡◌, sym, ap, ◌∙◌}
+use mathlib.Core.Path.{◌≡◌, refl, sym, ap, ◌∙◌}
 use mathlib.Core.Bool.{Bool, true, false, cond, not, ◌&&◌, ◌||◌}
 use mathlib.Core.List.{List, ◌++◌, map}
 use Prim.Native.Nat.{ℕ, zero, suc, ◌-◌, ◌%◌, ◌/◌, ◌≤◌, ◌<◌}
@@ -50,9 +50,20 @@ module _ (line : List ℕ) (short : length line ≤ 1024) (e : ℕ) (is : e ≡ 
     pub kind-over : all_under (bound_of kind) (values_from e line) ≡ false → 0 ≡ line_kind line
     kind-over o = rw (kind_at, o)
 
-    pub kind-under : all_under (bound_of kind) (values_from e line) ≡ true
-        → cond (not (eqb kind 1) || eqb (length (values_from e line)) 3) kind 0 ≡ line_kind line
-    kind-under u = rw (kind_at, u)
+    module _ (under : all_under (bound_of kind) (values_from e line) ≡ true) where
+      pub kind-miscounted : (not (eqb kind 1) || eqb (length (values_from e line)) 3) ≡ false → 0 ≡ line_kind line
+      kind-miscounted n = rw (kind_at, under, n)
+
+      pub kind-read : (not (eqb kind 1) || eqb (length (values_from e line)) 3) ≡ true → kind ≡ line_kind line
+      kind-read n = rw (kind_at, under, n)
+
+  -- no kind has this name
+  pub kind-none : 0 ≡ name_kind (take e line) → 0 ≡ line_kind line
+  kind-none name = sym (kind_at 0 name ∙ none (all_under (bound_of 0) (values_from e line) && (not (eqb 0 1) || eqb (length (values_from e line)) 3)))
+    where
+      none : (b : Bool) → ◌≡◌ {A = ℕ} (cond b 0 0) 0
+      none true = refl
+      none false = refl
 
   all_fit : length (values_from e line) ≤ 1024
   all_fit = let k = values-few e line in omega arith

@@ -2,7 +2,7 @@
 
 #![tactic(auto)]
 
-ghost use Rattle.std.specs.Prelude.{◌≡◌, [], map, ◌+◌, ◌*◌, ◌≤◌, ◌<◌, ◌%◌, ◌/◌, length, drop, true, cond, not, ◌||◌, eqb};
+ghost use Rattle.std.specs.Prelude.{◌≡◌, [], map, ◌+◌, ◌*◌, ◌≤◌, ◌<◌, ◌%◌, ◌/◌, length, drop, not, ◌||◌, eqb, is_some, IfSome};
 ghost use Rattle.text.specs.Lines.{cells, line_of, ok_line, refused_line, contradictory_line, word_line};
 ghost use Rattle.text.specs.Written.{written};
 ghost use Rattle.text_lines.specs.Holds.{HoldsLine};
@@ -12,6 +12,7 @@ ghost use Rattle.text.specs.Fields.{meaning, to_tab};
 ghost use Rattle.text.specs.Records.{name_kind, bound_of, all_under, line_kind, values_from};
 ghost use Rattle.text_lines.specs.Held.{HoldsRecord};
 ghost use Rattle.text_lines.specs.Numbers.{is_numbers, HoldsNumbers};
+ghost use Rattle.text_lines.specs.Kinds.{kind_number, kind_or_none, record_number};
 
 // An output line with its line feed, at the start of a row of bytes with zeros after it.
 #[derive(Clone, Copy)]
@@ -27,10 +28,8 @@ fn put_numbers(out: &mut [u8], at: usize, numbers: &[u8]) -> usize
     ensures out { out.new ≡ written out.old at (cells numbers.now) }
 {
     let mut next = at;
-    let mut i: usize = 0;
-    while i < numbers.len() {
-        next = text::put_number(out, next, numbers[i] as u32);
-        i += 1;
+    for x in numbers {
+        next = text::put_number(out, next, u32::from(*x));
     }
     next
 }
@@ -92,10 +91,10 @@ pub fn contradictory_word(word: usize, group: u8) -> Line
     ensures none { 4294967296 ≤ word → HoldsLine result [] }
 {
     let mut bytes = [0u8; 1024];
-    if 4294967295 < word {
+    let Ok(word) = u32::try_from(word) else {
         return Line { bytes, length: 0 };
-    }
-    let length = put_nine(&mut bytes, word as u32, group);
+    };
+    let length = put_nine(&mut bytes, word, group);
     Line { bytes, length }
 }
 
@@ -120,20 +119,27 @@ pub fn word(word: &[u8]) -> Line
     line_of(b"word", word)
 }
 
+// What a line gives.
+#[derive(Clone, Copy, Debug, PartialEq, Eq)]
+pub enum Kind {
+    Shape,
+    Data,
+    Word,
+}
+
+// A line that can be read.
 #[derive(Clone, Copy)]
 pub struct Record {
-    // 1 shape, 2 data, 3 word; 0 for a line that can't be read
-    pub kind: u8,
+    pub kind: Kind,
     // how many values
     pub count: usize,
     pub bytes: [u8; 1024],
     pub marks: [u8; 1024],
 }
 
-// The numbers of a line of one name, or not read.
+// The numbers of a line of one name.
 #[derive(Clone, Copy)]
 pub struct Numbers {
-    pub read: bool,
     // how many
     pub count: usize,
     pub bytes: [u8; 1024],
@@ -143,25 +149,26 @@ pub struct Numbers {
 fn meaning(field: &[u8]) -> u16
     ensures { result ≡ meaning field.now }
 {
-    if field.len() == 1 {
-        if field[0] == b'-' {
-            return 256;
-        }
+    if text::is_same(field, b"-") {
+        return 256;
     }
     text::number(field, 256) as u16
 }
 
-// The kind of record that a name stands for, or 0.
-fn name_kind(name: &[u8]) -> u8
-    ensures { result ≡ name_kind name.now }
+// The kind of record that a name stands for.
+fn name_kind(name: &[u8]) -> Option<Kind>
+    ensures { kind_or_none result ≡ name_kind name.now }
 {
     if text::is_same(name, b"shape") {
-        return 1;
+        return Some(Kind::Shape);
     }
     if text::is_same(name, b"data") {
-        return 2;
+        return Some(Kind::Data);
     }
-    if text::is_same(name, b"word") { 3 } else { 0 }
+    if text::is_same(name, b"word") {
+        return Some(Kind::Word);
+    }
+    None
 }
 
 // What the field that starts at a place means.
@@ -179,6 +186,7 @@ fn all_under(line: &[u8], from: usize, bound: u16) -> bool
     ensures { result ≡ all_under bound (values_from from line.now) }
 {
     let mut at = from;
+    // A while loop: a field starts where the one before it ends, so the step is not fixed.
     while at < line.len() {
         if bound <= value_at(line, at + 1) {
             return false;
@@ -199,6 +207,7 @@ fn write_values(line: &[u8], from: usize, bytes: &mut [u8], marks: &mut [u8]) ->
 {
     let mut count: usize = 0;
     let mut at = from;
+    // A while loop: a field starts where the one before it ends, so the step is not fixed.
     while at < line.len() {
         let v = value_at(line, at + 1);
         bytes[count] = (v % 256) as u8;
@@ -210,79 +219,69 @@ fn write_values(line: &[u8], from: usize, bytes: &mut [u8], marks: &mut [u8]) ->
 }
 
 // The bound on what a field of a record of this kind can mean.
-fn bound_of(kind: u8) -> u16
-    ensures { result ≡ bound_of kind }
+fn bound_of(kind: Kind) -> u16
+    ensures { result ≡ bound_of (kind_number kind) }
 {
-    if kind == 3 { 257 } else { 256 }
-}
-
-// The kind of a record with so many values: 0 for a shape without exactly three.
-fn kind_with(kind: u8, count: usize) -> u8
-    ensures { result ≡ cond (not (eqb kind 1) || eqb count 3) kind 0 }
-{
-    if kind != 1 {
-        return kind;
+    match kind {
+        Kind::Word => 257,
+        _ => 256,
     }
-    if count == 3 { kind } else { 0 }
 }
 
-// The record of a line. A line of more than 1,024 bytes is not read. Left free where the kind is 0: the count, the bytes and the marks, which nobody reads.
-pub fn parse(line: &[u8]) -> Record
-    ensures kind { result.kind ≡ line_kind line.now }
-    ensures values { (result.kind ≡ 0 → ⊥) → HoldsRecord result line.now }
+// Whether a record of this kind can have so many values: a shape has exactly three.
+fn is_count(kind: Kind, count: usize) -> bool
+    ensures { result ≡ (not (eqb (kind_number kind) 1) || eqb count 3) }
 {
-    let mut bytes = [0u8; 1024];
-    let mut marks = [0u8; 1024];
+    match kind {
+        Kind::Shape => count == 3,
+        _ => true,
+    }
+}
+
+// The record of a line. A line of more than 1,024 bytes is not read.
+pub fn parse(line: &[u8]) -> Option<Record>
+    ensures kind { record_number result ≡ line_kind line.now }
+    ensures values { IfSome result (λ read. HoldsRecord read line.now) }
+{
     if 1024 < line.len() {
-        return Record {
-            kind: 0,
-            count: 0,
-            bytes,
-            marks,
-        };
+        return None;
     }
     let e = text::part_end(line, 0, b'\t');
-    let kind = name_kind(&line[..e]);
+    let kind = name_kind(&line[..e])?;
     if !all_under(line, e, bound_of(kind)) {
-        return Record {
-            kind: 0,
-            count: 0,
-            bytes,
-            marks,
-        };
+        return None;
     }
+    let mut bytes = [0u8; 1024];
+    let mut marks = [0u8; 1024];
     let count = write_values(line, e, &mut bytes, &mut marks);
-    let kind = kind_with(kind, count);
-    Record {
+    if !is_count(kind, count) {
+        return None;
+    }
+    Some(Record {
         kind,
         count,
         bytes,
         marks,
-    }
+    })
 }
 
 // The numbers of a line of this name, each 0 to 255. A line of another name, with another field or of more than 1,024 bytes is not read.
-// Left free where it is not read: the count and the bytes, on which no answer depends.
-pub fn read_numbers(line: &[u8], name: &[u8]) -> Numbers
-    ensures read { result.read ≡ is_numbers name.now line.now }
-    ensures values { result.read ≡ true → HoldsNumbers result line.now }
+pub fn read_numbers(line: &[u8], name: &[u8]) -> Option<Numbers>
+    ensures read { is_some result ≡ is_numbers name.now line.now }
+    ensures values { IfSome result (λ numbers. HoldsNumbers numbers line.now) }
 {
-    let mut bytes = [0u8; 1024];
-    let mut marks = [0u8; 1024];
     if line.len() > 1024 {
-        return Numbers {
-            read: false,
-            count: 0,
-            bytes,
-        };
+        return None;
     }
     let e = text::part_end(line, 0, b'\t');
-    let named = text::is_same(&line[..e], name);
-    let under = all_under(line, e, 256);
-    let count = write_values(line, e, &mut bytes, &mut marks);
-    Numbers {
-        read: named && under,
-        count,
-        bytes,
+    if !text::is_same(&line[..e], name) {
+        return None;
     }
+    if !all_under(line, e, 256) {
+        return None;
+    }
+    let mut bytes = [0u8; 1024];
+    let mut marks = [0u8; 1024];
+    let count = write_values(line, e, &mut bytes, &mut marks);
+    Some(Numbers { count, bytes })
 }

@@ -8,8 +8,9 @@ ghost use Rattle.text.specs.Lines.{ok_line, word_line};
 ghost use Rattle.text_session.specs.Turn.{turn, refused_turn, contradictory_turn, shape_turn, data_turn, word_turn, turn_of};
 ghost use Rattle.text_session.specs.Replies.{Replies};
 
-use answers::{Answer, Described, Mending};
-use text_lines::Line;
+use answers::Refusal;
+use shape::Bytes;
+use text_lines::{Kind, Line};
 
 // An output line with its line feed, at the start of a row of bytes with zeros after it, and the shape then in force; m is 0 for no shape yet.
 #[derive(Clone, Copy)]
@@ -73,9 +74,9 @@ fn reply_figures(n: usize, k: usize, m: usize, w: usize, c: usize) -> Reply
 fn answer_shape(a: usize, b: usize, d: usize, m: usize, w: usize, c: usize) -> Reply
     ensures { Replies result (shape_turn a b d m w c) }
 {
-    match shape::describe(a, b, d) {
-        Described::Refused(number) => refuse(number, m, w, c),
-        Described::Figures { n, k, sure } => reply_figures(n, k, a, b, d),
+    match shape::describe::<Bytes>(a, b, d) {
+        Ok(figures) => reply_figures(figures.n, figures.k, a, b, d),
+        Err(unshaped) => refuse(unshaped.number(), m, w, c),
     }
 }
 
@@ -85,8 +86,8 @@ fn encode_in(bytes: &[u8], word: &mut [u8], m: usize, w: usize, c: usize) -> Rep
     ensures { Replies result (data_turn bytes.now m w c) }
 {
     match encode::encode(m, w, c, bytes, word) {
-        Answer::Refused(r) => refuse(r, m, w, c),
-        Answer::Done => reply_word(word, m, w, c),
+        Ok(()) => reply_word(word, m, w, c),
+        Err(e) => refuse(e.number(), m, w, c),
     }
 }
 
@@ -94,12 +95,12 @@ fn encode_in(bytes: &[u8], word: &mut [u8], m: usize, w: usize, c: usize) -> Rep
 fn answer_data(bytes: &[u8], m: usize, w: usize, c: usize) -> Reply
     ensures { Replies result (data_turn bytes.now m w c) }
 {
-    match shape::describe(m, w, c) {
-        Described::Refused(r) => refuse(r, m, w, c),
-        Described::Figures { n, k, sure } => {
+    match shape::describe::<Bytes>(m, w, c) {
+        Ok(figures) => {
             let mut word = [0u8; 240];
-            encode_in(bytes, &mut word[..n], m, w, c)
+            encode_in(bytes, &mut word[..figures.n], m, w, c)
         }
+        Err(e) => refuse(e.number(), m, w, c),
     }
 }
 
@@ -108,9 +109,11 @@ fn answer_word(word: &mut [u8], marks: &mut [u8], m: usize, w: usize, c: usize) 
     ensures { Replies result (word_turn word.old marks.old m w c) }
 {
     match recover::recover(m, w, c, word, marks) {
-        Mending::Refused(r) => refuse(r, m, w, c),
-        Mending::Contradictory(group) => contradict(group, m, w, c),
-        Mending::Done => reply_word(word, m, w, c),
+        Ok(()) => reply_word(word, m, w, c),
+        Err(e) => match e {
+            Refusal::Contradictory(group) => contradict(group, m, w, c),
+            _ => refuse(e.number(), m, w, c),
+        },
     }
 }
 
@@ -118,17 +121,18 @@ fn answer_word(word: &mut [u8], marks: &mut [u8], m: usize, w: usize, c: usize) 
 pub fn answer(line: &[u8], m: usize, w: usize, c: usize) -> Reply
     ensures { Replies result (turn_of line.now m w c) }
 {
-    let record = text_lines::parse(line);
-    let kind = record.kind;
-    if kind == 0 {
+    let Some(record) = text_lines::parse(line) else {
         return refuse(14, m, w, c);
-    }
+    };
+    let kind = record.kind;
+    let count = record.count;
     let mut bytes = record.bytes;
-    if kind == 1 {
+    let mut marks = record.marks;
+    if let Kind::Shape = kind {
         return answer_shape(
-            bytes[0] as usize,
-            bytes[1] as usize,
-            bytes[2] as usize,
+            usize::from(bytes[0]),
+            usize::from(bytes[1]),
+            usize::from(bytes[2]),
             m,
             w,
             c,
@@ -137,10 +141,8 @@ pub fn answer(line: &[u8], m: usize, w: usize, c: usize) -> Reply
     if m == 0 {
         return refuse(15, m, w, c);
     }
-    let count = record.count;
-    if kind == 2 {
-        return answer_data(&bytes[..count], m, w, c);
+    match kind {
+        Kind::Data => answer_data(&bytes[..count], m, w, c),
+        _ => answer_word(&mut bytes[..count], &mut marks[..count], m, w, c),
     }
-    let mut marks = record.marks;
-    answer_word(&mut bytes[..count], &mut marks[..count], m, w, c)
 }

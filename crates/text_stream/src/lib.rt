@@ -41,8 +41,7 @@ fn put(out: &mut [u8], at: usize, text: &[u8])
     requires { at + length text.now ≤ length out.old }
     ensures { out.new ≡ written out.old at text.now }
 {
-    let end = at + text.len();
-    buffers::copy(text, &mut out[at..end]);
+    buffers::copy_from_slice(&mut out[at..at + text.len()], text);
 }
 
 // Answers the line so far; the next one is empty.
@@ -81,26 +80,21 @@ fn take_byte(line: &mut [u8], byte: u8, at: Place, out: &mut [u8]) -> Place
         line[length] = byte;
         return Place {
             length: length + 1,
-            used: at.used,
-            m: at.m,
-            w: at.w,
-            c: at.c,
+            ..at
         };
     }
     at
 }
 
-// Takes the first bytes of the input in order, starting with an empty output.
-fn take_all(line: &mut [u8], bytes: &[u8], count: usize, first: Place, out: &mut [u8]) -> Place
-    requires line_len { (length line.old ≡ 1025) × (first.length ≤ 1025) × (first.used ≡ 0) × (count ≤ length bytes.now) }
-    requires count_in_bounds { 12 * (first.length + count) ≤ length out.old }
-    ensures { Passed (take count bytes.now) (point_at line.old first) out.old line.new result out.new }
+// Takes bytes of the input in order, starting with an empty output.
+fn take_all(line: &mut [u8], bytes: &[u8], first: Place, out: &mut [u8]) -> Place
+    requires line_len { (length line.old ≡ 1025) × (first.length ≤ 1025) × (first.used ≡ 0) }
+    requires room { 12 * (first.length + length bytes.now) ≤ length out.old }
+    ensures { Passed bytes.now (point_at line.old first) out.old line.new result out.new }
 {
     let mut at = first;
-    let mut i: usize = 0;
-    while i < count {
-        at = take_byte(line, bytes[i], at, out);
-        i += 1;
+    for byte in bytes {
+        at = take_byte(line, *byte, at, out);
     }
     at
 }
@@ -128,15 +122,15 @@ pub fn take(state: State, input: &[u8; 1024], count: usize, out: &mut [u8; 24588
     ensures fits { result.state.length ≤ 1025 }
 {
     let mut line = state.line;
-    let n = buffers::smaller(count, 1024);
+    let n = count.min(1024);
     let first = Place {
-        length: buffers::smaller(state.length, 1025),
+        length: state.length.min(1025),
         used: 0,
         m: state.m,
         w: state.w,
         c: state.c,
     };
-    let last = take_all(&mut line, input, n, first, out);
+    let last = take_all(&mut line, &input[..n], first, out);
     let after_bytes = State {
         line,
         length: last.length,
@@ -155,7 +149,7 @@ pub fn finish(state: State, out: &mut [u8; 24588]) -> usize
     ensures size { result ≡ length (closing (point_of state)) }
     ensures output { out.new ≡ written out.old 0 (closing (point_of state)) }
 {
-    let length = buffers::smaller(state.length, 1025);
+    let length = state.length.min(1025);
     if length == 0 {
         return 0;
     }

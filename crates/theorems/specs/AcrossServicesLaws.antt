@@ -1,5 +1,5 @@
 -- Laws: What holds between services: Recover and Judge, Check and Recover, and a word that the desk serves.
-use Rattle.std.specs.Prelude.{◌≡◌, ◌↔◌, Bool, true, false, not, List, T, eqb, length, get_or}
+use Rattle.std.specs.Prelude.{◌≡◌, ◌↔◌, Bool, true, false, not, List, T, eqb, length, get_or, Option, Some, None, Result, Ok, Err}
 use Rattle.std.proofs.Math.Path.{refl, ap₂}
 use Rattle.std.proofs.Common.{sym, ap, ◌∙◌, subst, arith}
 use Prim.Native.Nat.{ℕ, zero, suc, ◌*◌, ◌^◌, ◌<◌}
@@ -22,7 +22,7 @@ use Rattle.code_services.specs.Recover.{recover_in}
 use Rattle.code_services.specs.AttemptLaws.{accepted, eight-exactly}
 use Rattle.code_services.specs.RecoverDemand.{Named}
 use Rattle.code_services.specs.RecoverDemandLaws.{good_start, recover-demand-two, lost-bytes}
-use Rattle.answers.specs.declared.Checked.{Checked}
+use Rattle.answers.specs.declared.Refusal.{Refusal}
 use Rattle.code_services.specs.Check.{whole_group_in, checked_in}
 use Rattle.code_services.specs.CheckLaws.{yes-exactly}
 use Rattle.text_stream.specs.NoneLost.{none_lost}
@@ -64,7 +64,7 @@ module _ {E : Edition} (S : Sound E) (m w c : ℕ) (word : List ℕ) (good : Goo
       }
 
   -- of another word
-  checked-other : is_codeword E m w c word ≡ false → checked_in E m w c word ≡ Checked.Other (whole_group_in E m w c word)
+  checked-other : is_codeword E m w c word ≡ false → checked_in E m w c word ≡ Ok (Some (whole_group_in E m w c word))
   unfolding checked_in
   checked-other e = rw (word-of-good m w c (length word) good s.size, e)
 
@@ -76,17 +76,17 @@ module _ {E : Edition} (S : Sound E) (m w c : ℕ) (word : List ℕ) (good : Goo
       let h : (recover_in E m w c word (none_lost word)).group ≡ whole_group_in E m w c word = ap (λ o. o.group) r in
       let M = none-marked S good word s in
       let D = recover-demand-two S m w c word (none_lost word) good s.size s.each M.size M.each in
-      let same : (g : ℕ) → checked_in E m w c word ≡ Checked.Other g → whole_group_in E m w c word ≡ g = λ g q. ap other_group (sym k ∙ q) in
+      let same : (g : ℕ) → checked_in E m w c word ≡ Ok (Some g) → whole_group_in E m w c word ≡ g = λ g q. ap other_group (sym k ∙ q) in
       record {
         yes = ((λ q. absurd (let z : ◌≡◌ {A = ℕ} 0 1 = cc in omega arith)), (λ q. absurd (omega arith)));
-        no = λ g. ((λ q. (n, h ∙ same g q)), (λ q. k ∙ ap Checked.Other (sym h ∙ q.1)));
+        no = λ g. ((λ q. (n, h ∙ same g q)), (λ q. k ∙ ap (λ i. Ok (Some i)) (sym h ∙ q.1)));
         named = λ g q. subst (Named E m w c word (none_lost word)) (h ∙ same g q) (D.group n);
       }
     where
-      other_group : Checked → ℕ
-      other_group Checked.Codeword = 0
-      other_group (Checked.Other g) = g
-      other_group (Checked.Refused r) = 0
+      other_group : Result (Option ℕ) Refusal → ℕ
+      other_group (Ok None) = 0
+      other_group (Ok (Some g)) = g
+      other_group (Err e) = 0
 
 -- in every sound edition, for a good shape and n symbols
 pub check-as-recover-in : {E : Edition} (S : Sound E) (m w c : ℕ) (word : List ℕ) → GoodIn E.limits m w c → length word ≡ m * w

@@ -1,6 +1,5 @@
 -- Demands 2 and 3 and what holds of Judge in the edition of bytes: the statements over the edition, at this one.
-use Rattle.std.specs.Prelude.{◌≡◌, ◌↔◌, List, ℕ, ◌*◌, ◌<◌, ◌≤◌, length, get_or}
-use Rattle.answers.specs.declared.Answer.{Answer}
+use Rattle.std.specs.Prelude.{◌≡◌, ◌↔◌, List, ℕ, ◌*◌, ◌<◌, ◌≤◌, length, get_or, Ok}
 use Rattle.shape.specs.Shapes.{byte_limits}
 use Rattle.code.specs.Marks.{excess}
 use Rattle.code.specs.Outcome.{SameEnd}
@@ -28,7 +27,7 @@ use Rattle.code_services.specs.RepairOrderLaws.{order-theorem, same-recovery}
 
 -- "Encoding gives the one codeword that carries the data, and the data come out again", for c up to 3
 pub encode-done : (m w c : ℕ) (carried word : List ℕ) → SoldIn byte_limits m w c → length carried ≡ data_count m w c → ((i : ℕ) → get_or carried i 0 < 256)
-    → length word ≡ place_count m w → (encode_in byte_limits m w c carried word ≡ Answer.Done)
+    → length word ≡ place_count m w → (encode_in byte_limits m w c carried word ≡ Ok tt)
     × Encode.Encoded byte_edition m w c carried (encoded_buffer_in byte_edition m w c carried word)
 encode-done m w c carried word sold size small long =
     let D = EncodeLaws.encode-demand-two bytes-sound m w c carried word sold size small long in

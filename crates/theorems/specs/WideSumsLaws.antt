@@ -8,7 +8,7 @@ use Rattle.binary_field.specs.PowerLaws.{power-suc}
 use Rattle.binary_field.specs.Sum.{sum_below}
 use Rattle.code.specs.Limits.{shape_refusal_in}
 use Rattle.code.specs.LimitsLaws.{good-of-refusal}
-use Rattle.code_services.specs.Places.{extract_of, data_places, others_from, is_check, bytes_at}
+use Rattle.code_services.specs.Places.{extract_of, data_places, others_from, is_check, bytes_at, extract_over, symbols_at}
 use Rattle.code.specs.Word.{coefficient, second_coefficient, group_sum, word_sum, is_local, is_codeword, Codeword}
 use Rattle.code_services.specs.Encode.{encoded_in}
 use Rattle.code_services.specs.EncodeLaws.{encoded}
@@ -34,7 +34,7 @@ unfolding first_word is_codeword is_local word_sum group_sum sum_below coefficie
 first-codeword = record { symbols = record { size = refl; each = below 65536 (lit< tt) first_word tt }; zero = tt }
 
 first-extract : extract_of 1 4 1 first_word ≡ 1 ∷ []
-unfolding first_word extract_of data_places others_from is_check bytes_at
+unfolding first_word extract_over data_places others_from is_check symbols_at
 first-extract = refl
 
 good-1-4-1 : shape_refusal_in wide_limits 1 4 1 ≡ 0
@@ -55,7 +55,7 @@ unfolding second_word is_codeword is_local word_sum group_sum sum_below coeffici
 second-codeword = record { symbols = record { size = refl; each = below 65536 (lit< tt) second_word tt }; zero = tt }
 
 second-extract : extract_of 2 3 1 second_word ≡ 1 ∷ 1 ∷ []
-unfolding second_word extract_of data_places others_from is_check bytes_at
+unfolding second_word extract_over data_places others_from is_check symbols_at
 second-extract = refl
 
 good-2-3-1 : shape_refusal_in wide_limits 2 3 1 ≡ 0

@@ -2,7 +2,7 @@
 
 #![tactic(auto)]
 
-ghost use Rattle.std.specs.Prelude.{◌≡◌, false, ◌*◌, ◌+◌, ◌≤◌, ◌<◌, length, get_or, replicate};
+ghost use Rattle.std.specs.Prelude.{◌≡◌, false, ◌&&◌, eqb, ◌*◌, ◌+◌, ◌≤◌, ◌<◌, length, get_or, replicate};
 ghost use Rattle.binary_field.specs.Xor.{◌⊕◌};
 ghost use Rattle.binary_field.specs.Product.{product};
 ghost use Rattle.code.specs.Edition.{raised};
@@ -10,14 +10,16 @@ ghost use Rattle.code.specs.Word.{group_sum, coefficient, second_coefficient};
 ghost use Rattle.code.specs.Limits.{GoodIn};
 ghost use Rattle.code.specs.Lent.{LentIn};
 ghost use Rattle.code_engine.specs.Horner.{HornerRows};
-ghost use Rattle.code_engine.specs.Tests.{broken_group_in, tested_in, not_tested};
+ghost use Rattle.code_engine.specs.Tests.{tested_in, not_tested};
+ghost use Rattle.code.specs.Stretch.{stretch};
+ghost use Rattle.code_loops.specs.Broken.{PartTested};
 ghost use Rattle.wide_shape.specs.Edition.{wide_limits, wide_edition};
 ghost use Rattle.wide_across.specs.Fold.{Plus, TwicePlus};
 ghost use Rattle.wide_across.specs.Pairs.{AllCoefficients, Paired, paired_sums, sums_of_pairs};
 ghost use Rattle.wide_across.specs.Across.{wide_across};
 
 use answers::Tested;
-use wide_shape::Shape;
+use wide_shape::{Shape, Wide};
 
 // What the two equations across sum up to.
 #[derive(Clone, Copy)]
@@ -26,24 +28,15 @@ pub struct Sums {
     pub second: u16,
 }
 
-// The sum of a stretch with the coefficients b of its places, from its power sums.
-fn first_of(sums: [u16; 6], c: usize) -> u16
-    requires { c ≤ 4 }
-    ensures { result ≡ get_or sums c 0 ⊕ product 16 69643 2 (get_or sums (c + 1) 0) }
-{
-    let p = sums[c];
-    let q = sums[c + 1];
-    p ^ wide_field::product(2, q)
-}
+// 2^256: for the coefficients b^256, what 2 is for the coefficients b.
+const TWO_TO_256: u16 = 2863;
 
-// The same with the coefficients b^256; 2863 is 2^256.
-fn second_of(sums: [u16; 6], c: usize) -> u16
+// The sum of a stretch with the coefficients of its places, from its power sums: b with the factor 2, b^256 with 2^256.
+fn weighted(sums: [u16; 6], c: usize, factor: u16) -> u16
     requires { c ≤ 4 }
-    ensures { result ≡ get_or sums c 0 ⊕ product 16 69643 2863 (get_or sums (c + 1) 0) }
+    ensures { result ≡ get_or sums c 0 ⊕ product 16 69643 factor (get_or sums (c + 1) 0) }
 {
-    let p = sums[c];
-    let q = sums[c + 1];
-    p ^ wide_field::product(2863, q)
+    sums[c] ^ wide_field::product(factor, sums[c + 1])
 }
 
 // The coefficients b and b^256 of the first sixteen places, in turn, with one, two, three and four local checks.
@@ -82,15 +75,12 @@ fn sparse_sums(part: &[u16], row: &[u16]) -> Sums
 {
     let mut first: u16 = 0;
     let mut second: u16 = 0;
-    let mut j: usize = 0;
-    while j < part.len() {
-        let v = part[j];
-        if v != 0 {
+    for (j, v) in part.iter().enumerate() {
+        if *v != 0 {
             let i = 2 * j;
-            first = first ^ multiple(v, row[i]);
-            second = second ^ multiple(v, row[i + 1]);
+            first ^= multiple(*v, row[i]);
+            second ^= multiple(*v, row[i + 1]);
         }
-        j += 1;
     }
     Sums { first, second }
 }
@@ -137,8 +127,9 @@ pub fn group_sums(part: &[u16], c: usize, g: usize) -> Sums
         }
     }
     let sums = wide_sums::power_sums(part, c + 2);
-    let first = first_of(sums, c);
-    let second = wide_field::doubled(second_of(sums, c), g);
+    let first = weighted(sums, c, 2);
+    let s = weighted(sums, c, TWO_TO_256);
+    let second = wide_field::doubled(s, g);
     Sums { first, second }
 }
 
@@ -149,11 +140,9 @@ fn fold(part: &[u16], x: &mut [u16], y: &mut [u16])
     ensures plus { Plus part.now x.old x.new }
     ensures twice_plus { TwicePlus part.now y.old y.new }
 {
-    let mut i: usize = 0;
-    while i < part.len() {
-        x[i] = x[i] ^ part[i];
-        y[i] = wide_field::double(y[i]) ^ part[i];
-        i += 1;
+    for (i, v) in part.iter().enumerate() {
+        x[i] ^= *v;
+        y[i] = wide_field::double(y[i]) ^ *v;
     }
 }
 
@@ -166,9 +155,7 @@ fn fold_groups(m: usize, w: usize, c: usize, word: &[u16], x: &mut [u16], y: &mu
     ensures horner_rows { HornerRows wide_edition w word.now 0 m x.new y.new }
     ensures x_len { (length x.new ≡ w) × (length y.new ≡ w) }
 {
-    let mut g: usize = m;
-    while 0 < g {
-        g -= 1;
+    for g in (0..m).rev() {
         let start = g * w;
         let end = start + w;
         fold(&word[start..end], x, y);
@@ -185,8 +172,8 @@ fn folded_sums(m: usize, w: usize, c: usize, word: &[u16], x: &mut [u16], y: &mu
     fold_groups(m, w, c, word, x, y);
     let p = wide_sums::power_sums(x, c + 2);
     let q = wide_sums::power_sums(y, c + 2);
-    let first = first_of(p, c);
-    let second = second_of(q, c);
+    let first = weighted(p, c, 2);
+    let second = weighted(q, c, TWO_TO_256);
     Sums { first, second }
 }
 
@@ -197,12 +184,10 @@ fn pairs(x: &[u16], y: &[u16]) -> [u16; 32]
     ensures { Paired x.now y.now result }
 {
     let mut z = [0u16; 32];
-    let mut i: usize = 0;
-    while i < x.len() {
+    for i in 0..x.len() {
         let j = 2 * i;
         z[j] = x[i];
         z[j + 1] = y[i];
-        i += 1;
     }
     z
 }
@@ -215,12 +200,10 @@ fn pair_sums(z: &[u16], w: usize) -> Sums
 {
     let mut first: u16 = 0;
     let mut second: u16 = 0;
-    let mut i: usize = 0;
-    while i < w {
+    for i in 0..w {
         let j = 2 * i;
-        first = first ^ z[j];
-        second = second ^ z[j + 1];
-        i += 1;
+        first ^= z[j];
+        second ^= z[j + 1];
     }
     Sums { first, second }
 }
@@ -271,51 +254,27 @@ pub fn across(m: usize, w: usize, c: usize, word: &[u16]) -> Sums
     folded_sums(m, w, c, word, &mut x[..w], &mut y[..w])
 }
 
-// The lowest group whose local sums are not all zero; m if there is none.
-fn broken_group(m: usize, w: usize, c: usize, word: &[u16]) -> usize
-    requires good_in { GoodIn wide_limits m w c }
-    requires word_len { length word.now ≡ m * w }
-    ensures { result ≡ broken_group_in wide_edition m w c word.now }
-{
-    let mut g: usize = 0;
-    while g < m {
-        let a = g * w;
-        let e = a + w;
-        if !wide_sums::local_zero(&word[a..e], c) {
-            return g;
-        }
-        g += 1;
-    }
-    g
-}
-
 // The test of all the equations of a word of a good shape's length. A shape or length that is refused is no codeword, and its group is 0.
 pub fn test(m: usize, w: usize, c: usize, word: &[u16]) -> Tested
     ensures value { GoodIn wide_limits m w c → length word.now ≡ m * w → result ≡ tested_in wide_edition m w c word.now }
     ensures value_2 { (GoodIn wide_limits m w c → length word.now ≡ m * w → ⊥) → result ≡ not_tested }
 {
-    if wide_shape::word_refusal(m, w, c, word.len()) != 0 {
+    if shape::word_refusal::<Wide>(m, w, c, word.len()).is_err() {
         return Tested {
             codeword: false,
             group: 0,
         };
     }
-    let group = broken_group(m, w, c, word);
-    if group != m {
-        return Tested {
-            codeword: false,
-            group,
-        };
-    }
-    let s = across(m, w, c, word);
-    if s.first != 0 {
-        return Tested {
-            codeword: false,
-            group,
-        };
-    }
-    Tested {
-        codeword: s.second == 0,
-        group,
-    }
+    let is_sound = |g| -> bool
+        requires { g * w + w ≤ length word.now }
+        ensures { PartTested wide_edition c (stretch w g word.entry.now) result }
+    { wide_sums::local_zero(&word[g * w..g * w + w], c) };
+    let is_zero_across = || -> bool
+        requires { LentIn wide_limits m w c word.now }
+        ensures { result ≡ (eqb (wide_across m w c word.entry.now).first 0 && eqb (wide_across m w c word.entry.now).second 0) }
+    {
+        let s = across(m, w, c, word);
+        s.first == 0 && s.second == 0
+    };
+    Tested::by(m, is_sound, is_zero_across)
 }

@@ -12,7 +12,7 @@ ghost use Rattle.code.specs.Combined.{combined};
 ghost use Rattle.code.specs.Lone.{lone};
 ghost use Rattle.code.specs.Stretch.{stretch};
 ghost use Rattle.wide_across.specs.Across.{wide_across, no_wide_sums};
-ghost use Rattle.code_engine.specs.CandidateSteps.{Blanked, GroupsFilledIn, DirectionIn, AddedIn};
+ghost use Rattle.code_engine.specs.CandidateSteps.{GroupsFilledIn, DirectionIn, AddedIn};
 ghost use Rattle.code.specs.Pair.{MetIn};
 ghost use Rattle.code_loops.specs.Rebuild.{RebuildLent};
 ghost use Rattle.wide_candidate.specs.Free.{OneOrTwo};
@@ -21,36 +21,18 @@ ghost use Rattle.code_engine.specs.Mended.{BoundFew, MendedOneIn, MendedTwoIn, M
 
 use erasures::Free;
 use wide_across::Sums;
-use wide_shape::Shape;
-
-// Writes word into base, with 0 in the lost places.
-fn blank_lost(word: &[u16], marks: &[u8], base: &mut [u16])
-    requires marks_len { length marks.now ≡ length word.now }
-    requires base_len { length base.old ≡ length word.now }
-    ensures { Blanked marks.now word.now base.new }
-{
-    let mut p: usize = 0;
-    while p < word.len() {
-        if marks[p] == 1 {
-            base[p] = 0;
-        } else {
-            base[p] = word[p];
-        }
-        p += 1;
-    }
-}
+use wide_shape::{Shape, Wide};
 
 // Fills the bound places of every group by its own equations.
+// A function in each edition: a generic one needs a trait with fill, its edition and its words as numbers, with laws of slices, for a loop of three lines.
 fn fill_groups(m: usize, w: usize, c: usize, bound: &[u8], base: &mut [u16])
     requires { FillAsked m w c bound.now base.old }
     ensures { GroupsFilledIn wide_edition m w bound.now base.old base.new }
 {
-    let mut g: usize = 0;
-    while g < m {
+    for g in 0..m {
         let a = g * w;
         let e = a + w;
         wide_solve::fill(&mut base[a..e], &bound[a..e]);
-        g += 1;
     }
 }
 
@@ -72,12 +54,10 @@ fn add_multiple(u: u16, h: &[u16], part: &mut [u16])
     requires { length h.now ≡ length part.old }
     ensures { AddedIn wide_edition u h.now part.old part.new }
 {
-    let mut i: usize = 0;
-    while i < part.len() {
-        if h[i] != 0 {
-            part[i] = part[i] ^ wide_across::multiple(h[i], u);
+    for (i, v) in h.iter().enumerate() {
+        if *v != 0 {
+            part[i] ^= wide_across::multiple(*v, u);
         }
-        i += 1;
     }
 }
 
@@ -259,7 +239,7 @@ fn rebuild(
 {
     buffers::copy(marks, bound);
     erasures::clear_free(w, c, bound);
-    blank_lost(word, marks, out);
+    erasures::blank_lost(0, word, marks, out);
     fill_groups(m, w, c, bound, out);
     mend(m, w, c, marks, bound, out)
 }
@@ -277,7 +257,7 @@ pub fn candidate(m: usize, w: usize, c: usize, word: &[u16], marks: &[u8], out: 
         first: 0,
         second: 0,
     };
-    if wide_shape::word_refusal(m, w, c, word.len()) != 0 {
+    if shape::word_refusal::<Wide>(m, w, c, word.len()).is_err() {
         return none;
     }
     if marks.len() != word.len() {

@@ -41,14 +41,12 @@ fn four_bits(r: u16, a: u16, b: u16) -> u16
     let mut sum = r;
     let mut shifted = a;
     let mut rest = b % 16;
-    let mut i: usize = 0;
-    while i < 4 {
+    for _ in 0..4usize {
         if rest % 2 == 1 {
-            sum = sum ^ shifted;
+            sum ^= shifted;
         }
         shifted = double(shifted);
-        rest = rest / 2;
-        i += 1;
+        rest /= 2;
     }
     sum
 }
@@ -69,8 +67,8 @@ pub fn shifted_product(a: u16, b: u16) -> u16
 fn carry_less(a: u16, b: u16) -> u32
     ensures { result ≡ carry_less a b }
 {
-    let x = a as u32;
-    let y = b as u32;
+    let x = u32::from(a);
+    let y = u32::from(b);
     let x0 = x & 37449;
     let x1 = x & 9362;
     let x2 = x & 18724;
@@ -113,10 +111,8 @@ pub fn doubled(a: u16, n: usize) -> u16
     ensures { result ≡ product 16 69643 (power 16 69643 2 n) a }
 {
     let mut r = a;
-    let mut i: usize = 0;
-    while i < n {
+    for _ in 0..n {
         r = double(r);
-        i += 1;
     }
     r
 }
@@ -126,10 +122,8 @@ pub fn sum(u: &[u16]) -> u16
     ensures { result ≡ sum_below (length u.now) (λ i. get_or u.now i 0) }
 {
     let mut r: u16 = 0;
-    let mut i: usize = 0;
-    while i < u.len() {
-        r = r ^ u[i];
-        i += 1;
+    for x in u {
+        r ^= *x;
     }
     r
 }

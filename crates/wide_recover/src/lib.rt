@@ -2,29 +2,29 @@
 
 #![tactic(auto)]
 
-ghost use Rattle.std.specs.Prelude.{◌≡◌, true, false, ◌*◌, ◌≤◌, ◌<◌, length};
+ghost use Rattle.std.specs.Prelude.{◌≡◌, true, false, ◌+◌, ◌*◌, ◌≤◌, ◌<◌, length};
 ghost use Rattle.code.specs.Limits.{GoodIn};
 ghost use Rattle.wide_shape.specs.Edition.{wide_limits, wide_edition};
-ghost use Rattle.answers.specs.Answers.{mending_number};
+ghost use Rattle.answers.specs.Answers.{refused_number, mending_number};
 ghost use Rattle.code.specs.Word.{is_local};
 ghost use Rattle.code.specs.Marks.{lost_in, excess};
-ghost use Rattle.code_engine.specs.Tests.{broken_group_in, tested_in};
+ghost use Rattle.code_engine.specs.Tests.{tested_in};
+ghost use Rattle.code.specs.Stretch.{stretch};
+ghost use Rattle.code_loops.specs.Broken.{FilledTested};
 ghost use Rattle.wide_across.specs.Across.{wide_across};
 ghost use Rattle.code_services.specs.Answered.{AnswersBy};
 ghost use Rattle.code_services.specs.Recover.{recover_refusal_in, recover_in};
 ghost use Rattle.code_services.specs.Attempt.{FullSatisfiedIn, AttemptIn};
 
-use answers::{Mending, Tested};
+use answers::{Refusal, Tested};
 use wide_across::Sums;
+use wide_shape::Wide;
 
-// The refusal of a call by its shape, its lengths and its marks, 1 to 4, 26, 5 and 6; 0 if there is none.
-pub fn refusal(m: usize, w: usize, c: usize, word: &[u16], marks: &[u8]) -> u8
-    ensures { result ≡ recover_refusal_in wide_limits m w c word.now marks.now }
+// Refuses a call by its shape, its lengths and its marks, as 1 to 4, 26, 5 and 6.
+pub fn refusal(m: usize, w: usize, c: usize, word: &[u16], marks: &[u8]) -> Result<(), Refusal>
+    ensures { refused_number result ≡ recover_refusal_in wide_limits m w c word.now marks.now }
 {
-    let r = wide_shape::word_refusal(m, w, c, word.len());
-    if r != 0 {
-        return r;
-    }
+    shape::word_refusal::<Wide>(m, w, c, word.len())?;
     marks::beside_refusal(marks, word.len())
 }
 
@@ -41,27 +41,7 @@ pub fn filled_zero(marks: &[u8], part: &[u16], c: usize) -> bool
     true
 }
 
-// The lowest group whose local sums are not all zero, m if there is none, of a word in which those with c or more lost places are satisfied.
-fn broken_group(m: usize, w: usize, c: usize, marks: &[u8], word: &[u16]) -> usize
-    requires good_in { GoodIn wide_limits m w c }
-    requires marks_len { length marks.now ≡ m * w }
-    requires word_len { length word.now ≡ m * w }
-    requires full_satisfied_in { FullSatisfiedIn wide_edition m w c marks.now word.now }
-    ensures { result ≡ broken_group_in wide_edition m w c word.now }
-{
-    let mut g: usize = 0;
-    while g < m {
-        let a = g * w;
-        let e = a + w;
-        if !filled_zero(&marks[a..e], &word[a..e], c) {
-            return g;
-        }
-        g += 1;
-    }
-    g
-}
-
-// The test of such a word's equations, with its sums across.
+// The test of the equations of a word in which the groups with c or more lost places are satisfied, with its sums across.
 fn test(m: usize, w: usize, c: usize, marks: &[u8], word: &[u16], s: Sums) -> Tested
     requires good_in { GoodIn wide_limits m w c }
     requires marks_len { length marks.now ≡ m * w }
@@ -70,23 +50,11 @@ fn test(m: usize, w: usize, c: usize, marks: &[u8], word: &[u16], s: Sums) -> Te
     requires s_value { s ≡ wide_across m w c word.now }
     ensures { result ≡ tested_in wide_edition m w c word.now }
 {
-    let group = broken_group(m, w, c, marks, word);
-    if group != m {
-        return Tested {
-            codeword: false,
-            group,
-        };
-    }
-    if s.first != 0 {
-        return Tested {
-            codeword: false,
-            group,
-        };
-    }
-    Tested {
-        codeword: s.second == 0,
-        group,
-    }
+    let is_sound = |g| -> bool
+        requires { (g * w + w ≤ length marks.now) × (g * w + w ≤ length word.now) }
+        ensures { FilledTested wide_edition c (stretch w g marks.entry.now) (stretch w g word.entry.now) result }
+    { filled_zero(&marks[g * w..g * w + w], &word[g * w..g * w + w], c) };
+    Tested::by(m, is_sound, || s.first == 0 && s.second == 0)
 }
 
 // Writes the candidate, made in found, into the word if it is a codeword; else it names the group that contradicts.
@@ -110,7 +78,7 @@ fn attempt(
         return tested;
     }
     let end = word.len();
-    wide_buffers::copy(&found[..end], &mut word[..end]);
+    buffers::copy(&found[..end], &mut word[..end]);
     tested
 }
 
@@ -137,7 +105,7 @@ pub fn recover_determined(
     c: usize,
     word: &mut [u16],
     marks: &mut [u8],
-) -> Mending
+) -> Result<(), Refusal>
     requires marks_value { recover_refusal_in wide_limits m w c word.old marks.old ≡ 0 }
     requires marks_bound { excess m w c marks.old ≤ 2 }
     ensures answer { AnswersBy result (recover_in wide_edition m w c word.old marks.old) }
@@ -149,23 +117,26 @@ pub fn recover_determined(
     let done = tested.codeword;
     buffers::clear_if(done, marks);
     if !done {
-        return Mending::Contradictory(tested.group as u8);
+        return Err(Refusal::Contradictory(tested.group as u8));
     }
-    Mending::Done
+    Ok(())
 }
 
 // Recovers the whole word from its present symbols, or refuses and changes nothing.
-pub fn recover(m: usize, w: usize, c: usize, word: &mut [u16], marks: &mut [u8]) -> Mending
+pub fn recover(
+    m: usize,
+    w: usize,
+    c: usize,
+    word: &mut [u16],
+    marks: &mut [u8],
+) -> Result<(), Refusal>
     ensures answer { AnswersBy result (recover_in wide_edition m w c word.old marks.old) }
     ensures word { word.new ≡ (recover_in wide_edition m w c word.old marks.old).word }
     ensures marks { marks.new ≡ (recover_in wide_edition m w c word.old marks.old).marks }
 {
-    let r = refusal(m, w, c, word, marks);
-    if r != 0 {
-        return Mending::Refused(r);
-    }
+    refusal(m, w, c, word, marks)?;
     if 2 < marks::pattern_excess(w, c, marks) {
-        return Mending::Refused(8);
+        return Err(Refusal::Undetermined);
     }
     recover_determined(m, w, c, word, marks)
 }

@@ -55,7 +55,7 @@ fn quotient(u: u16, a: u16, row: &[u16]) -> u16
     ensures value { result ≡ product 16 69643 u (get_or inverse_row (digits a) 0) }
     ensures result_value { IsSmall a → (a ≡ 0 → ⊥) → product 16 69643 a result ≡ u }
 {
-    let d = ((a ^ (a >> 7)) % 256) as usize;
+    let d = usize::from((a ^ (a >> 7)) % 256);
     wide_field::product(u, row[d])
 }
 
@@ -110,24 +110,13 @@ pub fn symbols(x: [u16; 4], s: [u16; 6], t: usize) -> [u16; 4]
     ensures has_sums { t ≤ 4 → Apart t (λ i. get_or x i 0) → HasSums 16 69643 t (λ i. get_or x i 0) (λ i. get_or result i 0) (λ e. get_or s e 0) }
     ensures value { 4 < t → result ≡ replicate 4 0 }
 {
-    let none = [0u16; 4];
-    if t == 0 {
-        return none;
+    match t {
+        1 => [s[0], 0, 0, 0],
+        2 => two(x, s, &inverses()),
+        3 => three(x, s, &inverses()),
+        4 => four(x, s, &inverses()),
+        _ => [0; 4],
     }
-    if t == 1 {
-        return [s[0], 0, 0, 0];
-    }
-    let row = inverses();
-    if t == 2 {
-        return two(x, s, &row);
-    }
-    if t == 3 {
-        return three(x, s, &row);
-    }
-    if t == 4 {
-        return four(x, s, &row);
-    }
-    none
 }
 
 // The 256th powers of 1, 2, 4, ..
@@ -148,13 +137,11 @@ fn conjugate(a: u16) -> u16
     let row = conjugates();
     let mut sum: u16 = 0;
     let mut rest = a;
-    let mut i: usize = 0;
-    while i < 16 {
+    for x in row {
         if rest % 2 == 1 {
-            sum = sum ^ row[i];
+            sum ^= x;
         }
-        rest = rest / 2;
-        i += 1;
+        rest /= 2;
     }
     sum
 }
@@ -174,11 +161,8 @@ fn place(part: &mut [u16], at: [usize; 4], u: [u16; 4], t: usize)
     requires { (t ≤ 4) × Inside (length part.old) at t }
     ensures { part.new ≡ placed part.old at (column_of u) t }
 {
-    let mut i: usize = 0;
-    while i < t {
-        let p = at[i];
-        part[p] = u[i];
-        i += 1;
+    for i in 0..t {
+        part[at[i]] = u[i];
     }
 }
 
@@ -195,11 +179,7 @@ fn locators_of(at: [usize; 4]) -> [u16; 4]
     ensures { (i : ℕ) → i < 4 → get_or result i 0 ≡ get_or locator_row (get_or at i 0) 0 }
 {
     let row = wide_field::locators();
-    let a = locator(&row, at[0]);
-    let b = locator(&row, at[1]);
-    let c = locator(&row, at[2]);
-    let d = locator(&row, at[3]);
-    [a, b, c, d]
+    at.map(|j| locator(&row, j))
 }
 
 // Writes the sum of the other symbols at position p; what stood there does not count.

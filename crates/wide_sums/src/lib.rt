@@ -3,7 +3,7 @@
 #![tactic(auto)]
 
 ghost use Rattle.std.specs.Prelude.{◌≡◌, false, ◌≤◌, ◌<◌, eqb, length, get_or, replicate};
-ghost use Rattle.counting.specs.Test.{all_below};
+ghost use Rattle.std.specs.List.{list_all};
 ghost use Rattle.code_engine.specs.Padded.{Padded};
 ghost use Rattle.code.specs.Word.{is_local};
 ghost use Rattle.wide_shape.specs.Edition.{wide_edition};
@@ -20,10 +20,8 @@ pub fn multiply(x: &mut [u16], row: &[u16])
     if row.len() != x.len() {
         return;
     }
-    let mut i: usize = 0;
-    while i < x.len() {
-        x[i] = wide_field::shifted_product(x[i], row[i]);
-        i += 1;
+    for (i, a) in x.iter_mut().enumerate() {
+        *a = wide_field::shifted_product(*a, row[i]);
     }
 }
 
@@ -35,14 +33,10 @@ fn gather(x: &mut [u16], row: &[u16], n: usize) -> [u16; 6]
     ensures { PowerSums x.old n result }
 {
     let mut sums = [0u16; 6];
-    let s = wide_field::sum(x);
-    sums[0] = s;
-    let mut e: usize = 1;
-    while e < n {
+    sums[0] = wide_field::sum(x);
+    for e in 1..n {
         multiply(x, row);
-        let t = wide_field::sum(x);
-        sums[e] = t;
-        e += 1;
+        sums[e] = wide_field::sum(x);
     }
     sums
 }
@@ -56,7 +50,7 @@ fn gather_in(part: &[u16], x: &mut [u16], n: usize) -> [u16; 6]
 {
     let w = part.len();
     let row = wide_field::locators();
-    wide_buffers::copy(part, x);
+    buffers::copy(part, x);
     gather(x, &row[..w], n)
 }
 
@@ -80,7 +74,7 @@ fn padded(part: &[u16]) -> [u16; 16]
 {
     let w = part.len();
     let mut x = [0u16; 16];
-    wide_buffers::copy(part, &mut x[..w]);
+    buffers::copy(part, &mut x[..w]);
     x
 }
 
@@ -120,19 +114,11 @@ pub fn power_sums(part: &[u16], n: usize) -> [u16; 6]
     gather_in(part, &mut x[..w], n)
 }
 
-// Whether the first c of the sums are zero.
-fn all_zero(sums: [u16; 6], c: usize) -> bool
-    requires { c ≤ 4 }
-    ensures { result ≡ all_below c (λ e. eqb (get_or sums e 0) 0) }
+// Whether all of the sums are zero.
+fn all_zero(sums: &[u16]) -> bool
+    ensures { result ≡ list_all (λ s. eqb s 0) sums.now }
 {
-    let mut e: usize = 0;
-    while e < c {
-        if sums[e] != 0 {
-            return false;
-        }
-        e += 1;
-    }
-    true
+    sums.iter().all(|s| *s == 0)
 }
 
 // Whether the first c local sums of one group's stretch are zero; false for more than 256 places or c above 4.
@@ -150,5 +136,5 @@ pub fn local_zero(part: &[u16], c: usize) -> bool
         return wide_field::sum(part) == 0;
     }
     let sums = power_sums(part, c);
-    all_zero(sums, c)
+    all_zero(&sums[..c])
 }

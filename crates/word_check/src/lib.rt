@@ -9,22 +9,19 @@ ghost use Rattle.byte_edition.specs.Edition.{byte_edition};
 ghost use Rattle.answers.specs.Figures.{checked_number, checked_figures};
 ghost use Rattle.code_services.specs.Check.{checked_in, check_figures_in};
 
-use answers::Checked;
+use answers::Refusal;
+use shape::Bytes;
 
-// Whether a word is a codeword of the shape.
-pub fn check(m: usize, w: usize, c: usize, word: &[u8]) -> Checked
+// Whether a word is a codeword of the shape: no group contradicts, or the group that does.
+pub fn check(m: usize, w: usize, c: usize, word: &[u8]) -> Result<Option<u8>, Refusal>
     ensures answer { result ≡ checked_in byte_edition m w c word.now }
     ensures number { checked_number result ≡ word_refusal_in byte_limits m w c (length word.now) }
     ensures figures { checked_figures result ≡ check_figures_in byte_edition m w c word.now }
 {
-    let r = shape::word_refusal(m, w, c, word.len());
-    if r != 0 {
-        return Checked::Refused(r);
-    }
+    shape::word_refusal::<Bytes>(m, w, c, word.len())?;
     let tested = syndrome::test(m, w, c, word);
     if tested.codeword {
-        Checked::Codeword
-    } else {
-        Checked::Other(tested.group as u8)
+        return Ok(None);
     }
+    Ok(Some(tested.group as u8))
 }

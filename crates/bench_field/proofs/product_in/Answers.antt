@@ -13,12 +13,12 @@ returns-then-b-eq0 c = simp (ne_eqb _ _ c.if-a-eq0.false, eq-eqb _ _ c.if-b-eq0.
 
 pub returns-then-s-lt255 : goal.returns-then-s-lt255
 returns-then-s-lt255 c =
-    through-low c.args.p.now c.args.l.now c.args.a c.args.b c.wide.result c.wide-2.result c.if-a-eq0.false
+    through-low c.args.p.now c.args.l.now c.args.a c.args.b c.from-2.result c.from-4.result c.if-a-eq0.false
     c.if-b-eq0.false
     (cc) (cc) (omega arith)
 
 pub returns-else-s-lt255 : goal.returns-else-s-lt255
 returns-else-s-lt255 c =
-    through-high c.args.p.now c.args.l.now c.args.a c.args.b c.wide.result c.wide-2.result c.if-a-eq0.false
+    through-high c.args.p.now c.args.l.now c.args.a c.args.b c.from-2.result c.from-4.result c.if-a-eq0.false
     c.if-b-eq0.false
     (cc) (cc) (omega arith)

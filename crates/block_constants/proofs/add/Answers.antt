@@ -1,4 +1,4 @@
-use Rattle.std.proofs.Common.{◌≡◌, ap, ◌∙◌, arith, get_or, length-set, rules}
+use Rattle.std.proofs.Common.{◌≡◌, ap, ◌∙◌, arith, get_or}
 use Rattle.binary_field.specs.Xor.{◌⊕◌}
 use Rattle.binary_field.specs.XorLaws.{⊕-bits}
 use Rattle.code.specs.Edition.{times}
@@ -6,21 +6,9 @@ use Rattle.byte_edition.specs.Edition.{byte_edition}
 use Rattle.code_engine.specs.ListsLaws.{each_set}
 use Rattle.block_constants.proofs.add.Goals as goal
 
--- src/lib.rt:32:5
-pub loop-j-init : goal.loop-j-init
-loop-j-init c = (omega arith, search rules, λ k l. absurd (omega arith))
-
--- src/lib.rt:32:5
 pub loop-j-preserved : goal.loop-j-preserved
 loop-j-preserved c =
-    let a = c.args in (
-      omega arith,
-      simp length-set (omega arith),
-      each_set (λ k v. v ≡ get_or a.row k 0 ⊕ times byte_edition (get_or a.b k 0) a.f) c.loop-j.r c.loop-j.j _ 0 (omega arith)
-          c.loop-j.invariant.2 (⊕-bits (get_or a.row c.loop-j.j 0) c.shifted_product.result
-          ∙ ap (λ x. get_or a.row c.loop-j.j 0 ⊕ x) c.shifted_product.ensures),
-    )
-
--- src/lib.rt:27:1
-pub returns : goal.returns
-returns c = λ k l. c.loop-j.invariant.2 k (omega arith)
+    let a = c.args in
+    each_set (λ k v. v ≡ get_or a.row k 0 ⊕ times byte_edition (get_or a.b k 0) a.f) c.loop-j.x-items c.loop-j.j _ 0 (omega arith)
+    c.loop-j.invariant (⊕-bits (get_or a.row c.loop-j.j 0) c.shifted_product.result
+    ∙ ap (λ x. get_or a.row c.loop-j.j 0 ⊕ x) c.shifted_product.ensures)

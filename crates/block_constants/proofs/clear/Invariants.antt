@@ -1,4 +1,4 @@
-use Rattle.std.proofs.Common.{◌≡◌, List, [], ℕ, ◌≤◌, ◌<◌, ◌-◌, length, get_or}
+use Rattle.std.proofs.Common.{◌≡◌, List, [], ℕ, ◌<◌, length, get_or}
 use Rattle.binary_field.specs.Xor.{◌⊕◌}
 use Rattle.code.specs.Edition.{times}
 use Rattle.byte_edition.specs.Edition.{byte_edition}
@@ -12,7 +12,4 @@ Cleared b t p rows i row =
     × ((i ≡ t → ⊥) → (j : ℕ) → j < 16 → get_or row j 0 ≡ entry rows i j ⊕ times byte_edition (get_or b j 0) (entry rows i p))
 
 abbrev pub invariant-loop-i : goal.invariant-loop-i
-invariant-loop-i l = (l.i ≤ 6) × (length l.r ≡ 6) × ((k : ℕ) → k < l.i → Cleared l.b l.t l.p l.rows k (get_or l.r k []))
-
-abbrev pub decreases-loop-i : goal.decreases-loop-i
-decreases-loop-i l = 6 - l.i
+invariant-loop-i l = (length l.r ≡ 6) × ((k : ℕ) → k < l.i → Cleared l.b l.t l.p l.rows k (get_or l.r k []))

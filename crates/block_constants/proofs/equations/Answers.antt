@@ -1,7 +1,6 @@
 use Rattle.block_constants.specs.EquationsLaws.{equation-at}
 use Rattle.block_constants.proofs.equations.Goals as goal
 
--- src/lib.rt:72:1
 pub returns : goal.returns
 returns c =
     let a = c.args in

@@ -1,4 +1,4 @@
-use Rattle.std.proofs.Common.{ℕ, ◌≤◌, ◌<◌, ◌-◌, length}
+use Rattle.std.proofs.Common.{ℕ, ◌≤◌, ◌<◌, length}
 use Rattle.counting.specs.Count.{count_below}
 use Rattle.code.specs.Marks.{lost}
 use Rattle.byte_edition.specs.Edition.{byte_edition}
@@ -9,8 +9,5 @@ use Rattle.block_constants.proofs.group_rows.Given as goal
 
 abbrev pub invariant-loop-p : goal.invariant-loop-p
 invariant-loop-p l =
-    (l.p ≤ length l.bound) × (l.t ≤ 4) × ((i : ℕ) → i < 6 → Small 8 (row l.rows i))
+    (l.t ≤ 4) × ((i : ℕ) → i < 6 → Small 8 (row l.rows i))
     × (count_below l.p (lost l.bound) ≤ 4 → ReducedTo byte_edition (length l.bound) 6 l.bound l.p l.t (entry l.initial.rows) (entry l.rows))
-
-abbrev pub decreases-loop-p : goal.decreases-loop-p
-decreases-loop-p l = length l.bound - l.p

@@ -11,18 +11,6 @@ returns-then-t-eq0 c =
     let e : lost_in (length k) k 0 ≡ 0 = sym c.lost_in-t.ensures ∙ c.if-t-eq0.true in
     group-whole (length k) a.c a.size a.g k a.blocks.now e (none-lost (length k) k e)
 
-pub overflow_mul-from : goal.overflow_mul-from
-overflow_mul-from c =
-    let a = c.args in
-    let i = mul-within a.g (length a.bound.now) 15 16 (omega arith) (omega arith) in
-    omega arith
-
-pub targets-to-requires : goal.targets-to-requires
-targets-to-requires c =
-    let a = c.args in
-    let i = mul-within a.g (length a.bound.now) 15 16 (omega arith) (omega arith) in
-    (omega arith, omega arith)
-
 pub returns : goal.returns
 returns c =
     let a = c.args in

@@ -1,9 +1,5 @@
-use Rattle.std.proofs.Common.{◌≤◌, ◌-◌}
 use Rattle.block_laws.specs.Steps.{GroupsFilled}
 use Rattle.block_engine.proofs.fill_groups.Given as goal
 
 abbrev pub invariant-loop-g : goal.invariant-loop-g
-invariant-loop-g l = (l.g ≤ l.m) × GroupsFilled l.w l.c l.size l.g l.bound l.initial.blocks l.blocks
-
-abbrev pub decreases-loop-g : goal.decreases-loop-g
-decreases-loop-g l = l.m - l.g
+invariant-loop-g l = GroupsFilled l.w l.c l.size l.g l.bound l.initial.blocks l.blocks

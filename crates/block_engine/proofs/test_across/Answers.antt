@@ -29,7 +29,8 @@ returns-then-f-eq1 c =
     a.blocks.now (λ i. (c.shared_slice_known-1.given i).fits) _ _
     a.limit _ F
     (row-limit a.size a.blocks.now (length a.marks.now) _ _ (c.test_row-row.ensures.one_row (omega arith) (F.less 0 (omega arith))).here a.limit _
-    (c.zero_until-then-f-eq1.ensures.zero_until (ready-named a.m a.w a.c a.size a.blocks.now a.marks.now 1 _ R (search rules) (omega arith)) c.requires.limit_le_size))
+    (c.zero_until-then-f-eq1.ensures.zero_until (ready-named a.m a.w a.c a.size a.blocks.now a.marks.now 1 _ R (search rules) (omega arith))
+    c.requires.limit_le_size))
 
 pub returns : goal.returns
 returns c =

@@ -1,6 +1,6 @@
 use Rattle.std.proofs.Common.{◌≡◌, sym, ◌∙◌, List, ℕ, ◌-◌, arith, length}
 use Rattle.code.specs.Marks.{lost_in}
-use Rattle.block_laws.specs.PassLaws.{group-all, group-limit-at, kept-end, kept-laid, kept_from, group-named, RowsFit, rows_fit}
+use Rattle.block_laws.specs.PassLaws.{group-all, group-limit-at, kept-end, kept-laid, kept_from, group-named}
 use Rattle.block_engine.proofs.test_group.Goals as goal
 
 pub returns-then-t-c : goal.returns-then-t-c
@@ -12,27 +12,6 @@ returns-then-t-c c =
     let p = b.requires.in_bounds in
     group-all (length k) a.c a.g p.0 p.1 k p.2 p.3 a.size a.blocks.now
     (λ i. (l.shared_slice_known-1.given i).fits) (sym l.lost_in-t.ensures ∙ c.if-t-c.true) a.limit
-
--- what the rows of the group take
-room : (t : goal.Else-t-c) → let l = t.before in let a = l.args in
-    RowsFit (length a.bound.now) a.c a.g l.lost_in-t.result
-room t =
-    let l = t.before in
-    let b = l.before.before.before.before in
-    let e = l.lost_in-t.ensures in
-    rows_fit _ _ _ _ b.requires.in_bounds.1 (omega arith) b.requires.in_bounds.2 b.requires.g_bound.0
-
-pub overflow_mul-a : goal.overflow_mul-a
-overflow_mul-a c = let p = room c in omega arith
-
-pub overflow_mul-e : goal.overflow_mul-e
-overflow_mul-e c = let p = room c in omega arith
-
-pub overflow_add-e : goal.overflow_add-e
-overflow_add-e c = let p = room c in omega arith
-
-pub overflow_mul-from : goal.overflow_mul-from
-overflow_mul-from c = let p = room c in omega arith
 
 pub slice_bounds-zero_until-end : goal.slice_bounds-zero_until-end
 slice_bounds-zero_until-end c =

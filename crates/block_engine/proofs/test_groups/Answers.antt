@@ -1,33 +1,9 @@
 use Rattle.std.proofs.Common.{◌≡◌, List, ℕ, ◌*◌, arith}
 use Rattle.code.specs.StretchLaws.{stretch-length}
 use Rattle.code.specs.LentLaws.{stretch-lent}
-use Rattle.block_laws.specs.StepsLaws.{limit-none, limit-next}
-use Rattle.block_laws.specs.PassLaws.{given-end, given-few, PartsFit, parts-fit}
+use Rattle.block_laws.specs.StepsLaws.{limit-next}
+use Rattle.block_laws.specs.PassLaws.{given-end, given-few}
 use Rattle.block_engine.proofs.test_groups.Goals as goal
-
-pub overflow_mul-v : goal.overflow_mul-v
-overflow_mul-v c = let q = c.requires.given.good in omega arith
-
-pub loop-g-init : goal.loop-g-init
-loop-g-init c = (omega arith, limit-none _ _ (λ x l h b. absurd (omega arith)))
-
-pub overflow_mul-a : goal.overflow_mul-a
-overflow_mul-a c = let p : PartsFit c.args.m c.args.w c.loop-g.g = parts-fit _ _ _ _ c.requires.given.good (omega arith) in omega arith
-
-pub overflow_add-e : goal.overflow_add-e
-overflow_add-e c = let p : PartsFit c.args.m c.args.w c.loop-g.g = parts-fit _ _ _ _ c.requires.given.good (omega arith) in omega arith
-
-pub overflow_mul-b : goal.overflow_mul-b
-overflow_mul-b c = let p : PartsFit c.args.m c.args.w c.loop-g.g = parts-fit _ _ _ _ c.requires.given.good (omega arith) in omega arith
-
-pub overflow_add-f : goal.overflow_add-f
-overflow_add-f c = let p : PartsFit c.args.m c.args.w c.loop-g.g = parts-fit _ _ _ _ c.requires.given.good (omega arith) in omega arith
-
-pub slice_bounds-test_group-end : goal.slice_bounds-test_group-end
-slice_bounds-test_group-end c = let p : PartsFit c.args.m c.args.w c.loop-g.g = parts-fit _ _ _ _ c.requires.given.good (omega arith) in let k = c.requires.given.bound-size in omega arith
-
-pub slice_bounds-test_group-end-in-loop-g : goal.slice_bounds-test_group-end-in-loop-g
-slice_bounds-test_group-end-in-loop-g c = let p : PartsFit c.args.m c.args.w c.loop-g.g = parts-fit _ _ _ _ c.requires.given.good (omega arith) in let k = c.requires.kept_up_to.long in omega arith
 
 pub test_group-limit-requires : goal.test_group-limit-requires
 test_group-limit-requires c =
@@ -40,7 +16,7 @@ test_group-limit-requires c =
     let f = given-few a.m a.w a.c a.size g a.blocks.now k G (omega arith) in
     record {
       in_bounds = rw (stretch-lent a.w g k, stretch-length a.w g k E.0) (omega arith, omega arith, omega arith, f);
-      g_bound = rw (stretch-lent a.w g k, stretch-length a.w g k E.0) (omega arith, E.1, G.most, c.loop-g.invariant.1.most);
+      g_bound = rw (stretch-lent a.w g k, stretch-length a.w g k E.0) (omega arith, E.1, G.most, c.loop-g.invariant.most);
       group_kept =
           rw (stretch-lent a.w g k, stretch-lent (4 * a.w) g a.kept.now, stretch-length a.w g k E.0)
           (c.requires.kept_up_to.here g (omega arith));
@@ -52,9 +28,9 @@ loop-g-preserved c =
     let k : List ℕ = a.bound.now in
     let g : ℕ = c.loop-g.g in
     let E = given-end a.m a.w a.c a.size g a.blocks.now k c.requires.given (omega arith) in
-    (omega arith, limit-next g _ c.loop-g.invariant.1 (rw (stretch-lent a.w g k, stretch-length a.w g k E.0) at c.test_group-limit.ensures))
+    limit-next g _ c.loop-g.invariant (rw (stretch-lent a.w g k, stretch-length a.w g k E.0) at c.test_group-limit.ensures)
 
 pub returns : goal.returns
 returns c =
     let e : c.loop-g.g ≡ c.args.m = omega arith in
-    rw e at c.loop-g.invariant.1
+    rw e at c.loop-g.invariant

@@ -1,6 +1,5 @@
-use Rattle.std.proofs.Common.{◌≡◌, sym, ap, ◌∙◌, arith}
-use Rattle.block_input.specs.Output.{rebuilt_verdict}
-use Rattle.block_input.specs.OutputLaws.{verdict-refused, held-refused, marks-fit, verdict-is, held-is}
+use Rattle.std.proofs.Common.{◌≡◌, arith}
+use Rattle.block_input.specs.OutputLaws.{passed-on, verdict-refused, held-refused, marks-fit, verdict-is, held-is}
 use Rattle.block_input.proofs.answer.Goals as goal
 
 pub returns-then-refusal-ne0 : goal.returns-then-refusal-ne0
@@ -15,29 +14,23 @@ pub slice_bounds-marks-end : goal.slice_bounds-marks-end
 slice_bounds-marks-end c =
     marks-fit c.args.input.now c.read_head-head.result c.read_head-head.ensures (omega arith)
 
-pub returns-in-Done : goal.returns-in-Done
-returns-in-Done c =
+pub returns-in_err-rebuild : goal.returns-in_err-rebuild
+returns-in_err-rebuild c =
     let i = c.args.input.now in
-    let z : c.read_head-head.result.refusal ≡ 0 = omega arith in record {
-      verdict = ap (rebuilt_verdict c.read_head-head.result.start) (sym c.in-Done.is)
-          ∙ verdict-is i c.read_head-head.result c.read_head-head.ensures z c.rebuild.result c.rebuild.ensures.answer;
-      input = held-is i c.read_head-head.result c.read_head-head.ensures z _ c.rebuild.ensures.blocks;
+    let h = c.read_head-head in
+    let z : h.result.refusal ≡ 0 = omega arith in
+    let e = c.in_err-rebuild.ensures in
+    rw (passed-on c.from_residual.ensures) record {
+      verdict = verdict-is i h.result h.ensures z _ e.answer;
+      input = held-is i h.result h.ensures z _ e.blocks;
     }
 
-pub returns-in-Contradictory : goal.returns-in-Contradictory
-returns-in-Contradictory c =
+pub returns : goal.returns
+returns c =
     let i = c.args.input.now in
-    let z : c.read_head-head.result.refusal ≡ 0 = omega arith in record {
-      verdict = ap (rebuilt_verdict c.read_head-head.result.start) (sym c.in-Contradictory.is)
-          ∙ verdict-is i c.read_head-head.result c.read_head-head.ensures z c.rebuild.result c.rebuild.ensures.answer;
-      input = held-is i c.read_head-head.result c.read_head-head.ensures z _ c.rebuild.ensures.blocks;
-    }
-
-pub returns-in-Refused : goal.returns-in-Refused
-returns-in-Refused c =
-    let i = c.args.input.now in
-    let z : c.read_head-head.result.refusal ≡ 0 = omega arith in record {
-      verdict = ap (rebuilt_verdict c.read_head-head.result.start) (sym c.in-Refused.is)
-          ∙ verdict-is i c.read_head-head.result c.read_head-head.ensures z c.rebuild.result c.rebuild.ensures.answer;
-      input = held-is i c.read_head-head.result c.read_head-head.ensures z _ c.rebuild.ensures.blocks;
+    let h = c.read_head-head in
+    let z : h.result.refusal ≡ 0 = omega arith in
+    let e = c.in_ok-rebuild.ensures in record {
+      verdict = verdict-is i h.result h.ensures z _ e.answer;
+      input = held-is i h.result h.ensures z _ e.blocks;
     }

@@ -1,25 +1,28 @@
-use Rattle.std.proofs.Common.{sym, ◌∙◌, ap, arith, length-take-le, take_all, ◌-◌, length, drop, length-drop}
+use Rattle.std.proofs.Common.{◌≡◌, refl, sym, ap, ◌∙◌, List, [], ◌∷◌, ℕ, ◌&&◌, eqb}
+use Rattle.std.specs.Prelude.{nat_eq}
+use lib.Pointwise.{pointwise}
+use Rattle.text.specs.Fields.{same}
+use Rattle.block_input.specs.LengthLaws.{length-long, length-unnamed, length-named}
 use Rattle.text.specs.Decimal.{number_of}
-use Rattle.block_input.specs.LengthLaws.{length-long, length-short, length-unnamed, length-named}
 use Rattle.block_input.proofs.read_length.Goals as goal
 
+-- the library's test of two lists is that of two texts
+same-is : (xs ys : List ℕ) → pointwise nat_eq xs ys ≡ same xs ys
+unfolding same
+same-is [] [] = refl
+same-is [] (y ∷ ys) = refl
+same-is (x ∷ xs) [] = refl
+same-is (x ∷ xs) (y ∷ ys) = ap (λ b. eqb x y && b) (same-is xs ys)
+
 pub returns-then-line-gt1024 : goal.returns-then-line-gt1024
-returns-then-line-gt1024 c = length-long c.args.line.now (omega arith)
+returns-then-line-gt1024 c = length-long c.args.line.now c.if-line-gt1024.true
 
-pub returns-then-line-lt7 : goal.returns-then-line-lt7
-returns-then-line-lt7 c = length-short c.args.line.now (omega arith) (omega arith)
+pub returns-in-Some : goal.returns-in-Some
+returns-in-Some c =
+    let n = c.args.line.now in
+    let h = c.in-Some.ensures.cases in
+    c.number.ensures.value ∙ ap (number_of 65537) h.1
+    ∙ length-named n c.if-line-gt1024.false (sym (same-is _ _) ∙ h.0)
 
-pub slice_bounds-is_same-end : goal.slice_bounds-is_same-end
-slice_bounds-is_same-end c = sym (length-take-le 7 c.args.line.now (omega arith))
-
-pub returns-then-not-is_same : goal.returns-then-not-is_same
-returns-then-not-is_same c =
-    let a = c.args in
-    length-unnamed a.line.now (omega arith) (sym c.is_same.ensures ∙ c.if-not-is_same.true)
-
-pub returns : goal.returns
-returns c =
-    let a = c.args in
-    let d = length-drop 7 a.line.now in
-    c.number.ensures.value ∙ ap (number_of 65537) (take_all (length a.line.now - 7) (drop 7 a.line.now) (omega arith))
-    ∙ length-named a.line.now (omega arith) (sym c.is_same.ensures ∙ c.if-not-is_same.false)
+pub returns-in-None : goal.returns-in-None
+returns-in-None c = length-unnamed c.args.line.now c.if-line-gt1024.false (sym (same-is _ _) ∙ c.in-None.ensures.cases)

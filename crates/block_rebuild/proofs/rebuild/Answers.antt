@@ -1,18 +1,19 @@
-use Rattle.std.proofs.Common.{◌≡◌, refl, sym, ap, ◌∙◌, subst, ℕ, ◌<◌, arith, length, get_or}
-use Rattle.block_rebuild.specs.declared.Rebuilt.{Rebuilt}
+use Rattle.std.proofs.Common.{◌≡◌, sym, ap, ◌∙◌, subst, ℕ, ◌<◌, arith, length, get_or, Err}
+use Rattle.answers.specs.AnswersLaws.{refusal-some}
+use Rattle.block_rebuild.specs.declared.Failure.{Failure}
 use Rattle.block_rebuild.specs.Rebuild.{rebuild_refusal, word_outcome, outcome_rebuilt}
 use Rattle.block_rebuild.specs.Steps.{Room}
-use Rattle.block_rebuild.proofs.RebuildLaws.{rebuilt-refused, refusal-never-nine, rebuild-refused}
+use Rattle.block_rebuild.proofs.RebuildLaws.{passed-on, refused-answer, rebuild-refused}
 use Rattle.block_rebuild.proofs.EngineLaws.{engine-ready, engine-room, nine-at, engine-contradictory, engine-done, engine-written}
 use Rattle.block_rebuild.proofs.rebuild.Goals as goal
 
-pub returns-then-r-ne0 : goal.returns-then-r-ne0
-returns-then-r-ne0 c =
+pub returns-in_err-refusal : goal.returns-in_err-refusal
+returns-in_err-refusal c =
     let a = c.args in
-    let e = rebuild-refused a.m a.w a.c a.size a.blocks.now a.marks.now _ c.refusal-r.ensures c.if-r-ne0.true in
-    let n : c.refusal-r.result ≡ 9 → ⊥ = λ z. refusal-never-nine a.m a.w a.c a.size _ a.marks.now (sym c.refusal-r.ensures ∙ z) in
-    record {
-      answer = sym (rebuilt-refused c.refusal-r.result c.if-r-ne0.true n) ∙ ap outcome_rebuilt (sym e);
+    let is = c.in_err-refusal.ensures in
+    let e = rebuild-refused a.m a.w a.c a.size a.blocks.now a.marks.now _ is (refusal-some _) in
+    rw (passed-on c.from_residual.ensures) record {
+      answer = refused-answer a.m a.w a.c a.size _ a.marks.now _ is ∙ ap outcome_rebuilt (sym e);
       blocks = ap (λ o. o.blocks) (sym e);
       marks = ap (λ o. o.marks) (sym e);
       number = ap (λ o. o.number) (sym e);
@@ -23,7 +24,7 @@ returns-then-r-ne0 c =
 pub group_at-group-requires : goal.group_at-group-requires
 group_at-group-requires c =
     let a = c.args in
-    let none : rebuild_refusal a.m a.w a.c a.size (length a.blocks.now) a.marks.now ≡ 0 = sym c.refusal-r.ensures ∙ (omega arith) in
+    let none : rebuild_refusal a.m a.w a.c a.size (length a.blocks.now) a.marks.now ≡ 0 = sym c.in_ok-refusal.ensures in
     let small : (i : ℕ) → get_or a.blocks.now i 0 < 256 = λ i. (c.slice_known-1.given i).fits in
     let D = c.mend-x.ensures.mended (engine-ready a.m a.w a.c a.size a.blocks.now a.marks.now none small) in
     let x : ℕ = c.mend-x.result in
@@ -39,7 +40,7 @@ group_at-group-requires c =
 pub returns-then-x-size : goal.returns-then-x-size
 returns-then-x-size c =
     let a = c.args in
-    let none : rebuild_refusal a.m a.w a.c a.size (length a.blocks.now) a.marks.now ≡ 0 = sym c.refusal-r.ensures ∙ (omega arith) in
+    let none : rebuild_refusal a.m a.w a.c a.size (length a.blocks.now) a.marks.now ≡ 0 = sym c.in_ok-refusal.ensures in
     let small : (i : ℕ) → get_or a.blocks.now i 0 < 256 = λ i. (c.slice_known-1.given i).fits in
     let D = c.mend-x.ensures.mended (engine-ready a.m a.w a.c a.size a.blocks.now a.marks.now none small) in
     let x : ℕ = c.mend-x.result in
@@ -47,7 +48,7 @@ returns-then-x-size c =
     let g = c.group_at-group.ensures ∙ ap (λ b. (word_outcome a.m a.w a.c a.size b a.marks.now x).group) u in
     let e = engine-contradictory a.m a.w a.c a.size a.blocks.now a.marks.now none small x D.lowest c.if-x-size.true in
     record {
-      answer = ap (Rebuilt.Contradictory x) g ∙ ap outcome_rebuilt (sym e);
+      answer = ap (λ k. Err (Failure.Contradictory x k)) g ∙ ap outcome_rebuilt (sym e);
       blocks = u ∙ ap (λ o. o.blocks) (sym e);
       marks = ap (λ o. o.marks) (sym e);
       number = ap (λ o. o.number) (sym e);
@@ -58,7 +59,7 @@ returns-then-x-size c =
 pub returns : goal.returns
 returns c =
     let a = c.args in
-    let none : rebuild_refusal a.m a.w a.c a.size (length a.blocks.now) a.marks.now ≡ 0 = sym c.refusal-r.ensures ∙ (omega arith) in
+    let none : rebuild_refusal a.m a.w a.c a.size (length a.blocks.now) a.marks.now ≡ 0 = sym c.in_ok-refusal.ensures in
     let small : (i : ℕ) → get_or a.blocks.now i 0 < 256 = λ i. (c.slice_known-1.given i).fits in
     let D = c.mend-x.ensures.mended (engine-ready a.m a.w a.c a.size a.blocks.now a.marks.now none small) in
     let x : ℕ = c.mend-x.result in
@@ -70,7 +71,7 @@ returns c =
       blocks =
           engine-written a.m a.w a.c a.size a.blocks.now a.marks.now none small x F c.if-x-size.false _ (D.restored full)
           ∙ ap (λ o. o.blocks) (sym e);
-      marks = c.clear_if.ensures.buffer_after refl ∙ ap (λ o. o.marks) (sym e);
+      marks = c.fill.ensures.after (λ y e. e) ∙ ap (λ o. o.marks) (sym e);
       number = ap (λ o. o.number) (sym e);
       word = ap (λ o. o.word) (sym e);
       group = ap (λ o. o.group) (sym e);

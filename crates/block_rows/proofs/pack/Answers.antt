@@ -7,15 +7,15 @@ use Rattle.block_laws.specs.StepsLaws.{row_inside, each-stretch}
 use Rattle.block_rows.proofs.pack.Goals as goal
 
 pub loop-r-init : goal.loop-r-init
-loop-r-init c = (omega arith, omega arith, λ k l. absurd (omega arith))
+loop-r-init c = (omega arith, λ k l. absurd (omega arith))
 
 pub overflow_mul-a : goal.overflow_mul-a
 overflow_mul-a c =
     let i = row_inside c.loop-r.r 4 (length c.args.bound.now) (omega arith) in
     omega arith
 
-pub overflow_add-e : goal.overflow_add-e
-overflow_add-e c =
+pub overflow_add-a : goal.overflow_add-a
+overflow_add-a c =
     let i = row_inside c.loop-r.r 4 (length c.args.bound.now) (omega arith) in
     omega arith
 
@@ -42,11 +42,10 @@ loop-r-preserved c =
     let e = suc-mul r w in
     let fits : suc r * w ≤ length x = omega arith in
     let long : length y ≡ w = c.pack_row.ensures.out_len_unchanged ∙ ap length (stretch-lent w r x) ∙ stretch-length w r x fits in (
-      omega arith,
-      rw (with-lent w r x y) (with-length w r x fits y long ∙ c.loop-r.invariant.1),
+      rw (with-lent w r x y) (with-length w r x fits y long ∙ c.loop-r.invariant.0),
       rw (with-lent w r x y)
-          (each-stretch w r x y fits long (λ n j b. b ≡ masked k (entry c.args.rows n) j) c.loop-r.invariant.2 c.pack_row.ensures.by_index),
+          (each-stretch w r x y fits long (λ n j b. b ≡ masked k (entry c.args.rows n) j) c.loop-r.invariant.1 c.pack_row.ensures.by_index),
     )
 
 pub returns : goal.returns
-returns c = let l = c.loop-r in record { out_len = l.invariant.1; by_index = λ k h. l.invariant.2 k (omega arith) }
+returns c = let l = c.loop-r in record { out_len = l.invariant.0; by_index = λ k h. l.invariant.1 k (omega arith) }

@@ -1,12 +1,9 @@
-use Rattle.std.proofs.Common.{◌≡◌, ℕ, ◌≤◌, ◌<◌, ◌-◌, ◌+◌, ◌*◌, length, get_or}
+use Rattle.std.proofs.Common.{◌≡◌, ℕ, ◌<◌, ◌+◌, ◌*◌, length, get_or}
 use Rattle.code_engine.specs.Elimination.{entry}
 use Rattle.block_laws.specs.Group.{masked}
 use Rattle.block_rows.proofs.pack.Given as goal
 
 abbrev pub invariant-loop-r : goal.invariant-loop-r
 invariant-loop-r l =
-    (l.r ≤ 4) × (length l.out ≡ 4 * length l.bound) × ((k : ℕ) → k < l.r → (j : ℕ) → j < length l.bound
+    (length l.out ≡ 4 * length l.bound) × ((k : ℕ) → k < l.r → (j : ℕ) → j < length l.bound
     → get_or l.out (k * length l.bound + j) 0 ≡ masked l.bound (entry l.rows k) j)
-
-abbrev pub decreases-loop-r : goal.decreases-loop-r
-decreases-loop-r l = 4 - l.r

@@ -29,8 +29,8 @@ far m g w n l h =
 pub overflow_mul-a : goal.overflow_mul-a
 overflow_mul-a c = let h = own c.args.g (length c.args.bound.now) (omega arith) c.requires.in_bounds.1 in omega arith
 
-pub overflow_add-e : goal.overflow_add-e
-overflow_add-e c = let h = own c.args.g (length c.args.bound.now) (omega arith) c.requires.in_bounds.1 in omega arith
+pub overflow_add-a : goal.overflow_add-a
+overflow_add-a c = let h = own c.args.g (length c.args.bound.now) (omega arith) c.requires.in_bounds.1 in omega arith
 
 pub slice_bounds-pack_row-end : goal.slice_bounds-pack_row-end
 slice_bounds-pack_row-end c = let h = own c.args.g (length c.args.bound.now) (omega arith) c.requires.in_bounds.1 in omega arith
@@ -38,8 +38,8 @@ slice_bounds-pack_row-end c = let h = own c.args.g (length c.args.bound.now) (om
 pub overflow_mul-b : goal.overflow_mul-b
 overflow_mul-b c = let h = far c.args.m c.args.g (length c.args.bound.now) (omega arith) (omega arith) c.requires.in_bounds.1 in omega arith
 
-pub overflow_add-f : goal.overflow_add-f
-overflow_add-f c = let h = far c.args.m c.args.g (length c.args.bound.now) (omega arith) (omega arith) c.requires.in_bounds.1 in omega arith
+pub overflow_add-b : goal.overflow_add-b
+overflow_add-b c = let h = far c.args.m c.args.g (length c.args.bound.now) (omega arith) (omega arith) c.requires.in_bounds.1 in omega arith
 
 pub slice_bounds-pack_row-end-2 : goal.slice_bounds-pack_row-end-2
 slice_bounds-pack_row-end-2 c =

@@ -1,11 +1,8 @@
-use Rattle.std.proofs.Common.{refl, ap₂, ◌∙◌, List, ℕ, ◌+◌, ◌<◌, length, get_or, length-set, arith}
+use Rattle.std.proofs.Common.{ap₂, ◌∙◌, List, ℕ, ◌+◌, ◌<◌, length, get_or, length-set, arith}
 use Rattle.binary_field.specs.Xor.{◌⊕◌}
 use Rattle.binary_field.specs.XorLaws.{⊕-bits}
 use Rattle.block_tables.specs.StoreLaws.{stored_here, stored-below, stored-above}
 use Rattle.block_sums.proofs.add_rows.Goals as goal
-
-pub loop-i-init : goal.loop-i-init
-loop-i-init c = (omega arith, refl, (λ j l. absurd (omega arith)), (λ k l. refl), λ k l. refl)
 
 pub loop-i-preserved : goal.loop-i-preserved
 loop-i-preserved c =
@@ -13,21 +10,11 @@ loop-i-preserved c =
     let a = c.args in
     let x : List ℕ = l.t in
     let w : a.b + l.i < length x = omega arith in (
-      omega arith,
-      simp length-set l.invariant.1,
+      simp length-set l.invariant.0,
       stored_here x a.b l.i _ (λ j. get_or a.t.now (a.a1 + j) 0 ⊕ get_or a.t.now (a.a2 + j) 0) w
           (⊕-bits (get_or x (a.a1 + l.i) 0) (get_or x (a.a2 + l.i) 0)
-          ∙ ap₂ ◌⊕◌ (l.invariant.3 (a.a1 + l.i) (omega arith)) (l.invariant.3 (a.a2 + l.i) (omega arith)))
-          l.invariant.2,
-      (λ k h. stored-below x a.b l.i _ k h ∙ l.invariant.3 k h),
-      λ k h. stored-above x a.b l.i _ k h ∙ l.invariant.4 k (omega arith),
+          ∙ ap₂ ◌⊕◌ (l.invariant.2 (a.a1 + l.i) (omega arith)) (l.invariant.2 (a.a2 + l.i) (omega arith)))
+          l.invariant.1,
+      (λ k h. stored-below x a.b l.i _ k h ∙ l.invariant.2 k h),
+      λ k h. stored-above x a.b l.i _ k h ∙ l.invariant.3 k (omega arith),
     )
-
-pub returns : goal.returns
-returns c =
-    let l = c.loop-i in record {
-      long = l.invariant.1;
-      here = λ i h. l.invariant.2 i (omega arith);
-      below = l.invariant.3;
-      above = λ k h. l.invariant.4 k (omega arith);
-    }

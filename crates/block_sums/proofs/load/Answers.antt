@@ -1,20 +1,7 @@
-use Rattle.std.proofs.Common.{pow_pos, ◌≡◌, refl, sym, ap, ◌∙◌, List, ℕ, ◌+◌, ◌*◌, ◌^◌, ◌≤◌, ◌<◌, pow-suc, add-one, pow_mono, get_or, arith}
+use Rattle.std.proofs.Common.{pow_pos, ◌≡◌, sym, ap, ◌∙◌, List, ℕ, ◌+◌, ◌*◌, ◌^◌, ◌≤◌, ◌<◌, pow-suc, add-one, pow_mono, get_or, arith}
 use native.Mathlib.Decide.{ℕ_discrete}
 use lib.Pow.{pow-lt}
 use Rattle.block_sums.proofs.load.Goals as goal
-
-pub loop-e-init : goal.loop-e-init
-loop-e-init c = (omega arith, refl, refl, (λ f i l. absurd (omega arith)), λ i l. refl)
-
-pub overflow_mul-e : goal.overflow_mul-e
-overflow_mul-e c =
-    let p = c.requires.by_index c.loop-e.e (omega arith) (omega arith) in
-    omega arith
-
-pub overflow_add-at : goal.overflow_add-at
-overflow_add-at c =
-    let p = c.requires.by_index c.loop-e.e (omega arith) (omega arith) in
-    omega arith
 
 pub copy_part-requires : goal.copy_part-requires
 copy_part-requires c =
@@ -22,16 +9,9 @@ copy_part-requires c =
     let p = c.requires.by_index l.e (omega arith) (omega arith) in
     let q : l.e ≤ 3 = omega arith in
     let m : 2 ^ l.e ≤ 2 ^ 3 = pow_mono q in
-    let t = l.invariant.2 in
+    let t = l.invariant.1 in
     let u = c.requires.n_bound.1 in
     record { t_len_bound = (omega arith, c.requires.n_bound.2); n_in_bounds = (p, omega arith) }
-
-pub overflow_mul-h : goal.overflow_mul-h
-overflow_mul-h c =
-    let l = c.loop-e in
-    let q : l.e ≤ 3 = omega arith in
-    let m : 2 ^ l.e ≤ 2 ^ 3 = pow_mono q in
-    omega arith
 
 pub loop-e-preserved : goal.loop-e-preserved
 loop-e-preserved c =
@@ -41,24 +21,15 @@ loop-e-preserved c =
     let x : List ℕ = c.copy_part.new.t in
     let n = c.requires.n_bound.0 in
     let z : 0 < 2 ^ l.e = pow_pos l.e in (
-      omega arith,
       (let p = pow-suc 2 l.e in
           let q : 2 ^ l.e * 96 * 2 ≡ 2 ^ l.e * 2 * 96 = omega arith in
-          ap (λ k. k * 2) l.invariant.1 ∙ q ∙ ap (λ k. k * 96) (sym p ∙ ap (λ k. 2 ^ k) (sym (add-one l.e)))),
-      m.long ∙ l.invariant.2,
+          ap (λ k. k * 2) l.invariant.0 ∙ q ∙ ap (λ k. k * 96) (sym p ∙ ap (λ k. 2 ^ k) (sym (add-one l.e)))),
+      m.long ∙ l.invariant.1,
       (λ f i h b. elim (ℕ_discrete f l.e) [
-        | yes q ↦ (rw q (ap (λ k. get_or x (k + i) 0) (sym l.invariant.1) ∙ m.here i b))
+        | yes q ↦ (rw q (ap (λ k. get_or x (k + i) 0) (sym l.invariant.0) ∙ m.here i b))
         | no q ↦
             (let p : 2 ^ f < 2 ^ l.e = pow-lt (let r : f < l.e = omega arith in r) in
-            m.below (2 ^ f * 96 + i) (omega arith) ∙ l.invariant.3 f i (omega arith) b)
+            m.below (2 ^ f * 96 + i) (omega arith) ∙ l.invariant.2 f i (omega arith) b)
       ]),
-      λ i h. m.below i (omega arith) ∙ l.invariant.4 i h,
+      λ i h. m.below i (omega arith) ∙ l.invariant.3 i h,
     )
-
-pub returns : goal.returns
-returns c =
-    let l = c.loop-e in record {
-      long = l.invariant.2;
-      zero = l.invariant.4;
-      here = λ e i h k b. l.invariant.3 e i (omega arith) b;
-    }

@@ -1,10 +1,8 @@
-use Rattle.std.proofs.Common.{◌≡◌, ℕ, ◌+◌, ◌*◌, ◌-◌, ◌^◌, ◌≤◌, ◌<◌, length, get_or}
+use Rattle.std.proofs.Common.{◌≡◌, ℕ, ◌+◌, ◌*◌, ◌^◌, ◌<◌, length, get_or}
 use Rattle.block_sums.proofs.load.Given as goal
 
 abbrev pub invariant-loop-e : goal.invariant-loop-e
 invariant-loop-e l =
-    (l.e ≤ l.few) × (l.h ≡ 2 ^ l.e * 96) × (length l.t ≡ length l.initial.t) × ((f i : ℕ) → f < l.e → i < l.n → get_or l.t (2 ^ f * 96 + i) 0 ≡ get_or l.blocks (l.at + f * l.size + i) 0)
+    (l.h ≡ 2 ^ l.e * 96) × (length l.t ≡ length l.initial.t)
+    × ((f i : ℕ) → f < l.e → i < l.n → get_or l.t (2 ^ f * 96 + i) 0 ≡ get_or l.blocks (l.at + f * l.size + i) 0)
     × ((i : ℕ) → i < 96 → get_or l.t i 0 ≡ get_or l.initial.t i 0)
-
-abbrev pub decreases-loop-e : goal.decreases-loop-e
-decreases-loop-e l = l.few - l.e

@@ -4,21 +4,6 @@ use native.Mathlib.Decide.{ℕ_discrete}
 use Rattle.block_tables.specs.StoreLaws.{lent-long, back_long, back-here, back_below, back_above}
 use Rattle.block_sums.proofs.make_tables.Goals as goal
 
-pub loop-s-init : goal.loop-s-init
-loop-s-init c = (omega arith, c.requires.n_bound.2, c.requires.tables, λ q e i l. absurd (omega arith))
-
-pub overflow_mul-j-in-loop-s : goal.overflow_mul-j-in-loop-s
-overflow_mul-j-in-loop-s c =
-    let l = c.loop-s in
-    let p = c.requires.by_index (l.s * 4) (omega arith) in
-    omega arith
-
-pub overflow_add-at : goal.overflow_add-at
-overflow_add-at c =
-    let l = c.loop-s in
-    let p = c.requires.by_index (l.s * 4) (omega arith) in
-    omega arith
-
 pub make_table-requires : goal.make_table-requires
 make_table-requires c =
     let l = c.loop-s in
@@ -29,7 +14,7 @@ make_table-requires c =
           let p = c.requires.by_index (l.s * 4 + e) (omega arith) in
           let q : (l.s * 4 + e) * size ≡ l.s * 4 * size + e * size = add-mul (l.s * 4) e size in
           omega arith);
-      table = table-lent l.t l.s fit (omega arith) l.invariant.2;
+      table = table-lent l.t l.s fit (omega arith) l.invariant.1;
     }
 
 pub loop-s-preserved : goal.loop-s-preserved
@@ -47,9 +32,8 @@ loop-s-preserved c =
     let here = back-here 1536 l.s x fit part m.long in
     let below = back_below 1536 l.s x fit part m.long in
     let above = back_above 1536 l.s x fit part m.long in (
-      omega arith,
-      back_long 1536 l.s x fit part m.long ∙ l.invariant.1,
-      tables-with l.s k x part y l.invariant.2 m.table here below above,
+      back_long 1536 l.s x fit part m.long ∙ l.invariant.0,
+      tables-with l.s k x part y l.invariant.1 m.table here below above,
       λ q e i h b d f. elim (ℕ_discrete q l.s) [
         | yes z ↦ (rw z
             (let p : e ≤ 3 = omega arith in
@@ -61,15 +45,7 @@ loop-s-preserved c =
             (let p : e ≤ 3 = omega arith in
             let n : 2 ^ e ≤ 2 ^ 3 = pow_mono p in
             let u : i < 96 = omega arith in
-            stays l.s k x part y l.invariant.2 m.table here below above q (2 ^ e * 96 + i) z (omega arith)
-            ∙ l.invariant.3 q e i (omega arith) b d f)
+            stays l.s k x part y l.invariant.1 m.table here below above q (2 ^ e * 96 + i) z (omega arith)
+            ∙ l.invariant.2 q e i (omega arith) b d f)
       ],
     )
-
-pub returns : goal.returns
-returns c =
-    let l = c.loop-s in record {
-      long = l.invariant.1;
-      tables = l.invariant.2;
-      here = λ s e i h b d f. l.invariant.3 s e i (omega arith) b d f;
-    }

@@ -4,9 +4,6 @@ use Rattle.block_tables.specs.SelectorLaws.{selector-past}
 use Rattle.block_tables.specs.Table.{selector_at}
 use Rattle.block_tables.proofs.row_selectors.Goals as goal
 
-pub loop-s-init : goal.loop-s-init
-loop-s-init c = (omega arith, omega arith, (λ j l. absurd (omega arith)), λ j l b. c.requires.by_index j b)
-
 pub loop-s-preserved : goal.loop-s-preserved
 unfolding selector_at
 loop-s-preserved c =
@@ -14,13 +11,11 @@ loop-s-preserved c =
     let i : ℕ = l.s in
     let w : i < length l.found = omega arith in
     let value : c.selector.result ≡ selector_at c.args.k.now i = cc in (
-      omega arith,
-      simp length-set l.invariant.1,
       (λ j h. elim (ℕ_discrete j i) [
         | yes e ↦ (rw e (get_or-set_same l.found i _ 0 w ∙ value))
-        | no e ↦ get_or-set_other l.found i j _ 0 e ∙ l.invariant.2 j (omega arith)
+        | no e ↦ get_or-set_other l.found i j _ 0 e ∙ l.invariant.0 j (omega arith)
       ]),
-      λ j h b. get_or-set_other l.found i j _ 0 (λ e. omega arith) ∙ l.invariant.3 j (omega arith) b,
+      λ j h b. get_or-set_other l.found i j _ 0 (λ e. omega arith) ∙ l.invariant.1 j (omega arith) b,
     )
 
 pub returns : goal.returns
@@ -28,6 +23,6 @@ returns c =
     let l = c.loop-s in
     let k : List ℕ = c.args.k.now in
     λ s h. elim (dec_lt s l.s) [
-      | yes e ↦ l.invariant.2 s e
-      | no e ↦ l.invariant.3 s (omega arith) h ∙ sym (selector-past k s (omega arith))
+      | yes e ↦ l.invariant.0 s e
+      | no e ↦ l.invariant.1 s (omega arith) h ∙ sym (selector-past k s (omega arith))
     ]

@@ -6,16 +6,15 @@ use Rattle.block_tables.specs.Table.{selector_at}
 use Rattle.block_tables.proofs.selectors_of.Goals as goal
 
 pub loop-r-init : goal.loop-r-init
-loop-r-init c = (omega arith, refl, (λ k s l. absurd (omega arith)), λ j l. zeros-at 240 j)
+loop-r-init c = (refl, (λ k s l. absurd (omega arith)), λ j l. zeros-at 240 j)
 
-pub overflow_mul-a : goal.overflow_mul-a
-overflow_mul-a c =
-    let e = row-end c.loop-r.r c.args.rows c.args.count _ (omega arith) c.requires.2 in
+pub overflow_add-a : goal.overflow_add-a
+overflow_add-a c =
     let f = row-end c.loop-r.r c.args.rows c.args.count _ (omega arith) (mul-le-mul c.requires.1 c.requires.0) in
     omega arith
 
-pub overflow_add-e : goal.overflow_add-e
-overflow_add-e c =
+pub overflow_mul-a : goal.overflow_mul-a
+overflow_mul-a c =
     let f = row-end c.loop-r.r c.args.rows c.args.count _ (omega arith) (mul-le-mul c.requires.1 c.requires.0) in
     omega arith
 
@@ -29,7 +28,7 @@ row_selectors-requires c =
     let x : List ℕ = c.loop-r.found in
     let e = row-end c.loop-r.r c.args.rows c.args.count _ (omega arith) c.requires.2 in
     let l = lent-long c.args.count c.loop-r.r c.args.constants.now e in
-    let k = lent-long 60 c.loop-r.r x (omega arith) in record { k_len_bound = (omega arith, k); by_index = λ j h. lent_at 60 c.loop-r.r x (omega arith) j h ∙ c.loop-r.invariant.3 (c.loop-r.r * 60 + j) (omega arith) }
+    let k = lent-long 60 c.loop-r.r x (omega arith) in record { k_len_bound = (omega arith, k); by_index = λ j h. lent_at 60 c.loop-r.r x (omega arith) j h ∙ c.loop-r.invariant.2 (c.loop-r.r * 60 + j) (omega arith) }
 
 pub loop-r-preserved : goal.loop-r-preserved
 loop-r-preserved c =
@@ -41,15 +40,14 @@ loop-r-preserved c =
     let k = lent-long 60 l.r x fit in
     let size : length part ≡ 60 = omega arith in
     let m = c.row_selectors.ensures in (
-      omega arith,
-      back_long 60 l.r x fit part size ∙ l.invariant.1,
+      back_long 60 l.r x fit part size ∙ l.invariant.0,
       (λ k j h b. elim (ℕ_discrete k l.r) [
         | yes e ↦ (rw e (back-here 60 l.r x fit part size j b ∙ m j b ∙ ap (λ q. selector_at q j) (stretch-lent a.count l.r a.constants.now)))
-        | no e ↦ back_below 60 l.r x fit part size (k * 60 + j) (omega arith) ∙ l.invariant.2 k j (omega arith) b
+        | no e ↦ back_below 60 l.r x fit part size (k * 60 + j) (omega arith) ∙ l.invariant.1 k j (omega arith) b
       ]),
-      λ j h. back_above 60 l.r x fit part size j (omega arith) ∙ l.invariant.3 j (omega arith),
+      λ j h. back_above 60 l.r x fit part size j (omega arith) ∙ l.invariant.2 j (omega arith),
     )
 
 pub returns : goal.returns
 returns c =
-    let l = c.loop-r in record { each = λ r s h b. l.invariant.2 r s (omega arith) b }
+    let l = c.loop-r in record { each = λ r s h b. l.invariant.1 r s (omega arith) b }

@@ -23,4 +23,6 @@ overflow_add-result c =
 
 pub returns : goal.returns
 returns c =
-    ap₂ (λ a b. a * 65536 + b) c.half.ensures c.half-2.ensures ∙ spaced-halves c.args.k (omega arith)
+    let k : ℕ = c.args.k in
+    let e = ap₂ (λ a b. a * 65536 + b) c.half.ensures c.half-2.ensures ∙ spaced-halves k (omega arith) in
+    (e, rw e (spaced-8 k))

@@ -1,11 +1,6 @@
 use Rattle.std.proofs.Common.{◌∙◌, List, ℕ, arith}
-use Rattle.byte_edition.specs.Rows.{power_rows}
 use Rattle.byte_edition.proofs.Laws.{ones-sum}
 use Rattle.byte_edition.proofs.plain_sum.Goals as goal
-
-pub returns-then-part-gt16 : goal.returns-then-part-gt16
-unfolding power_rows
-returns-then-part-gt16 c = c.dot.ensures
 
 pub returns-else-part-gt16 : goal.returns-else-part-gt16
 returns-else-part-gt16 c =

@@ -1,25 +1,6 @@
-use Rattle.std.proofs.Common.{arith, take, length-take, length-drop}
-use Rattle.code_engine.specs.CandidateStepsLaws.{stretch-end}
+use Rattle.std.proofs.Common.{arith, take, length-take}
 use Rattle.code_loops.specs.DirectionsLaws.{add-lent}
 use Rattle.candidate.proofs.add_direction.Goals as goal
-
-pub overflow_mul-a : goal.overflow_mul-a
-overflow_mul-a c = let a = c.args in omega (arith, stretch-end a.m a.w a.g (omega arith))
-
-pub overflow_add-e : goal.overflow_add-e
-overflow_add-e c = let a = c.args in omega (arith, stretch-end a.m a.w a.g (omega arith))
-
-pub slice_bounds-add_multiple-end : goal.slice_bounds-add_multiple-end
-slice_bounds-add_multiple-end c = simp length-take (omega arith)
-
-pub slice_bounds-add_multiple-end-2 : goal.slice_bounds-add_multiple-end-2
-slice_bounds-add_multiple-end-2 c = let a = c.args in omega (arith, stretch-end a.m a.w a.g (omega arith))
-
-pub add_multiple-requires : goal.add_multiple-requires
-add_multiple-requires c =
-    let a = c.args in
-    let e = stretch-end a.m a.w a.g (omega arith) in
-    simp (length-take, length-drop) (omega arith)
 
 pub returns : goal.returns
 returns c =

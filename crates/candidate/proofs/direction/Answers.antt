@@ -1,10 +1,7 @@
-use Rattle.std.proofs.Common.{arith, ◌≡◌, ◌∙◌, List, ℕ, ◌≤◌, length, set, replicate, length-take, length-set, length-take-le}
+use Rattle.std.proofs.Common.{arith, ◌≡◌, ◌∙◌, List, ℕ, ◌≤◌, length, set, replicate, length-set, length-take-le}
 use lib.ListN.{length-replicate}
 use Rattle.code_engine.specs.CandidateStepsLaws.{direction-filled, direction-after}
 use Rattle.candidate.proofs.direction.Goals as goal
-
-pub slice_bounds-fill-end : goal.slice_bounds-fill-end
-slice_bounds-fill-end c = simp (length-take, length-set) (omega arith)
 
 pub returns : goal.returns
 returns c =

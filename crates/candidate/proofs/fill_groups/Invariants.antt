@@ -1,10 +1,6 @@
-use Rattle.std.proofs.Common.{◌-◌}
 use Rattle.byte_edition.specs.Edition.{byte_edition}
 use Rattle.code_loops.specs.FillGroups.{FillTurn}
 use Rattle.candidate.proofs.fill_groups.Given as goal
 
 abbrev pub invariant-loop-g : goal.invariant-loop-g
 invariant-loop-g l = FillTurn byte_edition l.m l.w l.c l.bound l.initial.base l.base l.g
-
-abbrev pub decreases-loop-g : goal.decreases-loop-g
-decreases-loop-g l = l.m - l.g

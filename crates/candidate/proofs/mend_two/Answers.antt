@@ -1,4 +1,4 @@
-use Rattle.std.proofs.Common.{ap, ◌∙◌, ◌*◌, length, take}
+use Rattle.std.proofs.Common.{ap, ◌∙◌, ◌*◌, length}
 use Rattle.code_engine.specs.SolvedLaws.{combined-length}
 use Rattle.byte_edition.specs.Edition.{byte_edition}
 use Rattle.byte_edition.specs.EditionLaws.{bytes-sound}

@@ -1,25 +1,7 @@
 use Rattle.std.proofs.Common.{◌+◌, ◌-◌, ◌*◌, ◌/◌, drop, length-take, arith}
 use Rattle.code.specs.LentLaws.{stretch-lent}
-use Rattle.code_engine.specs.CandidateStepsLaws.{group-end, way_asked, way-given}
+use Rattle.code_engine.specs.CandidateStepsLaws.{way_asked, way-given}
 use Rattle.candidate.proofs.way.Goals as goal
-
-pub overflow_mul-a : goal.overflow_mul-a
-overflow_mul-a c =
-    let a = c.args in
-    let e = group-end a.m a.w a.c a.p c.requires.good_in c.requires.p_bound in
-    omega arith
-
-pub overflow_add-e : goal.overflow_add-e
-overflow_add-e c =
-    let a = c.args in
-    let e = group-end a.m a.w a.c a.p c.requires.good_in c.requires.p_bound in
-    omega arith
-
-pub slice_bounds-direction-end : goal.slice_bounds-direction-end
-slice_bounds-direction-end c =
-    let a = c.args in
-    let e = group-end a.m a.w a.c a.p c.requires.good_in c.requires.p_bound in
-    omega arith
 
 pub direction-requires : goal.direction-requires
 direction-requires c =

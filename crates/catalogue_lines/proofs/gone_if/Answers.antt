@@ -1,12 +1,21 @@
-use Rattle.std.proofs.Common.{sym, ◌∙◌}
+use Rattle.std.proofs.Common.{◌≡◌, ◌<◌, sym, ◌∙◌, arith}
 use Rattle.catalogue_lines.proofs.Steps.{gone-zero, gone-high, gone-good}
 use Rattle.catalogue_lines.proofs.gone_if.Goals as goal
 
-pub returns-then-revision-eq0 : goal.returns-then-revision-eq0
-returns-then-revision-eq0 c = let a = c.args in c.unread.ensures ∙ sym (gone-zero a.size a.revision c.if-revision-eq0.true)
+pub returns-in_default : goal.returns-in_default
+returns-in_default c =
+    let a = c.args in
+    let high : a.revision < 65536 → ⊥ = c.in_default.ensures in
+    sym (gone-high a.size a.revision (omega arith))
 
-pub returns-then-revision-gt65535 : goal.returns-then-revision-gt65535
-returns-then-revision-gt65535 c = let a = c.args in c.unread-then-revision-gt65535.ensures ∙ sym (gone-high a.size a.revision c.if-revision-gt65535.true)
+pub returns-then-revision-eq0 : goal.returns-then-revision-eq0
+returns-then-revision-eq0 c =
+    let a = c.args in
+    let k : (a.revision < 65536) × (c.in-Ok.revision ≡ a.revision) = c.in-Ok.ensures in
+    sym (gone-zero a.size a.revision (sym k.1 ∙ c.if-revision-eq0.true))
 
 pub returns : goal.returns
-returns c = let a = c.args in sym (gone-good a.size a.revision c.if-revision-eq0.false c.if-revision-gt65535.false)
+returns c =
+    let a = c.args in
+    let k : (a.revision < 65536) × (c.in-Ok.revision ≡ a.revision) = c.in-Ok.ensures in
+    rw k.1 (sym (gone-good a.size a.revision (λ z. c.if-revision-eq0.false (k.1 ∙ z)) (omega arith)))

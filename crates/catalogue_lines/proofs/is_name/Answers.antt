@@ -1,32 +1,20 @@
-use Rattle.std.proofs.Common.{arith, refl, sym, ◌∙◌}
-use Rattle.catalogue_lines.proofs.Steps.{name-more, name-stop, name-end, name-none, name-long, name-bytes}
+use Rattle.std.proofs.Common.{arith, refl, rules, sym, ◌∙◌}
+use Rattle.std.proofs.lemmas.List.Recursion.{and_is}
+use Rattle.catalogue_text.specs.Names.{name_byte, name_bytes}
+use Rattle.catalogue_lines.proofs.Steps.{name-none, name-long, name-bytes}
 use Rattle.catalogue_lines.proofs.is_name.Goals as goal
+use Rattle.catalogue_lines.proofs.is_name.Goals.{then-is_empty-via-then-is_empty, then-is_empty-via-else-is_empty+then-name-gt16}
 
-pub returns-then-name-eq0 : goal.returns-then-name-eq0
-returns-then-name-eq0 c = sym (name-none _ c.if-name-eq0.true)
-
-pub returns-then-name-gt16 : goal.returns-then-name-gt16
-returns-then-name-gt16 c = sym (name-long _ c.if-name-gt16.true)
-
-pub loop-i-init : goal.loop-i-init
-loop-i-init c = (omega arith, c.if-name-eq0.false, omega arith, refl)
-
-pub returns-then-not-is_name_byte : goal.returns-then-not-is_name_byte
-returns-then-not-is_name_byte c =
-    let l = c.loop-i in
-    let n = c.args.name.now in
-    let r = c.is_name_byte in
-    sym (name-bytes n l.invariant.1 l.invariant.2 ∙ sym l.invariant.3 ∙ name-stop n l.i (omega arith) (sym r.ensures ∙ c.if-not-is_name_byte.true))
-
-pub loop-i-preserved : goal.loop-i-preserved
-loop-i-preserved c =
-    let l = c.loop-i in
-    let n = c.args.name.now in
-    let r = c.is_name_byte in
-    (omega arith, l.invariant.1, l.invariant.2, name-more n l.i (omega arith) (sym r.ensures ∙ c.if-not-is_name_byte.false) ∙ l.invariant.3)
+pub returns-then-is_empty : goal.returns-then-is_empty
+returns-then-is_empty c =
+    elim c.then-is_empty.branch [
+      | then-is_empty-via-then-is_empty w ↦ sym (name-none c.args.name.now (grind arith))
+      | then-is_empty-via-else-is_empty+then-name-gt16 w ↦ sym (name-long c.args.name.now (omega arith))
+    ]
 
 pub returns : goal.returns
+unfolding name_bytes
 returns c =
-    let l = c.loop-i in
     let n = c.args.name.now in
-    sym (name-bytes n l.invariant.1 l.invariant.2 ∙ sym l.invariant.3 ∙ name-end n l.i (omega arith))
+    and_is name_bytes name_byte refl (λ _ _. refl) n 0 c.all.result (search rules) (search rules)
+    ∙ sym (name-bytes n (grind arith) c.if-name-gt16.false)

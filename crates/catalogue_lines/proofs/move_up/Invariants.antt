@@ -1,10 +1,7 @@
-use Rattle.std.proofs.Common.{length, take, drop, ◌+◌, ◌-◌, ◌≤◌, ◌≡◌}
+use Rattle.std.proofs.Common.{take, drop, ◌+◌, ◌-◌, ◌≤◌, ◌≡◌}
 use Rattle.text.specs.Written.{written}
 use Rattle.catalogue_lines.proofs.move_up.Given as goal
 
 abbrev pub invariant-loop-i : goal.invariant-loop-i
 invariant-loop-i l =
-    (l.from ≤ l.i) × (l.i ≤ l.end) × (l.j ≡ l.to + (l.i - l.from)) × (length l.buffer ≡ length l.initial.buffer) × (l.buffer ≡ written l.initial.buffer l.j (take (l.end - l.i) (drop l.i l.initial.buffer)))
-
-abbrev pub decreases-loop-i : goal.decreases-loop-i
-decreases-loop-i l = l.i
+    (l.from ≤ l.i) × (l.buffer ≡ written l.initial.buffer (l.to + (l.i - l.from)) (take (l.end - l.i) (drop l.i l.initial.buffer)))

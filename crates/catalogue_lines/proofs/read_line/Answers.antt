@@ -1,11 +1,8 @@
-use Rattle.std.proofs.Common.{length-take-le, arith, true, false, ◌≡◌, sym, ◌∙◌}
+use Rattle.std.proofs.Common.{true, false, ◌≡◌, sym, ◌∙◌}
 use Rattle.catalogue_lines.specs.ReadingLaws.{name-taken, line-unnamed, read-gone, read-rest}
 use Rattle.catalogue_text.specs.Names.{good_name}
 use Rattle.text.specs.Records.{line_name}
 use Rattle.catalogue_lines.proofs.read_line.Goals as goal
-
-pub slice_bounds-is_name-end : goal.slice_bounds-is_name-end
-slice_bounds-is_name-end c = sym (length-take-le c.part_end-size.result c.args.line.now (omega arith))
 
 pub returns-then-not-is_name : goal.returns-then-not-is_name
 returns-then-not-is_name c =
@@ -14,7 +11,7 @@ returns-then-not-is_name c =
     let r = c.is_name in
     let e = c.if-not-is_name.true in
     let n : good_name (line_name line) ≡ false = cc (name-taken line, r.ensures) in
-    c.unread.ensures ∙ sym (line-unnamed line n)
+    sym (line-unnamed line n)
 
 pub returns-then-is_gone : goal.returns-then-is_gone
 returns-then-is_gone c =
@@ -39,7 +36,7 @@ returns-then-c-line c =
     let named : good_name (line_name line) ≡ true = cc (name-taken line, r.ensures) in
     let rest = read-rest line p.result v.result size v.ensures.value (sym c.is_gone.ensures ∙ c.if-is_gone.false) _ _ _
     c.field_after-m.ensures.value c.field_after-w.ensures.value c.field_after-c.ensures.value named in
-    c.unread-then-c-line.ensures ∙ sym (rest.0 c.if-c-line.true)
+    sym (rest.0 c.if-c-line.true)
 
 pub returns : goal.returns
 returns c =

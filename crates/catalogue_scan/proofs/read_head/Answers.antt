@@ -1,40 +1,29 @@
-use Rattle.std.proofs.Common.{ℕ, true, false, List, take, length-take-le, arith, ◌≡◌, sym, ◌∙◌}
-use Rattle.catalogue_scan.proofs.Steps.{one-test, head-one, head-named, head-short, head-high, head-two}
-use Rattle.text.specs.Fields.{same}
+use Rattle.std.proofs.Common.{false, ap, ◌≡◌, ◌<◌, sym, ◌∙◌, arith}
+use Rattle.catalogue_scan.proofs.Steps.{one-test, head-one, head-named, head-high, head-two}
+use Rattle.text.specs.Decimal.{number_of}
 use Rattle.catalogue_text.specs.Catalogue.{is_one}
-use Rattle.catalogue_text.specs.CatalogueLaws.{two_name}
 use Rattle.catalogue_scan.proofs.read_head.Goals as goal
 
 pub returns-then-is_same : goal.returns-then-is_same
 returns-then-is_same c =
     let line = c.args.line.now in sym (head-one line (one-test line ∙ sym c.is_same.ensures ∙ c.if-is_same.true))
 
-pub returns-then-line-lt9 : goal.returns-then-line-lt9
-returns-then-line-lt9 c =
+pub returns-in_err-digits : goal.returns-in_err-digits
+returns-in_err-digits c =
     let two : is_one c.args.line.now ≡ false = one-test c.args.line.now ∙ sym c.is_same.ensures ∙ c.if-is_same.false in
-    sym (head-short c.args.line.now two (omega arith))
+    let h = c.in_err-digits.ensures in
+    c.from_residual.ensures ∙ sym (head-named c.args.line.now two h.cases)
 
-pub slice_bounds-is_same-end-2 : goal.slice_bounds-is_same-end-2
-slice_bounds-is_same-end-2 c = sym (length-take-le 9 c.args.line.now (omega arith))
-
-pub returns-then-not-is_same : goal.returns-then-not-is_same
-returns-then-not-is_same c =
+pub returns-in_default : goal.returns-in_default
+returns-in_default c =
     let two : is_one c.args.line.now ≡ false = one-test c.args.line.now ∙ sym c.is_same.ensures ∙ c.if-is_same.false in
-    let lent : List ℕ = c.args.line.now in
-    sym (head-named lent two (sym c.is_same-2.ensures ∙ c.if-not-is_same.true))
-
-pub returns-then-floor-gt65535 : goal.returns-then-floor-gt65535
-returns-then-floor-gt65535 c =
-    let two : is_one c.args.line.now ≡ false = one-test c.args.line.now ∙ sym c.is_same.ensures ∙ c.if-is_same.false in
-    let lent : List ℕ = c.args.line.now in
-    let named : same (take 9 lent) two_name ≡ true = let r = c.is_same-2 in sym r.ensures ∙ c.if-not-is_same.false in
-    let r = c.number-floor in
-    sym (head-high lent two named (omega arith) r.result r.ensures.value c.if-floor-gt65535.true)
+    let h = c.in_ok-digits.ensures in
+    let high : c.number.result < 65536 → ⊥ = c.in_default.ensures in
+    sym (head-high c.args.line.now two h.cases.0 _ (sym (c.number.ensures.value ∙ ap (number_of 65536) h.cases.1)) (omega arith))
 
 pub returns : goal.returns
 returns c =
     let two : is_one c.args.line.now ≡ false = one-test c.args.line.now ∙ sym c.is_same.ensures ∙ c.if-is_same.false in
-    let lent : List ℕ = c.args.line.now in
-    let named : same (take 9 lent) two_name ≡ true = let r = c.is_same-2 in sym r.ensures ∙ c.if-not-is_same.false in
-    let r = c.number-floor in
-    sym (head-two lent two named (omega arith) r.result r.ensures.value c.if-floor-gt65535.false)
+    let h = c.in_ok-digits.ensures in
+    let k : (c.number.result < 65536) × (c.in-Ok.floor ≡ c.number.result) = c.in-Ok.ensures in
+    sym (head-two c.args.line.now two h.cases.0 _ (sym (k.1 ∙ c.number.ensures.value ∙ ap (number_of 65536) h.cases.1)) (omega arith))

@@ -1,8 +1,22 @@
-use Rattle.std.proofs.Common.{length, take, length-take-le, ◌≤◌, ◌<◌, arith, ◌≡◌, sym, ap, ◌∙◌, subst}
+use Rattle.std.proofs.Common.{Option, List, ℕ, length, take, length-take-le, ◌≤◌, ◌<◌, ◌⊎◌, inl, inr, arith, ◌≡◌, sym, ap, ◌∙◌, subst}
+use Rattle.catalogue_scan.specs.declared.Head.{Head}
 use Rattle.catalogue_scan.specs.Places.{read_head}
 use Rattle.catalogue_scan.specs.ScanLaws.{scan-endless, scan-headless, head-size, lines-bad, scan-gone, scan-found}
 use Rattle.text.specs.Fields.{end_of}
 use Rattle.catalogue_scan.proofs.scan.Goals as goal
+
+-- the first line ends at the first line feed
+headed : (text : List ℕ) (end : ℕ) (head h : Option Head) → end ≡ end_of 10 0 text → head ≡ read_head (take end text) → head ≡ h
+    → read_head (take (end_of 10 0 text) text) ≡ h
+headed text end head h e is was = sym (is ∙ ap (λ x. read_head (take x text)) e) ∙ was
+
+inner : (text : List ℕ) (end : ℕ) → end ≡ end_of 10 0 text → end < length text → end_of 10 0 text < length text
+inner text end e l = subst (λ x. x < length text) e l
+
+-- version 1 has no gone line
+none : (version top : ℕ) → ((version ≡ 1) × (top ≡ 0)) ⊎ (version ≡ 1 → ⊥) → version ≡ 1 → top ≡ 0
+none version top (inl e) v = e.1
+none version top (inr n) v = absurd (n v)
 
 pub returns-then-text-end : goal.returns-then-text-end
 returns-then-text-end c =
@@ -15,57 +29,36 @@ pub slice_bounds-read_head-end : goal.slice_bounds-read_head-end
 slice_bounds-read_head-end c =
     sym (length-take-le c.part_end-end.result c.args.text.now (omega arith))
 
-pub returns-then-head-eq0 : goal.returns-then-head-eq0
-returns-then-head-eq0 c =
-    let headed : (let text = c.args.text.now in c.read_head-head.result ≡ read_head (take (end_of 10 0 text) text)) =
-    c.read_head-head.ensures ∙ ap (λ x. read_head (take x c.args.text.now)) c.part_end-end.ensures.end in
+pub returns-in_err-head : goal.returns-in_err-head
+returns-in_err-head c =
     let a = c.args in
-    sym (scan-headless a.text.now a.name.now c.read_head-head.result headed c.if-head-eq0.true)
+    let e = c.part_end-end.ensures.end in
+    c.from_residual.ensures ∙ sym (scan-headless a.text.now a.name.now (headed a.text.now _ _ _ e c.read_head.ensures c.in_err-head.was))
 
 pub scan_lines-requires : goal.scan_lines-requires
 scan_lines-requires c =
-    let headed : (let text = c.args.text.now in c.read_head-head.result ≡ read_head (take (end_of 10 0 text) text)) =
-    c.read_head-head.ensures ∙ ap (λ x. read_head (take x c.args.text.now)) c.part_end-end.ensures.end in
-    let inner : (let text = c.args.text.now in end_of 10 0 text < length text) =
-    subst (λ x. x < length c.args.text.now) c.part_end-end.ensures.end c.if-text-end.false in
     let a = c.args in
-    head-size a.text.now a.name.now inner c.read_head-head.result headed c.if-head-eq0.false
+    let e = c.part_end-end.ensures.end in
+    head-size a.text.now a.name.now (inner a.text.now _ e c.if-text-end.false) _ (headed a.text.now _ _ _ e c.read_head.ensures c.in_ok-head.was)
+
+pub returns-in_err-found : goal.returns-in_err-found
+returns-in_err-found c =
+    let a = c.args in
+    let e = c.part_end-end.ensures.end in
+    c.from_residual-in_err-found.ensures
+    ∙ sym (lines-bad a.text.now a.name.now (inner a.text.now _ e c.if-text-end.false) _ (headed a.text.now _ _ _ e c.read_head.ensures c.in_ok-head.was)
+    (sym c.scan_lines.ensures ∙ c.in_err-found.was))
 
 pub returns-then-found-ne0 : goal.returns-then-found-ne0
 returns-then-found-ne0 c =
-    let headed : (let text = c.args.text.now in c.read_head-head.result ≡ read_head (take (end_of 10 0 text) text)) =
-    c.read_head-head.ensures ∙ ap (λ x. read_head (take x c.args.text.now)) c.part_end-end.ensures.end in
-    let inner : (let text = c.args.text.now in end_of 10 0 text < length text) =
-    subst (λ x. x < length c.args.text.now) c.part_end-end.ensures.end c.if-text-end.false in
     let a = c.args in
-    sym (scan-gone a.text.now a.name.now inner c.read_head-head.result headed c.if-head-eq0.false
-    c.in-At.found (cc) c.if-head-eq1.true c.if-found-ne0.true)
+    let e = c.part_end-end.ensures.end in
+    sym (scan-gone a.text.now a.name.now (inner a.text.now _ e c.if-text-end.false) _ (headed a.text.now _ _ _ e c.read_head.ensures c.in_ok-head.was)
+    c.in_ok-found.found (sym c.scan_lines.ensures ∙ c.in_ok-found.was) c.if-head-eq1.true c.if-found-ne0.true)
 
-pub returns-in-Bad : goal.returns-in-Bad
-returns-in-Bad c =
-    let headed : (let text = c.args.text.now in c.read_head-head.result ≡ read_head (take (end_of 10 0 text) text)) =
-    c.read_head-head.ensures ∙ ap (λ x. read_head (take x c.args.text.now)) c.part_end-end.ensures.end in
-    let inner : (let text = c.args.text.now in end_of 10 0 text < length text) =
-    subst (λ x. x < length c.args.text.now) c.part_end-end.ensures.end c.if-text-end.false in
+pub returns : goal.returns
+returns c =
     let a = c.args in
-    sym (lines-bad a.text.now a.name.now inner c.read_head-head.result headed c.if-head-eq0.false (cc))
-
-pub returns-else-found-ne0 : goal.returns-else-found-ne0
-returns-else-found-ne0 c =
-    let headed : (let text = c.args.text.now in c.read_head-head.result ≡ read_head (take (end_of 10 0 text) text)) =
-    c.read_head-head.ensures ∙ ap (λ x. read_head (take x c.args.text.now)) c.part_end-end.ensures.end in
-    let inner : (let text = c.args.text.now in end_of 10 0 text < length text) =
-    subst (λ x. x < length c.args.text.now) c.part_end-end.ensures.end c.if-text-end.false in
-    let a = c.args in
-    scan-found a.text.now a.name.now inner c.read_head-head.result headed c.if-head-eq0.false
-    c.in-At.found (cc) (λ v. c.if-found-ne0.false)
-
-pub returns-else-head-eq1 : goal.returns-else-head-eq1
-returns-else-head-eq1 c =
-    let headed : (let text = c.args.text.now in c.read_head-head.result ≡ read_head (take (end_of 10 0 text) text)) =
-    c.read_head-head.ensures ∙ ap (λ x. read_head (take x c.args.text.now)) c.part_end-end.ensures.end in
-    let inner : (let text = c.args.text.now in end_of 10 0 text < length text) =
-    subst (λ x. x < length c.args.text.now) c.part_end-end.ensures.end c.if-text-end.false in
-    let a = c.args in
-    scan-found a.text.now a.name.now inner c.read_head-head.result headed c.if-head-eq0.false
-    c.in-At.found (cc) (λ v. absurd (c.if-head-eq1.false v))
+    let e = c.part_end-end.ensures.end in
+    scan-found a.text.now a.name.now (inner a.text.now _ e c.if-text-end.false) _ (headed a.text.now _ _ _ e c.read_head.ensures c.in_ok-head.was)
+    c.in_ok-found.found (sym c.scan_lines.ensures ∙ c.in_ok-found.was) (none _ _ c.else-head-eq1.either)

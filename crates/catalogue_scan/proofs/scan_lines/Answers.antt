@@ -1,4 +1,4 @@
-use Rattle.std.proofs.Common.{length, ◌+◌, ◌≤◌, sym, subst, arith}
+use Rattle.std.proofs.Common.{sym, ◌∙◌, subst, length, arith}
 use Rattle.catalogue_scan.proofs.Steps.{step-open, step-wrong, step-size, step_right, step_less}
 use Rattle.catalogue_scan.specs.ScanLaws.{Scanning, scan-start, scan-done}
 use Rattle.catalogue_scan.proofs.scan_lines.Goals as goal
@@ -26,36 +26,32 @@ slice_bounds-right_line-start c = let i = c.loop-at.invariant in i.order
 pub slice_bounds-right_line-end : goal.slice_bounds-right_line-end
 slice_bounds-right_line-end c = let i = c.loop-at.invariant in i.named
 
-pub returns-then-line-eq0 : goal.returns-then-line-eq0
-returns-then-line-eq0 c =
+pub returns-in_err-line : goal.returns-in_err-line
+returns-in_err-line c =
     let l = c.loop-at in
     let a = c.args in
     let p = c.part_end-end in
-    let r = c.right_line-line in
-    step-wrong a.text.now a.name.now a.first a.floor l.at l.from l.to l.place l.top l.invariant p.result p.ensures.end
-    (omega arith) r.result r.ensures c.if-line-eq0.true
+    c.from_residual.ensures
+    ∙ step-wrong a.text.now a.name.now a.first a.floor l.at l.from l.to l.place l.top l.invariant p.result p.ensures.end
+    (omega arith) (sym c.right_line.ensures ∙ c.in_err-line.was)
 
 pub overflow_add-to : goal.overflow_add-to
 overflow_add-to c =
-    let inside : c.loop-at.at + c.right_line-line.result.size ≤ c.part_end-end.result =
-    let r = c.right_line-line in
     let p = c.part_end-end in
     let l = c.loop-at in
     let a = c.args in
-    step-size a.text.now a.name.now a.first a.floor l.at l.from l.to l.place l.top l.invariant p.result p.ensures.end
-    c.if-text-end.false r.result r.ensures c.if-line-eq0.false in
-    let s = inside in omega arith
+    let s = step-size a.text.now a.name.now a.first a.floor l.at l.from l.to l.place l.top l.invariant p.result p.ensures.end
+    c.if-text-end.false _ (sym c.right_line.ensures ∙ c.in_ok-line.was) in
+    omega arith
 
 pub slice_bounds-place_next-end : goal.slice_bounds-place_next-end
 slice_bounds-place_next-end c =
-    let inside : c.loop-at.at + c.right_line-line.result.size ≤ c.part_end-end.result =
-    let r = c.right_line-line in
     let p = c.part_end-end in
     let l = c.loop-at in
     let a = c.args in
-    step-size a.text.now a.name.now a.first a.floor l.at l.from l.to l.place l.top l.invariant p.result p.ensures.end
-    c.if-text-end.false r.result r.ensures c.if-line-eq0.false in
-    let s = inside in omega arith
+    let s = step-size a.text.now a.name.now a.first a.floor l.at l.from l.to l.place l.top l.invariant p.result p.ensures.end
+    c.if-text-end.false _ (sym c.right_line.ensures ∙ c.in_ok-line.was) in
+    omega arith
 
 pub loop-at-smaller : goal.loop-at-smaller
 loop-at-smaller c =
@@ -68,10 +64,9 @@ loop-at-preserved c =
     let l = c.loop-at in
     let a = c.args in
     let p = c.part_end-end in
-    let r = c.right_line-line in
     step_right a.text.now a.name.now a.first a.floor l.at l.from l.to l.place l.top l.invariant p.result p.ensures.end
-    c.if-text-end.false r.result r.ensures
-    c.if-line-eq0.false c.place_next-place.result c.place_next-place.ensures
+    c.if-text-end.false _ (sym c.right_line.ensures ∙ c.in_ok-line.was)
+    c.place_next-place.result c.place_next-place.ensures
     c.larger_gone-top.result c.larger_gone-top.ensures
 
 pub returns : goal.returns

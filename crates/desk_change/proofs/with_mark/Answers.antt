@@ -36,7 +36,7 @@ bounds-lost-g-then-mark-eq1 c =
 pub overflow_add-excess : goal.overflow_add-excess
 overflow_add-excess c =
     let k = few c.args.job c.requires.0 c.args.place c.requires.1 in
-    let h = subst (λ x. x ≤ 1) (sym c.over-more.ensures) (one-most
+    let h = subst (λ x. x ≤ 1) (sym c.from-more.ensures) (one-most
     (ltb c.args.job.c (get_or c.args.job.lost (c.args.place / c.args.job.w) 0 + c.args.mark))) in
     omega arith
 
@@ -54,7 +54,7 @@ bounds-lost-g-else-mark-eq1 c =
 
 pub overflow_sub-excess : goal.overflow_sub-excess
 overflow_sub-excess c =
-    subst (λ x. x ≤ c.args.job.excess) (sym c.over-more.ensures)
+    subst (λ x. x ≤ c.args.job.excess) (sym c.from-more.ensures)
     (excess-found c.args.job c.requires.0 c.args.place c.requires.1 c.args.mark c.if-marks-place.false (cleared c))
 
 pub returns-then-mark-eq1 : goal.returns-then-mark-eq1
@@ -62,7 +62,7 @@ returns-then-mark-eq1 c =
     let j = c.args.job in
     let p = c.args.place in
     let v = c.args.mark in
-    ap (λ x. figured j (set j.marks p v) (set j.lost (p / j.w) (get_or j.lost (p / j.w) 0 + v)) (j.excess + x)) c.over-more.ensures
+    ap (λ x. figured j (set j.marks p v) (set j.lost (p / j.w) (get_or j.lost (p / j.w) 0 + v)) (j.excess + x)) c.from-more.ensures
     ∙ sym (set-lost j c.requires.0 p c.requires.1 v c.if-marks-place.false c.if-mark-eq1.true)
 
 pub returns-else-mark-eq1 : goal.returns-else-mark-eq1
@@ -70,5 +70,5 @@ returns-else-mark-eq1 c =
     let j = c.args.job in
     let p = c.args.place in
     let v = c.args.mark in
-    ap (λ x. figured j (set j.marks p v) (set j.lost (p / j.w) (get_or j.lost (p / j.w) 0 + v - 1)) (j.excess - x)) c.over-more.ensures
+    ap (λ x. figured j (set j.marks p v) (set j.lost (p / j.w) (get_or j.lost (p / j.w) 0 + v - 1)) (j.excess - x)) c.from-more.ensures
     ∙ sym (set_found j c.requires.0 p c.requires.1 v c.if-marks-place.false (cleared c))

@@ -1,18 +1,18 @@
-use Rattle.std.proofs.Common.{sym, ◌∙◌}
+use Rattle.std.proofs.Common.{sym}
+use Rattle.answers.specs.AnswersLaws.{passed}
 use Rattle.desk_record.specs.Refusal.{handle_refusal}
 use Rattle.desk_close.specs.Read.{read_of}
 use Rattle.desk_close.specs.ReadLaws.{reads-refused, reads-done}
 use Rattle.desk_close.proofs.read.Goals as goal
 
-pub returns-then-r-ne0 : goal.returns-then-r-ne0
+pub returns-in_err-handle_refusal : goal.returns-in_err-handle_refusal
 unfolding read_of
-returns-then-r-ne0 c =
+returns-in_err-handle_refusal c =
     let a = c.args in
-    let h = c.handle_refusal-r in
-    reads-refused (handle_refusal a.handle a.desk) a.handle a.desk h.result (sym h.ensures) c.if-r-ne0.true
+    rw (passed c.from_residual.ensures) (reads-refused (handle_refusal a.handle a.desk) a.handle a.desk _ c.in_err-handle_refusal.ensures)
 
 pub returns : goal.returns
 unfolding read_of
 returns c =
     let a = c.args in
-    reads-done (handle_refusal a.handle a.desk) a.handle a.desk (sym c.handle_refusal-r.ensures ∙ c.if-r-ne0.false)
+    reads-done (handle_refusal a.handle a.desk) a.handle a.desk (sym c.in_ok-handle_refusal.ensures)

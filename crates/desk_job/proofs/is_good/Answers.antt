@@ -1,17 +1,20 @@
-use Rattle.std.proofs.Common.{sym, ap, ◌*◌, ◌≤◌, mul-le-mul_left, le_of_lt, arith, rules, eqb}
+use Rattle.std.proofs.Common.{◌≡◌, refl, sym, ap, ◌∙◌, ◌*◌, ◌≤◌, mul-le-mul_left, le_of_lt, arith, rules, eqb, ne_eqb, Result, Ok, Err}
+use Rattle.std.specs.Result.{is_ok}
+use Rattle.answers.specs.declared.Refusal.{Refusal}
+use Rattle.answers.specs.Answers.{refusal_number, refused_number}
+use Rattle.answers.specs.AnswersLaws.{refusal-some}
 use Rattle.desk_job.specs.Jobs.{is_good}
 use Rattle.desk_job.specs.JobLaws.{large-job}
 use Rattle.desk_job.proofs.is_good.Goals as goal
 
-pub overflow_mul-n : goal.overflow_mul-n
-overflow_mul-n c =
-    let j = c.args.job in
-    let l : j.m * j.w ≤ j.m * 256 = mul-le-mul_left j.m (le_of_lt (search rules)) in
-    omega arith
-
 pub returns-then-n-gt-MAX_PLACES : goal.returns-then-n-gt-MAX_PLACES
 returns-then-n-gt-MAX_PLACES c = sym (large-job c.args.job c.if-n-gt-MAX_PLACES.true)
 
+-- whether an answer is no refusal, by its number
+ok-number : (r : Result Unit Refusal) → is_ok r ≡ eqb (refused_number r) 0
+ok-number (Ok tt) = refl
+ok-number (Err e) = sym (ne_eqb (refusal_number e) 0 (refusal-some e))
+
 pub returns : goal.returns
 unfolding is_good
-returns c = ap (λ n. eqb n 0) c.judged.ensures
+returns c = c.is_ok.ensures.value ∙ ok-number c.judged.result ∙ ap (λ n. eqb n 0) c.judged.ensures

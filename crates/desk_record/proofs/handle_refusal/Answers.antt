@@ -1,27 +1,25 @@
-use Rattle.std.proofs.Common.{◌≡◌, sym, ap₂, ◌∙◌, true, false, not}
-use Rattle.code.specs.Refusals.{refuse, ◌or_else◌}
-use Rattle.code.specs.RefusalsLaws.{or_else-first}
+use Rattle.std.proofs.Common.{◌≡◌, sym, ap, ◌∙◌, true, false, not}
+use Rattle.code.specs.Refusals.{refuse}
+use Rattle.answers.specs.Answers.{refused_number}
+use Rattle.answers.specs.AnswersLaws.{passed, else-first, else-second}
 use Rattle.desk_record.specs.Desks.{is_open}
-use Rattle.desk_record.specs.Refusal.{sound_refusal, handle_refusal}
+use Rattle.desk_record.specs.Refusal.{handle_refusal}
 use Rattle.desk_record.proofs.handle_refusal.Goals as goal
 
-pub returns-then-open : goal.returns-then-open
+pub returns-in_err-sound_refusal : goal.returns-in_err-sound_refusal
 unfolding handle_refusal
-returns-then-open c =
-    let a = c.args in
-    let e : is_open a.desk.now a.handle ≡ true = sym c.is_open-open.ensures ∙ c.if-open.true in
-    sym (ap₂ (λ n b. n or_else refuse 12 (not b)) (sym c.sound_refusal-r.ensures ∙ c.if-r-eq0.true) e)
+returns-in_err-sound_refusal c = ap refused_number (passed c.from_residual.ensures) ∙ else-first _ c.in_err-sound_refusal.ensures _
 
-pub returns-else-open : goal.returns-else-open
+pub returns-then-is_open : goal.returns-then-is_open
 unfolding handle_refusal
-returns-else-open c =
+returns-then-is_open c =
     let a = c.args in
-    let e : is_open a.desk.now a.handle ≡ false = sym c.is_open-open.ensures ∙ c.if-open.false in
-    sym (ap₂ (λ n b. n or_else refuse 12 (not b)) (sym c.sound_refusal-r.ensures ∙ c.if-r-eq0.true) e)
+    let e : is_open a.desk.now a.handle ≡ true = sym c.is_open.ensures ∙ c.if-is_open.true in
+    else-second c.in_ok-sound_refusal.ensures (sym (ap (λ b. refuse 12 (not b)) e))
 
-pub returns-else-r-eq0 : goal.returns-else-r-eq0
+pub returns-else-is_open : goal.returns-else-is_open
 unfolding handle_refusal
-returns-else-r-eq0 c =
+returns-else-is_open c =
     let a = c.args in
-    let e = c.sound_refusal-r.ensures in
-    e ∙ sym (or_else-first (sound_refusal a.desk.now) (refuse 12 (not (is_open a.desk.now a.handle))) (λ z. c.if-r-eq0.false (e ∙ z)))
+    let e : is_open a.desk.now a.handle ≡ false = sym c.is_open.ensures ∙ c.if-is_open.false in
+    else-second c.in_ok-sound_refusal.ensures (sym (ap (λ b. refuse 12 (not b)) e))

@@ -73,8 +73,6 @@ pub loop-s-init : goal.loop-s-init
 loop-s-init c =
     let d = c.args.desk.now in
     let g : is_sound_slot d.t 0 (job_at d 0) ≡ true = sym c.is_sound_slot.ensures ∙ c.if-not-is_sound_slot.false in (
-      omega arith,
-      omega arith,
       (refl, below_more _ _ (λ k l. absurd (omega arith)) c.issue_in.ensures),
       below_more _ _ (λ k l. absurd (omega arith)) g,
       below_more _ _ (λ k l. absurd (omega arith)) (lowest d),
@@ -90,9 +88,8 @@ pub returns-then-is_twice : goal.returns-then-is_twice
 returns-then-is_twice c =
     let d = c.args.desk.now in
     let x = set c.loop-s.issues c.loop-s.s c.issue_in-in-loop-s.result in
-    let K : Kept d (c.loop-s.s + 1) x = kept_more d c.loop-s.s c.loop-s.issues c.loop-s.invariant.2 (omega arith) c.issue_in-in-loop-s.ensures in
-    let g : is_sound_slot d.t c.loop-s.s (job_at d c.loop-s.s) ≡ true
-    = sym c.is_sound_slot-in-loop-s.ensures ∙ c.if-not-is_sound_slot-2.false in
+    let K : Kept d (c.loop-s.s + 1) x = kept_more d c.loop-s.s c.loop-s.issues c.loop-s.invariant.0 (omega arith) c.issue_in-in-loop-s.ensures in
+    let g : is_sound_slot d.t c.loop-s.s (job_at d c.loop-s.s) ≡ true = sym c.is_sound_slot-in-loop-s.ensures ∙ c.if-not-is_sound_slot-2.false in
     let h : is_twice d c.loop-s.s ≡ true = sym (told d d.t c.loop-s.s x K g) ∙ sym c.is_twice.ensures ∙ c.if-is_twice.true in
     sym (unsound d (λ S. true≢false (sym h ∙ S.once c.loop-s.s (omega arith))))
 
@@ -100,20 +97,16 @@ pub loop-s-preserved : goal.loop-s-preserved
 loop-s-preserved c =
     let d = c.args.desk.now in
     let x = set c.loop-s.issues c.loop-s.s c.issue_in-in-loop-s.result in
-    let K : Kept d (c.loop-s.s + 1) x = kept_more d c.loop-s.s c.loop-s.issues c.loop-s.invariant.2 (omega arith) c.issue_in-in-loop-s.ensures in
-    let g : is_sound_slot d.t c.loop-s.s (job_at d c.loop-s.s) ≡ true
-    = sym c.is_sound_slot-in-loop-s.ensures ∙ c.if-not-is_sound_slot-2.false in
+    let K : Kept d (c.loop-s.s + 1) x = kept_more d c.loop-s.s c.loop-s.issues c.loop-s.invariant.0 (omega arith) c.issue_in-in-loop-s.ensures in
+    let g : is_sound_slot d.t c.loop-s.s (job_at d c.loop-s.s) ≡ true = sym c.is_sound_slot-in-loop-s.ensures ∙ c.if-not-is_sound_slot-2.false in
     let h : is_twice d c.loop-s.s ≡ false = sym (told d d.t c.loop-s.s x K g) ∙ sym c.is_twice.ensures ∙ c.if-is_twice.false in
-    (omega arith, omega arith, K, below_more _ _ c.loop-s.invariant.3 g, below_more _ _ c.loop-s.invariant.4 h)
+    (K, below_more _ _ c.loop-s.invariant.1 g, below_more _ _ c.loop-s.invariant.2 h)
 
 pub returns : goal.returns
 returns c =
     let d = c.args.desk.now in
-    let q : c.loop-s.s ≡ 8 = omega arith in
-    sym
-    (sound-of d
-    (record {
+    sym (sound-of d (record {
       few = c.if-t-gt-MAX_ISSUED.false;
-      slots = λ s k. c.loop-s.invariant.3 s (omega arith);
-      once = λ s k. c.loop-s.invariant.4 s (omega arith);
+      slots = λ s k. c.loop-s.invariant.1 s (omega arith);
+      once = λ s k. c.loop-s.invariant.2 s (omega arith);
     }))

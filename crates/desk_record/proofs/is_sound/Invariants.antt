@@ -1,4 +1,4 @@
-use Rattle.std.proofs.Common.{◌≡◌, true, false, cond, List, ℕ, ◌-◌, ◌≤◌, ◌<◌, length, get_or}
+use Rattle.std.proofs.Common.{◌≡◌, true, false, cond, List, ℕ, ◌<◌, length, get_or}
 use Rattle.desk_job.specs.declared.Job.{Job}
 use Rattle.desk_job.specs.Jobs.{is_taken}
 use Rattle.desk_record.specs.declared.Desk.{Desk}
@@ -14,8 +14,5 @@ abbrev pub Kept : Desk → ℕ → List ℕ → Type 0
 Kept desk s issues = (length issues ≡ 8) × ((k : ℕ) → k < s → get_or issues k 0 ≡ issue_in (job_at desk k))
 
 abbrev pub invariant-loop-s : goal.invariant-loop-s
-invariant-loop-s l = (1 ≤ l.s) × (l.s ≤ 8) × Kept l.desk l.s l.issues × ((k : ℕ) → k < l.s → is_sound_slot l.t k (job_at l.desk k) ≡ true)
+invariant-loop-s l = Kept l.desk l.s l.issues × ((k : ℕ) → k < l.s → is_sound_slot l.t k (job_at l.desk k) ≡ true)
     × ((k : ℕ) → k < l.s → is_twice l.desk k ≡ false)
-
-abbrev pub decreases-loop-s : goal.decreases-loop-s
-decreases-loop-s l = 8 - l.s

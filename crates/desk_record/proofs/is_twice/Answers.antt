@@ -1,29 +1,18 @@
-use Rattle.std.proofs.Common.{◌≡◌, refl, subst, false, arith, eq-eqb, ne_eqb, eqb, get_or}
+use Rattle.std.proofs.Common.{◌≡◌, refl, sym, ap, ◌∙◌, Bool, true, false, ◌||◌, List, ℕ, zero, suc, ◌≤◌, arith, rules, add-one, ne_eqb, eqb, length, get_or, take}
+use Rattle.std.specs.List.{list_any}
+use Rattle.std.proofs.lemmas.List.Folds.{list_any_more}
 use Rattle.counting.specs.Test.{any_below}
-use Rattle.desk_record.specs.Laws.{any-true, any-turn}
+use Rattle.std.proofs.Math.Bool.{or_comm}
 use Rattle.desk_record.proofs.is_twice.Goals as goal
 
-pub returns-then-u-eq0 : goal.returns-then-u-eq0
-returns-then-u-eq0 c = simp (eq-eqb _ _ c.if-u-eq0.true)
+any_before : (p : ℕ → Bool) (xs : List ℕ) (n : ℕ) → n ≤ length xs → list_any p (take n xs) ≡ any_below n (λ k. p (get_or xs k 0))
+any_before p xs zero l = refl
+any_before p xs (suc n) l =
+    ap (λ m. list_any p (take m xs)) (sym (add-one n)) ∙ list_any_more p xs n 0 (omega arith) ∙ or_comm (list_any p (take n xs)) (p (get_or xs n 0))
+    ∙ ap (λ b. p (get_or xs n 0) || b) (any_before p xs n (omega arith))
 
-pub loop-r-init : goal.loop-r-init
-loop-r-init c = (omega arith, refl)
-
-pub returns-then-issues-r : goal.returns-then-issues-r
-returns-then-issues-r c =
+pub returns-then-u-ne0 : goal.returns-then-u-ne0
+returns-then-u-ne0 c =
     let a = c.args in
-    let h = any-true a.s (λ k. eqb (get_or a.issues k 0) (get_or a.issues a.s 0)) c.loop-r.r (omega arith) (eq-eqb _ _ c.if-issues-r.true) in
-    simp (ne_eqb _ _ c.if-u-eq0.false, h)
-
-pub loop-r-preserved : goal.loop-r-preserved
-loop-r-preserved c =
-    let a = c.args in
-    (omega arith, any-turn c.loop-r.r (λ k. eqb (get_or a.issues k 0) (get_or a.issues a.s 0)) c.loop-r.invariant.1 (ne_eqb _ _ c.if-issues-r.false))
-
-pub returns : goal.returns
-returns c =
-    let a = c.args in
-    let q : c.loop-r.r ≡ a.s = omega arith in
-    let h : any_below a.s (λ k. eqb (get_or a.issues k 0) (get_or a.issues a.s 0)) ≡ false
-    = subst (λ n. any_below n (λ k. eqb (get_or a.issues k 0) (get_or a.issues a.s 0)) ≡ false) q c.loop-r.invariant.1 in
-    simp (ne_eqb _ _ c.if-u-eq0.false, h)
+    let l : length a.issues ≡ 8 = search rules in
+    simp (ne_eqb _ _ c.if-u-ne0.true) (c.contains.ensures.value ∙ any_before (λ y. eqb y (get_or a.issues a.s 0)) a.issues a.s (omega arith))

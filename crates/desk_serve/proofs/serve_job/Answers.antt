@@ -14,12 +14,14 @@ overflow_mul-n c =
 pub returns-then-word-n : goal.returns-then-word-n
 returns-then-word-n c =
     let a = c.args in
-    record { answer = rw (job-length a.job a.word.now c.if-word-n.true) refl; word = rw (job-length a.job a.word.now c.if-word-n.true) refl }
+    let e = job-length a.job a.word.now c.if-word-n.true in
+    record { answer = rw e refl; number = sym e; word = rw e refl }
 
 pub returns-then-job-eq-MAX_SERVED : goal.returns-then-job-eq-MAX_SERVED
 returns-then-job-eq-MAX_SERVED c =
     let a = c.args in
-    record { answer = rw (job-end a.job a.word.now c.if-word-n.false c.if-job-eq-MAX_SERVED.true) refl; word = rw (job-end a.job a.word.now c.if-word-n.false c.if-job-eq-MAX_SERVED.true) refl }
+    let e = job-end a.job a.word.now c.if-word-n.false c.if-job-eq-MAX_SERVED.true in
+    record { answer = rw e refl; number = sym e; word = rw e refl }
 
 pub slice_bounds-marks-end : goal.slice_bounds-marks-end
 slice_bounds-marks-end c =
@@ -41,6 +43,7 @@ returns c =
     job-recovery a.job a.word.now c.if-word-n.false c.if-job-eq-MAX_SERVED.false in
     record {
       answer = rw n (answers_at c.recover.ensures.answer);
+      number = c.recover.ensures.answer.number ∙ sym n;
       word = rw n (c.recover.ensures.word
           ∙ unless-same (job_recovery a.job a.word.now).number (job_recovery a.job a.word.now).word a.word.now
           (recover-unchanged a.job.m a.job.w a.job.c a.word.now (job_marks a.job)));

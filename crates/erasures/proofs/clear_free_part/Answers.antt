@@ -1,25 +1,27 @@
-use Rattle.std.proofs.Common.{◌≡◌, ◌-◌, arith, length, length-set}
+use Rattle.std.proofs.Common.{◌≡◌, ◌∙◌, ◌-◌, ap, arith, length, length-set}
+use Rattle.std.proofs.lemmas.List.{set-get_or}
 use Rattle.erasures.proofs.Laws.{pass_step, clear-free-step, clear_step, bound-end}
 use Rattle.erasures.proofs.clear_free_part.Goals as goal
-use Rattle.erasures.proofs.clear_free_part.Goals.{then-part-i-eq1+then-bound-c, then-part-i-eq1+else-bound-c, else-part-i-eq1}
+use Rattle.erasures.proofs.clear_free_part.Goals.{then-mark-eq1+then-bound-c, then-mark-eq1+else-bound-c, else-mark-eq1}
 
-pub loop-i-init : goal.loop-i-init
-loop-i-init c = let e : c.args.c - 0 ≡ c.args.c = omega arith in (omega arith, omega arith, omega arith, rw e)
-
-pub loop-i-preserved : goal.loop-i-preserved
-loop-i-preserved c =
+pub loop-mark-preserved : goal.loop-mark-preserved
+loop-mark-preserved c =
     let a = c.args in
-    let d = c.loop-i.part in
-    let i = c.loop-i.i in
-    let k = c.loop-i.bound in
-    elim c.if-part-i-eq1.branch [
-      | then-part-i-eq1+then-bound-c w ↦ (let e : length c.if-part-i-eq1.part ≡ length d = cc in
-          (omega arith, omega arith, omega arith, cc (clear-free-step d i (omega arith) a.c k w.if-part-i-eq1.true w.if-bound-c.true)))
-      | then-part-i-eq1+else-bound-c w ↦ (let e : length c.if-part-i-eq1.part ≡ length d = cc (length-set d i 0) in
-          (omega arith, omega arith, omega arith, cc (clear_step d i (omega arith) a.c k w.if-part-i-eq1.true w.if-bound-c.false)))
-      | else-part-i-eq1 w ↦ (let e : length c.if-part-i-eq1.part ≡ length d = cc in
-          (omega arith, omega arith, omega arith, cc (pass_step d i (omega arith) (a.c - k) w.if-part-i-eq1.false)))
+    let d = c.loop-mark.part in
+    let i = c.loop-mark.mark-index in
+    let k = c.loop-mark.bound in
+    let h = c.loop-mark.invariant.2 in
+    elim c.if-mark-eq1.branch [
+      | then-mark-eq1+then-bound-c w ↦ (let p : c.if-mark-eq1.part ≡ d = w.part-is ∙ set-get_or d i 0 in
+          (omega (arith, ap length p), omega arith, rw (p, w.bound-is) (clear-free-step d i (omega arith) a.c k w.if-mark-eq1.true w.if-bound-c.true ∙ h)))
+      | then-mark-eq1+else-bound-c w ↦ (
+        omega (arith, ap length w.part-is, length-set d i 0),
+        omega arith,
+        rw (w.part-is, w.bound-is) (clear_step d i (omega arith) a.c k w.if-mark-eq1.true w.if-bound-c.false ∙ h),
+      )
+      | else-mark-eq1 w ↦ (let p : c.if-mark-eq1.part ≡ d = w.part-is ∙ set-get_or d i 0 in
+          (omega (arith, ap length p), omega arith, rw (p, w.bound-is) (pass_step d i (omega arith) (a.c - k) w.if-mark-eq1.false ∙ h)))
     ]
 
 pub returns : goal.returns
-returns c = cc (bound-end c.loop-i.part c.loop-i.i (c.args.c - c.loop-i.bound) (omega arith))
+returns c = cc (bound-end c.loop-mark.part c.loop-mark.mark-index (c.args.c - c.loop-mark.bound) (omega arith))

@@ -1,9 +1,6 @@
-use Rattle.std.proofs.Common.{◌≡◌, false, ℕ, ◌≤◌, ◌<◌, ◌-◌, length}
+use Rattle.std.proofs.Common.{◌≡◌, false, ℕ, ◌≤◌, ◌<◌}
 use Rattle.code_engine.specs.Bound.{free}
 use Rattle.erasures.proofs.next_free.Given as goal
 
 abbrev pub invariant-loop-i : goal.invariant-loop-i
-invariant-loop-i l = (l.start ≤ l.i) × ((p : ℕ) → p < l.i → l.start ≤ p → free l.marks l.bound p ≡ false)
-
-abbrev pub decreases-loop-i : goal.decreases-loop-i
-decreases-loop-i l = length l.marks - l.i
+invariant-loop-i l = ((p : ℕ) → p < l.i → l.start ≤ p → free l.marks l.bound p ≡ false)

@@ -1,4 +1,4 @@
-use Rattle.std.proofs.Common.{◌≡◌, sym, ◌∙◌, subst, false, List, ℕ, ◌+◌, ◌-◌, ◌<◌, ◌≤◌, arith, length, get_or, take, drop, length-drop, get_or-take, get_or-drop, length-take-le}
+use Rattle.std.proofs.Common.{◌≡◌, sym, ◌∙◌, subst, false, List, ℕ, ◌+◌, ◌-◌, ◌*◌, ◌<◌, ◌≤◌, arith, length, get_or, take, drop, length-drop, get_or-take, get_or-drop, length-take-le}
 use native.Mathlib.Decide.{dec_lt}
 use Rattle.code_engine.specs.Bound.{free}
 use Rattle.erasures.proofs.Laws.{bound-not-free}
@@ -18,27 +18,14 @@ sixteen marks bound i h same p l u =
     (sym (get_or-take (i + 16 - i) (drop i marks) (p - i) 0 k ∙ get_or-drop i marks (p - i) 0) ∙ same (p - i) n
     ∙ get_or-take (i + 16 - i) (drop i bound) (p - i) 0 k ∙ get_or-drop i bound (p - i) 0))
 
-pub returns-then-marks-bound : goal.returns-then-marks-bound
-returns-then-marks-bound c = λ p l. absurd (omega arith)
-
-pub loop-i-init : goal.loop-i-init
-loop-i-init c = (omega arith, omega arith, c.if-marks-bound.false, λ p l. absurd (omega arith))
-
-pub returns-then-not-all_bound : goal.returns-then-not-all_bound
-returns-then-not-all_bound c = c.loop-i.invariant.3
-
-pub loop-i-preserved : goal.loop-i-preserved
-loop-i-preserved c =
+pub loop-k-preserved : goal.loop-k-preserved
+loop-k-preserved c =
     let a = c.args in (
       omega arith,
-      omega arith,
-      c.loop-i.invariant.2,
-      λ p l. elim (dec_lt p c.loop-i.i) [
-        | yes h ↦ c.loop-i.invariant.3 p h
-        | no h ↦ sixteen a.marks.now a.bound.now c.loop-i.i (omega arith) (c.all_bound.ensures c.if-not-all_bound.false) p
-            (omega arith) l
+      c.loop-k.invariant.1,
+      λ p l. elim (dec_lt p (16 * c.loop-k.k)) [
+        | yes h ↦ c.loop-k.invariant.2 p h
+        | no h ↦ sixteen a.marks.now a.bound.now (16 * c.loop-k.k) (omega arith) (c.all_bound.ensures c.if-not-all_bound.false) p
+            (omega arith) (omega arith)
       ],
     )
-
-pub returns : goal.returns
-returns c = c.loop-i.invariant.3

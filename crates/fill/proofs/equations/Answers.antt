@@ -4,11 +4,6 @@ use Rattle.byte_edition.specs.Edition.{byte_edition}
 use Rattle.byte_edition.specs.PaddedLaws.{padded-group}
 use Rattle.fill.proofs.equations.Goals as goal
 
-pub equations_of-requires-2 : goal.equations_of-requires-2
-equations_of-requires-2 c =
-    let size = c.padded-x.ensures.size in
-    (omega arith, omega arith, λ i l. let h = c.requires.2 i l in omega arith)
-
 pub returns : goal.returns
 returns c e l =
     let q = c.equations_of-2.ensures e l in record {

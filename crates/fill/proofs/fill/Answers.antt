@@ -2,18 +2,12 @@ use Rattle.std.proofs.Common.{◌≡◌, sym, ◌∙◌, ℕ, ◌≤◌, min, ar
 use Rattle.byte_edition.specs.Edition.{byte_edition}
 use Rattle.byte_edition.specs.EditionLaws.{bytes-sound}
 use Rattle.code_engine.proofs.Arrays.{array-system}
-use Rattle.code_engine.specs.FilledLaws.{unchanged, no-erasures, zeros-at, filled}
+use Rattle.code_engine.specs.FilledLaws.{unchanged, zeros-at, filled}
 use Rattle.fill.proofs.Laws.{filled-one}
 use Rattle.fill.proofs.fill.Goals as goal
 
 pub returns-then-t-gt4 : goal.returns-then-t-gt4
 returns-then-t-gt4 c = let f = c.find-erasures in unchanged byte_edition _ _ f.result.count f.ensures.all c.if-t-gt4.true
-
-pub returns-then-t-eq0 : goal.returns-then-t-eq0
-returns-then-t-eq0 c = let f = c.find-erasures in no-erasures byte_edition _ _ f.result.count f.ensures.all c.if-t-eq0.true
-
-pub fill_one-requires : goal.fill_one-requires
-fill_one-requires c = let b = (c.find-erasures.ensures.few (omega arith)).inside 0 (omega arith) in omega arith
 
 pub returns-then-t-eq1 : goal.returns-then-t-eq1
 returns-then-t-eq1 c =
@@ -23,17 +17,6 @@ returns-then-t-eq1 c =
     rw c.fill_one.ensures
     (filled-one a.marks.now a.part.now c.find-erasures.result.at (rw w at (rw one at (c.find-erasures.ensures.few (omega arith))))
     (λ i. (c.slice_known-1.given i).fits) (omega arith) w (rw w at (sym one ∙ c.find-erasures.ensures.all)))
-
-pub place-requires : goal.place-requires
-place-requires c = (omega arith, λ i l. let b = (c.find-erasures.ensures.few (omega arith)).inside i (omega arith) in omega arith)
-
-pub equations-rows-requires : goal.equations-rows-requires
-equations-rows-requires c =
-    (omega arith, omega arith, λ i l. let b = (c.find-erasures.ensures.few (omega arith)).inside i (omega arith) in omega arith)
-
-pub place-requires-2 : goal.place-requires-2
-place-requires-2 c =
-    (omega arith, λ i l. let b = (c.find-erasures.ensures.few (omega arith)).inside i (omega arith) in omega arith)
 
 pub returns : goal.returns
 returns c =

@@ -1,18 +1,10 @@
-use Rattle.std.proofs.Common.{◌≡◌, refl, sym, ◌-◌, add-one, arith, length-set}
+use Rattle.std.proofs.Common.{refl, sym, add-one, arith, length-set}
 use Rattle.code_engine.specs.PlacedLaws.{placed-none, placed-suc}
 use Rattle.fill.proofs.place.Goals as goal
 
 pub loop-i-init : goal.loop-i-init
-loop-i-init c = (omega arith, refl, sym (placed-none _ _ _))
-
-pub bounds-part-p : goal.bounds-part-p
-bounds-part-p c = rw c.loop-i.invariant.1 (c.requires.1 _ (omega arith))
+loop-i-init c = (refl, sym (placed-none _ _ _))
 
 pub loop-i-preserved : goal.loop-i-preserved
 loop-i-preserved c =
-    let a = c.args in (omega arith, simp length-set (omega arith), cc (placed-suc a.part.now a.at a.rows c.loop-i.i, add-one c.loop-i.i))
-
-pub returns : goal.returns
-returns c =
-    let e : c.loop-i.i ≡ c.args.t = omega arith in
-    cc
+    let a = c.args in (simp length-set (omega arith), cc (placed-suc a.part.now a.at a.rows c.loop-i.i, add-one c.loop-i.i))

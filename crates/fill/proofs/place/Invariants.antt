@@ -1,9 +1,6 @@
-use Rattle.std.proofs.Common.{◌≡◌, ◌≤◌, ◌-◌, length}
+use Rattle.std.proofs.Common.{◌≡◌, length}
 use Rattle.code_engine.specs.Placed.{placed}
 use Rattle.fill.proofs.place.Given as goal
 
 abbrev pub invariant-loop-i : goal.invariant-loop-i
-invariant-loop-i l = (l.i ≤ l.t) × (length l.part ≡ length l.initial.part) × (l.part ≡ placed l.initial.part l.at l.rows l.i)
-
-abbrev pub decreases-loop-i : goal.decreases-loop-i
-decreases-loop-i l = l.t - l.i
+invariant-loop-i l = (length l.part ≡ length l.initial.part) × (l.part ≡ placed l.initial.part l.at l.rows l.i)

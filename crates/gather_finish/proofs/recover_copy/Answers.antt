@@ -1,6 +1,7 @@
-use Rattle.std.proofs.Common.{◌≡◌, sym, ap, ◌∙◌, List, ◌++◌, ℕ, ◌≤◌, arith, length, take, length-append, length-take-le, take_at}
-use Rattle.answers.specs.declared.Mending.{Mending}
-use Rattle.answers.specs.Answers.{mending_at}
+use Rattle.std.proofs.Common.{◌≡◌, sym, ap, ◌∙◌, List, ◌++◌, Result, ℕ, ◌≤◌, arith, length, take, length-append, length-take-le, take_at}
+use Rattle.answers.specs.declared.Refusal.{Refusal}
+use Rattle.answers.specs.Answers.{mending_at, mending_number}
+use Rattle.answers.specs.AnswersLaws.{refusal-some, passed}
 use Rattle.code.specs.Refusals.{unless_refused}
 use Rattle.code.specs.RefusalsLaws.{unless-refused}
 use Rattle.code.specs.Outcome.{Outcome}
@@ -11,7 +12,7 @@ use Rattle.gather_record.specs.declared.Gather.{Gather}
 use Rattle.gather_record.specs.Record.{Whole}
 use Rattle.gather_record.proofs.Laws.{whole}
 use Rattle.gather_finish.specs.Finish.{finish_refusal, gather_recovery}
-use Rattle.gather_finish.specs.FinishLaws.{finish-parts, mending-is, mending-some}
+use Rattle.gather_finish.specs.FinishLaws.{finish-parts}
 use Rattle.code_services.specs.Answered.{AnswersBy}
 use Rattle.code_services.specs.AnsweredLaws.{answers_at}
 use Rattle.gather_finish.proofs.recover_copy.Goals as goal
@@ -35,11 +36,15 @@ is-asked : (size : ℕ) (g : Gather) → finish_refusal size g ≡ 0 → first g
 is-asked size g e = ap (first g) (finish-parts size g e).fits
 
 -- what the recovery answers, for a record
-abbrev Answered : Gather → Mending → Type 0
+abbrev Answered : Gather → Result Unit Refusal → Type 0
 Answered g a = a ≡ mending_at (gather_recovery g).number (gather_recovery g).group
 
-answer : (size : ℕ) (g : Gather) (a : Mending) → finish_refusal size g ≡ 0 → AnswersBy a (first g size) → Answered g a
+answer : (size : ℕ) (g : Gather) (a : Result Unit Refusal) → finish_refusal size g ≡ 0 → AnswersBy a (first g size) → Answered g a
 answer size g a e h = answers_at h ∙ ap (λ o. mending_at o.number o.group) (is-asked size g e)
+
+numbered : (size : ℕ) (g : Gather) (a : Result Unit Refusal) → finish_refusal size g ≡ 0 → AnswersBy a (first g size)
+    → mending_number a ≡ (gather_recovery g).number
+numbered size g a e h = h.number ∙ ap (λ o. o.number) (is-asked size g e)
 
 -- a refusal's number is not 0, and the word stays
 stays : (g : Gather) (word : List ℕ) → ((gather_recovery g).number ≡ 0 → ⊥)
@@ -66,43 +71,44 @@ slice_bounds-marks-end c = within-marks _ _ c.requires (whole c.args.gather _ c.
 pub slice_bounds-recover-end-2 : goal.slice_bounds-recover-end-2
 slice_bounds-recover-end-2 c = sym (length-take-le _ c.args.gather.marks (within-marks _ _ c.requires (whole c.args.gather _ c.well_formed.0)))
 
-pub slice_bounds-found-end-in-Done : goal.slice_bounds-found-end-in-Done
-slice_bounds-found-end-in-Done c =
+pub slice_bounds-found-end-2 : goal.slice_bounds-found-end-2
+slice_bounds-found-end-2 c =
     kept-within _ _ c.args.gather _ c.requires (whole c.args.gather _ c.well_formed.0) c.recover.auto.word
 
-pub slice_bounds-copy-end : goal.slice_bounds-copy-end
-slice_bounds-copy-end c =
+pub slice_bounds-copy_from_slice-end : goal.slice_bounds-copy_from_slice-end
+slice_bounds-copy_from_slice-end c =
     sym (length-take-le _ _ (kept-within _ _ c.args.gather _ c.requires (whole c.args.gather _ c.well_formed.0) c.recover.auto.word))
 
-pub returns-in-Done : goal.returns-in-Done
-returns-in-Done c =
+pub copy_from_slice-requires : goal.copy_from_slice-requires
+copy_from_slice-requires c =
+    sym (length-take-le _ _ (kept-within _ _ c.args.gather _ c.requires (whole c.args.gather _ c.well_formed.0) c.recover.auto.word))
+
+pub returns-in_err-recover : goal.returns-in_err-recover
+returns-in_err-recover c =
+    let g = c.args.gather in
+    let n = length c.args.word.now in
+    let A = c.recover.ensures.answer in
+    let k = sym (ap mending_number c.in_err-recover.was) ∙ numbered n g _ c.requires A in
+    rw (passed c.from_residual.ensures) record {
+      answer = sym c.in_err-recover.was ∙ answer n g _ c.requires A;
+      number = k;
+      word = stays g _ (λ z. refusal-some _ (k ∙ z));
+    }
+
+pub returns : goal.returns
+returns c =
     let g = c.args.gather in
     let n = length c.args.word.now in
     let W = whole g _ c.well_formed.0 in
     let o = gather_recovery g in
-    let q : Mending.Done ≡ mending_at o.number o.group = sym c.in-Done.is ∙ answer n g _ c.requires c.recover.ensures.answer in
-    let z : o.number ≡ 0 = mending-is o.number o.group q in
+    let A = c.recover.ensures.answer in
+    let k = sym (ap mending_number c.in_ok-recover.was) ∙ numbered n g _ c.requires A in
     record {
-      answer = q;
-      word = c.copy.ensures.to_after (length-take-le _ _ (kept-within n c.recover.new.word g _ c.requires W c.recover.auto.word))
+      answer = sym c.in_ok-recover.was ∙ answer n g _ c.requires A;
+      number = k;
+      word = c.copy_from_slice.ensures.after
           ∙ take_at c.recover.new.word _ n (kept n c.recover.new.word g c.requires W c.recover.auto.word)
           ∙ c.recover.ensures.word
           ∙ ap (λ x. x.word) (is-asked n g c.requires)
-          ∙ sym (ap (λ r. unless_refused r o.word c.args.word.now) z);
+          ∙ ap (λ r. unless_refused r o.word c.args.word.now) k;
     }
-
-pub returns-in-Contradictory : goal.returns-in-Contradictory
-returns-in-Contradictory c =
-    let g = c.args.gather in
-    let o = gather_recovery g in
-    let r = c.in-Contradictory.group in
-    let q : Mending.Contradictory r ≡ mending_at o.number o.group = sym c.in-Contradictory.is ∙ answer _ g _ c.requires c.recover.ensures.answer in
-    record { answer = q; word = stays g _ (λ z. let e = mending-is o.number o.group q in omega arith) }
-
-pub returns-in-Refused : goal.returns-in-Refused
-returns-in-Refused c =
-    let g = c.args.gather in
-    let o = gather_recovery g in
-    let r = c.in-Refused.r in
-    let q : Mending.Refused r ≡ mending_at o.number o.group = sym c.in-Refused.is ∙ answer _ g _ c.requires c.recover.ensures.answer in
-    record { answer = q; word = stays g _ (mending-some o.number o.group r q) }

@@ -1,12 +1,11 @@
-use Rattle.std.proofs.Common.{◌≡◌, sym, ap, ◌∙◌, ℕ, ◌<◌, ◌-◌, mod-eq_of_lt, add-one, arith, lit<}
+use Rattle.std.proofs.Common.{◌≡◌, sym, ap, ◌∙◌, ℕ, ◌<◌, mod-eq_of_lt, add-one, arith, lit<}
 use Rattle.binary_field.specs.Product.{double, product}
 use Rattle.binary_field.specs.ProductLaws.{double-low, double-product, one_product}
-use Rattle.binary_field.specs.Power.{power}
 use Rattle.binary_field.specs.PowerLaws.{power_zero, power-suc}
 use Rattle.gf256.proofs.power_of_two.Goals as goal
 
-pub loop-i-init : goal.loop-i-init
-loop-i-init c = (omega arith, omega arith, sym (power_zero 8 285 2))
+pub loop-init : goal.loop-init
+loop-init c = (omega arith, sym (power_zero 8 285 2))
 
 -- twice a is the product by 2
 twice : (a : ℕ) → a < 256 → double 8 285 a ≡ product 8 285 2 a
@@ -14,12 +13,6 @@ twice a h =
     sym (double-product 8 285 1 a (lit< tt) ∙ ap (double 8 285) (one_product 8 285 (lit< tt) a ∙ mod-eq_of_lt h))
     ∙ ap (λ b. product 8 285 b a) (double-low 8 285 1 (lit< tt))
 
-pub loop-i-preserved : goal.loop-i-preserved
-loop-i-preserved c =
-    let e = twice c.loop-i.r (omega arith) in
-    (omega arith, omega arith, cc (e, power-suc 8 285 2 c.loop-i.i, add-one c.loop-i.i))
-
-pub returns : goal.returns
-returns c =
-    let e : c.loop-i.i ≡ c.args.n = omega arith in
-    c.loop-i.invariant.2 ∙ ap (power 8 285 2) e
+pub loop-preserved : goal.loop-preserved
+loop-preserved c =
+    let e = twice c.loop.r (omega arith) in (omega arith, cc (e, power-suc 8 285 2 c.loop.counter, add-one c.loop.counter))

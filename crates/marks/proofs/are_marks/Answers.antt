@@ -1,36 +1,25 @@
-use Rattle.std.proofs.Common.{◌≡◌, sym, List, ℕ, ◌<◌, ◌≤◌, arith, below_none, below_more, get_or}
+use Rattle.std.proofs.Common.{sym, List, ℕ, ◌≤◌, arith, below_more, get_or, inl, inr, ◌∙◌}
+use Rattle.std.proofs.lemmas.Bool.Decides.{leb_tells}
+use native.Mathlib.Decide.{dec_lt}
 use Rattle.code_services.specs.MarksLaws.{marks-each, other-mark}
 use Rattle.marks.proofs.are_marks.Goals as goal
-use Rattle.marks.proofs.are_marks.Goals.{then-most-marks, else-most-marks}
 
-pub loop-i-init : goal.loop-i-init
-loop-i-init c = (omega arith, below_none _, λ h. absurd (omega arith))
-
-pub loop-i-preserved : goal.loop-i-preserved
-loop-i-preserved c =
+pub loop-mark-preserved : goal.loop-mark-preserved
+loop-mark-preserved c =
     let m : List ℕ = c.args.marks.now in
-    let i : ℕ = c.loop-i.i in
-    let v : ℕ = c.loop-i.most in
-    elim c.if-most-marks.branch [
-      | then-most-marks w ↦ (let t : v < get_or m i 0 = w.if-most-marks.true in
-          let q : c.if-most-marks.most ≡ get_or m i 0 = w.most-is in (
-            omega arith,
-            below_more (λ p. get_or m p 0 ≤ c.if-most-marks.most) i (λ p l. let k = c.loop-i.invariant.1 p l in omega arith) (omega arith),
-            λ h. (i, omega arith),
-          ))
-      | else-most-marks w ↦ (let t : get_or m i 0 ≤ v = w.if-most-marks.false in
-          let q : c.if-most-marks.most ≡ v = w.most-is in (
-            omega arith,
-            below_more (λ p. get_or m p 0 ≤ c.if-most-marks.most) i (λ p l. let k = c.loop-i.invariant.1 p l in omega arith) (omega arith),
-            λ h. c.loop-i.invariant.2 (omega arith),
-          ))
-    ]
-
-pub returns-then-most-gt1 : goal.returns-then-most-gt1
-returns-then-most-gt1 c =
-    let o = c.loop-i.invariant.2 c.if-most-gt1.true in
-    sym (other-mark c.args.marks.now o.0 o.1)
+    let i : ℕ = c.loop-mark.mark-index in
+    let v : ℕ = c.max-most.result in (
+      below_more (λ p. get_or m p 0 ≤ v) i (λ p l. let k = c.loop-mark.invariant.0 p l in omega arith) (omega arith),
+      λ h. elim (dec_lt 1 (get_or m i 0)) [
+        | yes g ↦ (i, g)
+        | no n ↦ c.loop-mark.invariant.1 (omega arith)
+      ],
+    )
 
 pub returns : goal.returns
 returns c =
-    sym (marks-each c.args.marks.now (λ p l. let k = c.loop-i.invariant.1 p (omega arith) in omega arith))
+    let m : List ℕ = c.args.marks.now in
+    elim (leb_tells c.loop-mark.most 1) [
+      | inl y ↦ (y.0 ∙ sym (marks-each m (λ p l. let k = c.loop-mark.invariant.0 p (omega arith) in omega arith)))
+      | inr n ↦ (let o = c.loop-mark.invariant.1 n.1 in n.0 ∙ sym (other-mark m o.0 o.1))
+    ]

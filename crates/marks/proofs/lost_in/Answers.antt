@@ -1,28 +1,21 @@
-use Rattle.std.proofs.Common.{◌≡◌, sym, ap, ◌∙◌, true, false, arith, eq-eqb, ne_eqb, length, get_or}
+use Rattle.std.proofs.Common.{◌≡◌, sym, ap, ◌∙◌, arith, length}
 use Rattle.counting.specs.Count.{count_below}
 use Rattle.counting.specs.CountLaws.{total-none}
 use Rattle.code.specs.Marks.{lost}
-use Rattle.code_engine.specs.GroupsLaws.{count_turn, lost-whole}
+use Rattle.code_engine.specs.GroupsLaws.{lost-whole}
+use Rattle.marks.proofs.Laws.{more_lost}
 use Rattle.marks.proofs.lost_in.Goals as goal
-use Rattle.marks.proofs.lost_in.Goals.{then-part-i-eq1, else-part-i-eq1}
 
-pub returns-then-part-le16 : goal.returns-then-part-le16
-returns-then-part-le16 c = c.few_lost-few.ensures
+pub loop-mark-init : goal.loop-mark-init
+loop-mark-init c = (omega arith, sym (total-none _))
 
-pub loop-i-init : goal.loop-i-init
-loop-i-init c = (omega arith, omega arith, sym (total-none _))
-
-pub loop-i-preserved : goal.loop-i-preserved
-loop-i-preserved c =
-    let p = c.args.part.now in
-    let i = c.loop-i.i in
-    elim c.if-part-i-eq1.branch [
-      | then-part-i-eq1 t ↦ (let k = count_turn i (lost p) true (eq-eqb (get_or p i 0) 1 t.if-part-i-eq1.true) in (omega arith, omega arith, omega arith))
-      | else-part-i-eq1 t ↦ (let k = count_turn i (lost p) false (ne_eqb (get_or p i 0) 1 t.if-part-i-eq1.false) in (omega arith, omega arith, omega arith))
-    ]
+pub loop-mark-preserved : goal.loop-mark-preserved
+loop-mark-preserved c =
+    let l = c.loop-mark in
+    more_lost c.args.part.now l.mark-index l.n c.from-n.result l.invariant.0 l.invariant.1 c.from-n.ensures
 
 pub returns : goal.returns
 returns c =
     let p = c.args.part.now in
-    let e : c.loop-i.i ≡ length p = omega arith in
-    c.loop-i.invariant.2 ∙ ap (λ n. count_below n (lost p)) e ∙ lost-whole p
+    let e : c.loop-mark.mark-index ≡ length p = omega arith in
+    c.loop-mark.invariant.1 ∙ ap (λ n. count_below n (lost p)) e ∙ lost-whole p

@@ -1,11 +1,10 @@
-use Rattle.std.proofs.Common.{◌≡◌, ℕ, ◌+◌, ◌-◌, ◌*◌, ◌≤◌, length}
+use Rattle.std.proofs.Common.{◌≡◌, ℕ, ◌+◌, ◌*◌, ◌≤◌, length, drop}
+use Rattle.std.specs.Slice.Iter.{chunks_exact_rest, chunks_exact_size}
 use Rattle.code.specs.Marks.{excess}
 use Rattle.marks.proofs.pattern_excess.Given as goal
 
--- a is where group g starts
-abbrev pub invariant-loop-a : goal.invariant-loop-a
-invariant-loop-a l =
-    (g : ℕ) × (l.a ≡ g * l.w) × (l.a ≤ length l.marks) × (l.lost ≤ l.a) × (l.own ≤ l.a) × (l.lost ≡ excess g l.w l.c l.marks + l.own)
-
-abbrev pub decreases-loop-a : goal.decreases-loop-a
-decreases-loop-a l = length l.marks - l.a
+-- a is where the next group starts
+abbrev pub invariant-loop-group : goal.invariant-loop-group
+invariant-loop-group l =
+    (a : ℕ) × (a ≡ length l.yielded * l.w) × (a ≤ length l.marks) × (chunks_exact_size l.group-iterator ≡ l.w)
+    × (chunks_exact_rest l.group-iterator ≡ drop a l.marks) × (l.lost ≤ a) × (l.own ≤ a) × (l.lost ≡ excess (length l.yielded) l.w l.c l.marks + l.own)

@@ -1,58 +1,51 @@
-use Rattle.std.proofs.Common.{◌≡◌, ℕ, ◌*◌, ◌<◌, List, sym, ◌∙◌, arith, length}
-use Rattle.shape.specs.Shapes.{byte_limits}
-use Rattle.code.specs.Limits.{GoodIn}
+use Rattle.std.proofs.Common.{◌≡◌, ℕ, ◌*◌, ◌≤◌, ◌<◌, List, arith, rules, length}
+use Rattle.code.specs.Limits.{Limits, GoodIn}
 use Rattle.code_services.specs.PlacesRuns.{data_in}
-use Rattle.code_loops.specs.RunsLaws.{group-room}
-use Rattle.code_loops.specs.CopyLaws.{Copied, CopyTurn, copy-starts, copy-on, copy-ends, word-within, data-within, same_size}
+use Rattle.code_loops.specs.CopyLaws.{Copied, CopyTurn, copy-starts, copy-on, copy-ends, word-within, data-within}
 use Rattle.places.proofs.copy_data.Goals as goal
 
 pub loop-g-init : goal.loop-g-init
-loop-g-init c = copy-starts c.args.m c.args.w c.args.c c.args.word.now c.args.bytes.now c.requires.bytes_len
+loop-g-init g c = copy-starts _ c.args.m c.args.w c.args.c c.args.word.now c.args.symbols.now c.requires.symbols_len
 
-pub overflow_mul-a : goal.overflow_mul-a
-overflow_mul-a c = omega (arith, c.requires.word_len, group-room c.args.m c.args.w c.loop-g.g c.loop-g-test.true)
-
-turn : {m w c : ℕ} {word carries : List ℕ} {i g d : ℕ} → GoodIn byte_limits m w c → length word ≡ m * w → g < m → d ≡ data_in m w c g
-    → Copied m w c word carries i g → CopyTurn byte_limits m w c word carries i g d
+turn : {A : Type 0} {z : A} {L : Limits} {m w c : ℕ} {word carries : List A} {i g d : ℕ} → GoodIn L m w c → length word ≡ m * w → g < m → d ≡ data_in m w c g
+    → Copied z m w c word carries i g → CopyTurn z L m w c word carries i g d
 turn good whole more own before = record { good = good; whole = whole; more = more; own = own; before = before }
 
 pub overflow_add-e : goal.overflow_add-e
-overflow_add-e c =
+overflow_add-e g c =
     let t = turn c.requires.good_in c.requires.word_len c.loop-g-test.true c.data_in-d.ensures c.loop-g.invariant in
-    omega (arith, word-within t)
+    let h = word-within t in
+    search rules
 
 pub overflow_add-n : goal.overflow_add-n
-overflow_add-n c =
+overflow_add-n g c =
     let t = turn c.requires.good_in c.requires.word_len c.loop-g-test.true c.data_in-d.ensures c.loop-g.invariant in
-    omega (arith, data-within t)
+    let h = data-within t in
+    search rules
 
-pub slice_bounds-copy-start : goal.slice_bounds-copy-start
-slice_bounds-copy-start c =
+pub offset_bounds-symbols-i : goal.offset_bounds-symbols-i
+offset_bounds-symbols-i g c =
     let t = turn c.requires.good_in c.requires.word_len c.loop-g-test.true c.data_in-d.ensures c.loop-g.invariant in
-    omega (arith, word-within t)
+    let h = data-within t in
+    let l : c.loop-g.i ≤ length c.loop-g.symbols = omega arith in
+    search rules
 
-pub slice_bounds-copy-end : goal.slice_bounds-copy-end
-slice_bounds-copy-end c =
+pub slice_bounds-copy_from_slice-end : goal.slice_bounds-copy_from_slice-end
+slice_bounds-copy_from_slice-end g c =
     let t = turn c.requires.good_in c.requires.word_len c.loop-g-test.true c.data_in-d.ensures c.loop-g.invariant in
-    omega (arith, word-within t)
+    let h = data-within t in
+    search rules
 
-pub slice_bounds-copy-start-in-loop-g : goal.slice_bounds-copy-start-in-loop-g
-slice_bounds-copy-start-in-loop-g c =
+pub slice_bounds-copy_from_slice-end-in-loop-g : goal.slice_bounds-copy_from_slice-end-in-loop-g
+slice_bounds-copy_from_slice-end-in-loop-g g c =
     let t = turn c.requires.good_in c.requires.word_len c.loop-g-test.true c.data_in-d.ensures c.loop-g.invariant in
-    omega (arith, data-within t)
-
-pub slice_bounds-copy-end-in-loop-g : goal.slice_bounds-copy-end-in-loop-g
-slice_bounds-copy-end-in-loop-g c =
-    let t = turn c.requires.good_in c.requires.word_len c.loop-g-test.true c.data_in-d.ensures c.loop-g.invariant in
-    omega (arith, data-within t)
+    let h = word-within t in
+    search rules
 
 pub loop-g-preserved : goal.loop-g-preserved
-loop-g-preserved c =
+loop-g-preserved g c =
     let t = turn c.requires.good_in c.requires.word_len c.loop-g-test.true c.data_in-d.ensures c.loop-g.invariant in
-    copy-on t _ (c.copy.ensures.to_after (same_size t))
-
-pub shape_of-bytes : goal.shape_of-bytes
-shape_of-bytes c = c.loop-g.invariant.size ∙ sym c.requires.bytes_len
+    copy-on t _ c.copy_from_slice.ensures.after
 
 pub returns : goal.returns
-returns c = copy-ends c.requires.good_in c.loop-g.invariant (omega arith)
+returns g c = copy-ends c.requires.good_in c.loop-g.invariant (omega arith)

@@ -1,104 +1,67 @@
-use Rattle.std.proofs.Common.{◌≡◌, List, refl, sym, ap, ap₂, ◌∙◌, subst, ◌++◌, ℕ, ◌+◌, ◌-◌, ◌*◌, ◌/◌, ◌≤◌, ◌<◌, arith, rules, ltb, length, take, drop, replicate, length-drop, take-append-drop, length-take-le}
-use Rattle.code_engine.specs.GroupsLaws.{group-next, groups-passed}
-use Rattle.code_services.specs.PlacesRuns.{data_of, with_checks}
+use Rattle.std.proofs.Common.{◌≡◌, List, refl, sym, ap, ap₂, ◌∙◌, subst, ◌++◌, ℕ, ◌+◌, ◌-◌, ◌*◌, ◌/◌, ◌≤◌, ◌<◌, arith, rules, length, take, drop, replicate, length-drop, take-append-drop, length-take-le}
+use Rattle.std.proofs.Math.Nat.{div-mul-le_self}
+use Rattle.code_services.specs.PlacesRuns.{data_in, with_checks}
 use Rattle.code_services.specs.PlacesLaws.{no-groups}
-use Rattle.code_loops.specs.RunsLaws.{Runs, runs_of, marks-turn, marks-first, marks-last, stays, group-below, last_of}
+use Rattle.code_loops.specs.RunsLaws.{Runs, runs_of, marks-turn, marks-first, marks-last, stays, group-end, group-room}
 use Rattle.places.proofs.mark_groups.Goals as goal
 
 pub returns-then-w-eq0 : goal.returns-then-w-eq0
-returns-then-w-eq0 c =
+returns-then-w-eq0 c = sym (no-groups c.args.w c.args.c c.args.marks.now c.if-w-eq0.true)
+
+pub loop-g-init : goal.loop-g-init
+loop-g-init c =
     let a = c.args in
-    sym (no-groups a.w a.c a.marks.now c.if-w-eq0.true)
+    let z : 0 * a.w ≡ 0 = omega arith in
+    rw z (marks-first (length a.marks.now / a.w) a.w a.c a.marks.now, refl)
 
-pub loop-marks-init : goal.loop-marks-init
-loop-marks-init c =
-    let a = c.args in
-    (0, omega arith, omega arith, refl, marks-first (length a.marks.now / a.w) a.w a.c a.marks.now, refl)
-
-pub overflow_sub-marks : goal.overflow_sub-marks
-overflow_sub-marks c = let i = c.loop-marks.invariant in omega (arith, i.2, i.3)
-
-pub overflow_add-e : goal.overflow_add-e
-overflow_add-e c = let i = c.loop-marks.invariant in omega (arith, i.2, i.3)
-
-pub overflow_sub-marks-in-loop-marks : goal.overflow_sub-marks-in-loop-marks
-overflow_sub-marks-in-loop-marks c = let i = c.loop-marks.invariant in omega (arith, i.2, i.3)
-
-pub slice_bounds-mark_part-start : goal.slice_bounds-mark_part-start
-slice_bounds-mark_part-start c = let i = c.loop-marks.invariant in omega (arith, i.2, i.3)
-
-pub slice_bounds-mark_part-end : goal.slice_bounds-mark_part-end
-slice_bounds-mark_part-end c = let i = c.loop-marks.invariant in omega (arith, i.2, i.3)
-
--- group g lies within the marks, it is one of the whole groups, and the first of its two runs is what was found
-own : (w c n g p k d : ℕ) → 0 < w → p ≡ g * w → p ≤ n → k ≡ n → w ≤ k - p → d ≡ data_of w c (ltb (k - (p + w)) w)
-    → (p + w ≤ n) × (g < n / w) × Runs (n / w) w c p d
-own w c n g p k d pos at in_it long test e =
-    let more : w ≤ n - p = omega arith in
-    let room : p + w ≤ n = omega arith in
-    let below = group-below w n g p pos at in_it more in
-    let f = e ∙ ap (data_of w c) (ap (λ k. ltb (k - (p + w)) w) long ∙ last_of w n g p pos at room) in (
+-- group g lies within n marks, and its part is of w places, the first d of which carry data
+own : (w c n g d : ℕ) (marks : List ℕ) → g < n / w → length marks ≡ n → d ≡ data_in (n / w) w c g
+    → (g * w + w ≤ length marks) × (length (take (g * w + w - g * w) (drop (g * w) marks)) ≡ w) × Runs (n / w) w c (g * w) d
+own w c n g d marks l size e =
+    let r = group-room (n / w) w g l in
+    let h = div-mul-le_self n w in
+    let k = length-drop (g * w) marks in
+    let room : g * w + w ≤ length marks = omega arith in (
       room,
-      below,
-      subst (λ q. Runs (n / w) w c q d) (sym at) (subst (Runs (n / w) w c (g * w)) (sym f) (runs_of (n / w) w c g below)),
+      length-take-le (g * w + w - g * w) (drop (g * w) marks) (omega arith) ∙ omega arith,
+      subst (Runs (n / w) w c (g * w)) (sym e) (runs_of (n / w) w c g l),
     )
-
--- the part that is lent has w places
-lent : (w p : ℕ) (marks : List ℕ) → p + w ≤ length marks → length (take (p + w - p) (drop p marks)) ≡ w
-lent w p marks r =
-    let k = length-drop p marks in
-    length-take-le (p + w - p) (drop p marks) (omega arith) ∙ omega arith
 
 pub mark_part-requires : goal.mark_part-requires
 mark_part-requires c =
     let a = c.args in
-    let i = c.loop-marks.invariant in
-    let n : ℕ = length a.marks.now in
-    let p : ℕ = c.loop-marks.a in
-    let pos : 0 < a.w = (let h = c.if-w-eq0.false in omega arith) in
-    let o = own a.w a.c n i.0 p (length c.loop-marks.marks) c.data_of-d.result pos i.1 i.2 i.3 c.loop-marks-test.true c.data_of-d.ensures in
-    let x = c.loop-marks.marks in
-    let long : p + a.w ≤ length x = (let h = o.0 in let e = i.3 in omega arith) in
-    let k = lent a.w p x long in
+    let o = own a.w a.c (length a.marks.now) c.loop-g.g c.data_in.result c.loop-g.marks c.loop-g-test.true c.loop-g.auto.marks c.data_in.ensures in
+    let k = o.1 in
     let f = o.2.fits in
     omega arith
 
-pub loop-marks-smaller : goal.loop-marks-smaller
-loop-marks-smaller c = let i = c.loop-marks.invariant in omega (arith, i.2, i.3)
-
-pub loop-marks-preserved : goal.loop-marks-preserved
-loop-marks-preserved c =
+pub loop-g-preserved : goal.loop-g-preserved
+loop-g-preserved c =
     let a = c.args in
-    let i = c.loop-marks.invariant in
+    let l = c.loop-g in
     let n : ℕ = length a.marks.now in
-    let p : ℕ = c.loop-marks.a in
-    let pos : 0 < a.w = (let h = c.if-w-eq0.false in omega arith) in
-    let o = own a.w a.c n i.0 p (length c.loop-marks.marks) c.data_of-d.result pos i.1 i.2 i.3 c.loop-marks-test.true c.data_of-d.ensures in
-    let x = c.loop-marks.marks in
-    let long : p + a.w ≤ length x = (let h = o.0 in let e = i.3 in omega arith) in
-    let g : ℕ = i.0 in
-    let d : ℕ = c.data_of-d.result in
-    let e : c.mark_part.new.part ≡ replicate d 0 ++ replicate (a.w - d) 1 =
-    c.mark_part.ensures ∙ ap (λ q. replicate d 0 ++ replicate (q - d) 1) (lent a.w p x long) in (
-      g + 1,
-      group-next a.w g p i.1,
-      o.0,
-      search rules,
-      marks-turn (n / a.w) a.w g o.1 a.c p d o.2 x c.mark_part.new.part (drop (p + a.w - p) (drop p x)) long e ∙ i.4,
-      stays p a.w x c.mark_part.new.part (omega arith) (search rules) a.marks.now i.5,
+    let m : ℕ = n / a.w in
+    let g : ℕ = l.g in
+    let x = l.marks in
+    let d : ℕ = c.data_in.result in
+    let p : ℕ = g * a.w in
+    let part = c.mark_part.new.part in
+    let o = own a.w a.c n g d x c.loop-g-test.true l.auto.marks c.data_in.ensures in
+    let e : part ≡ replicate d 0 ++ replicate (a.w - d) 1 =
+    c.mark_part.ensures ∙ ap (λ q. replicate d 0 ++ replicate (q - d) 1) o.1 in
+    let h = o.0 in
+    rw (group-end m a.w g c.loop-g-test.true) (
+      marks-turn m a.w g c.loop-g-test.true a.c p d o.2 x part (drop (p + a.w - p) (drop p x)) h e ∙ l.invariant.0,
+      stays p a.w x part (omega arith) (search rules) a.marks.now l.invariant.1,
     )
-
-pub shape_of-marks : goal.shape_of-marks
-shape_of-marks c = c.loop-marks.invariant.3
 
 pub returns : goal.returns
 unfolding with_checks
 returns c =
     let a = c.args in
-    let i = c.loop-marks.invariant in
-    let x = c.loop-marks.marks in
-    let n = length a.marks.now in
-    let e = groups-passed a.w n i.0 c.loop-marks.a i.1 i.2 (omega (arith, i.2, i.3)) in
-    let q : c.loop-marks.a ≡ n / a.w * a.w = i.1 ∙ ap (λ k. k * a.w) (sym e) in
-    sym (take-append-drop c.loop-marks.a x)
-    ∙ ap₂ ◌++◌ (sym (marks-last (n / a.w) a.w a.c i.0 (sym e) x c.loop-marks.a) ∙ i.4) (i.5 ∙ ap (λ k. drop k a.marks.now) q)
+    let l = c.loop-g in
+    let x = l.marks in
+    let m : ℕ = length a.marks.now / a.w in
+    let e : l.g ≡ m = omega arith in
+    sym (take-append-drop (l.g * a.w) x)
+    ∙ ap₂ ◌++◌ (sym (marks-last m a.w a.c l.g e x (l.g * a.w)) ∙ l.invariant.0) (l.invariant.1 ∙ ap (λ k. drop (k * a.w) a.marks.now) e)

@@ -1,42 +1,27 @@
-use Rattle.std.proofs.Common.{◌≡◌, sym, ap, ◌∙◌, Bool, true, false, ℕ, suc, ◌+◌, ◌*◌, ◌<◌, ◌≤◌, mul-le-mul_right, suc-mul, arith, eq-eqb, ne_eqb, length, get_or}
+use Rattle.std.proofs.Common.{◌≡◌, sym, ap, ◌∙◌, Bool, true, false, ℕ, suc, ◌+◌, ◌*◌, ◌<◌, ◌≤◌, mul-le-mul_right, suc-mul, arith, eq-eqb, ne_eqb, get_or}
 use Rattle.counting.specs.Count.{count_below}
 use Rattle.counting.specs.CountLaws.{total-none}
 use Rattle.code.specs.Marks.{lost}
 use Rattle.code_engine.specs.GroupsLaws.{count_turn}
 use Rattle.profile.specs.Search.{lost_at}
 use Rattle.profile.proofs.lost_at.Goals as goal
-use Rattle.profile.proofs.lost_at.Goals.{then-marks-p-eq1, else-marks-p-eq1}
+use Rattle.profile.proofs.lost_at.Goals.{then-marks-g-eq1, else-marks-g-eq1}
 
 -- place j of group g lies within the marks
 fits : (m w j g len : ℕ) → g < m → j < w → len ≡ m * w → g * w + j < len
 fits m w j g len l k e = let h : suc g * w ≤ m * w = mul-le-mul_right w l in let s = suc-mul g w in omega arith
 
 pub loop-g-init : goal.loop-g-init
-loop-g-init c = (omega arith, omega arith, sym (total-none _))
-
-pub overflow_mul-p : goal.overflow_mul-p
-overflow_mul-p c =
-    let a = c.args in
-    omega (arith, fits a.m a.w a.j c.loop-g.g (length a.marks.now) (omega arith) (omega arith) (omega arith))
-
-pub overflow_add-p : goal.overflow_add-p
-overflow_add-p c =
-    let a = c.args in
-    omega (arith, fits a.m a.w a.j c.loop-g.g (length a.marks.now) (omega arith) (omega arith) (omega arith))
-
-pub bounds-marks-p : goal.bounds-marks-p
-bounds-marks-p c =
-    let a = c.args in
-    omega (arith, fits a.m a.w a.j c.loop-g.g (length a.marks.now) (omega arith) (omega arith) (omega arith))
+loop-g-init c = (omega arith, sym (total-none _))
 
 pub loop-g-preserved : goal.loop-g-preserved
 loop-g-preserved c =
     let a = c.args in
     let g = c.loop-g.g in
     let f : ℕ → Bool = λ i. lost a.marks.now (i * a.w + a.j) in
-    elim c.if-marks-p-eq1.branch [
-      | then-marks-p-eq1 t ↦ (let k = count_turn g f true (eq-eqb (get_or a.marks.now (g * a.w + a.j) 0) 1 t.if-marks-p-eq1.true) in (omega arith, omega arith, omega arith))
-      | else-marks-p-eq1 t ↦ (let k = count_turn g f false (ne_eqb (get_or a.marks.now (g * a.w + a.j) 0) 1 t.if-marks-p-eq1.false) in (omega arith, omega arith, omega arith))
+    elim c.if-marks-g-eq1.branch [
+      | then-marks-g-eq1 t ↦ (let k = count_turn g f true (eq-eqb (get_or a.marks.now (g * a.w + a.j) 0) 1 t.if-marks-g-eq1.true) in (omega arith, omega arith))
+      | else-marks-g-eq1 t ↦ (let k = count_turn g f false (ne_eqb (get_or a.marks.now (g * a.w + a.j) 0) 1 t.if-marks-g-eq1.false) in (omega arith, omega arith))
     ]
 
 pub returns : goal.returns
@@ -44,4 +29,4 @@ unfolding lost_at
 returns c =
     let a = c.args in
     let e : c.loop-g.g ≡ a.m = omega arith in
-    c.loop-g.invariant.2 ∙ ap (λ n. count_below n (λ g. lost a.marks.now (g * a.w + a.j))) e
+    c.loop-g.invariant.1 ∙ ap (λ n. count_below n (λ g. lost a.marks.now (g * a.w + a.j))) e

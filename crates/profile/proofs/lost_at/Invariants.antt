@@ -1,10 +1,7 @@
-use Rattle.std.proofs.Common.{◌≡◌, ◌+◌, ◌-◌, ◌*◌, ◌≤◌}
+use Rattle.std.proofs.Common.{◌≡◌, ◌+◌, ◌*◌, ◌≤◌}
 use Rattle.counting.specs.Count.{count_below}
 use Rattle.code.specs.Marks.{lost}
 use Rattle.profile.proofs.lost_at.Given as goal
 
 abbrev pub invariant-loop-g : goal.invariant-loop-g
-invariant-loop-g l = (l.g ≤ l.m) × (l.n ≤ l.g) × (l.n ≡ count_below l.g (λ i. lost l.marks (i * l.w + l.j)))
-
-abbrev pub decreases-loop-g : goal.decreases-loop-g
-decreases-loop-g l = l.m - l.g
+invariant-loop-g l = (l.n ≤ l.g) × (l.n ≡ count_below l.g (λ i. lost l.marks (i * l.w + l.j)))

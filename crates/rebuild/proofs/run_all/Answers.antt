@@ -2,9 +2,9 @@ use Rattle.std.proofs.Common.{rules, ◌∙◌, ◌≤◌, subst}
 use Rattle.rebuild.proofs.Parts.{comes, told_from, front_from, all_from, fronts_from, full, full_room}
 use Rattle.rebuild.proofs.run_all.Goals as goal
 
-pub loop-turns-preserved : goal.loop-turns-preserved
-loop-turns-preserved g c =
-    let (long, within, came, more, whole, told, front) = c.loop-turns.invariant in
+pub loop-preserved : goal.loop-preserved
+loop-preserved g c =
+    let (long, within, came, more, whole, told, front) = c.loop.invariant in
     let e = c.turn-run.ensures in
     let still = more (search rules) in
     let comes₂ = comes _ _ _ _ _ came e.read in (
@@ -17,14 +17,14 @@ loop-turns-preserved g c =
       front_from g.O.Write.contents _ _ _ still _ _ _ comes₂ e.front,
     )
 
-pub returns-then-run-2-clause-whole : goal.returns-then-run-2-clause-whole
-returns-then-run-2-clause-whole g c = λ t.
-    let (long, within, came, more, whole, told, front) = c.loop-turns.invariant in
+pub returns-then-run-clause-whole : goal.returns-then-run-clause-whole
+returns-then-run-clause-whole g c = λ t.
+    let (long, within, came, more, whole, told, front) = c.loop.invariant in
     let w = whole (search rules) in
     all_from g.O.Write.contents _ _ _ w.0 _ _ _ came (full_room _ _ long w.1) (c.finish.ensures.all t)
 
-pub returns-then-run-2-clause-front : goal.returns-then-run-2-clause-front
-returns-then-run-2-clause-front g c =
-    let (long, within, came, more, whole, told, front) = c.loop-turns.invariant in
+pub returns-then-run-clause-front : goal.returns-then-run-clause-front
+returns-then-run-clause-front g c =
+    let (long, within, came, more, whole, told, front) = c.loop.invariant in
     let w = whole (search rules) in
     fronts_from g.O.Write.contents _ _ _ w.0 _ _ _ came (full_room _ _ long w.1) c.finish.ensures.front

@@ -5,8 +5,8 @@ use Rattle.block_input.specs.Output.{output_of}
 use Rattle.rebuild.specs.Runs.{WritesFront}
 use Rattle.rebuild.proofs.run_all.Given as goal
 
-abbrev pub invariant-loop-turns : goal.invariant-loop-turns
-invariant-loop-turns g l =
+abbrev pub invariant-loop : goal.invariant-loop
+invariant-loop g l =
     let r0 = g.I.Read.remaining l.initial.reader in
     let r1 = g.I.Read.remaining l.reader in
     let o0 = g.O.Write.contents l.initial.to.output in
@@ -17,6 +17,3 @@ invariant-loop-turns g l =
     × (l.run.whole ≡ true → (l.to.output ≡ l.initial.to.output) × (IsAtEnd r1 ⊎ (l.run.used ≡ 68612)))
     × (l.run.told ≡ true → IfSome r0 (λ xs. Appends o0 o1 (output_of xs)))
     × IfSome r0 (λ xs. WritesFront o0 o1 (output_of xs))
-
-abbrev pub decreases-loop-turns : goal.decreases-loop-turns
-decreases-loop-turns g l = l.turns

@@ -28,20 +28,6 @@ returns-then-not-tested c =
     attempt-fails A (λ p. (c.slice_known-3-1.given p).fits) c.test-tested.ensures (not-true _ c.if-not-tested.true)
 
 -- the places of the word, and of one group
-pub slice_bounds-copy-end : goal.slice_bounds-copy-end
-slice_bounds-copy-end c =
-    let A : Attempted byte_edition c.args.m c.args.w c.args.c c.args.marks.now c.args.word.now c.candidate-s.new.out =
-    attempted c.requires.good_in c.requires.word_len (λ i. (c.slice_known-1.given i).fits) c.requires.marks_len
-    (c.candidate-s.ensures.candidate_in c.requires.good_in c.requires.word_len c.requires.marks_len c.requires.found_len) in
-    omega (arith, same-length-of A, one-group A)
-
-pub slice_bounds-copy-end-3 : goal.slice_bounds-copy-end-3
-slice_bounds-copy-end-3 c =
-    let A : Attempted byte_edition c.args.m c.args.w c.args.c c.args.marks.now c.args.word.now c.candidate-s.new.out =
-    attempted c.requires.good_in c.requires.word_len (λ i. (c.slice_known-1.given i).fits) c.requires.marks_len
-    (c.candidate-s.ensures.candidate_in c.requires.good_in c.requires.word_len c.requires.marks_len c.requires.found_len) in
-    omega (arith, one-group A)
-
 pub returns : goal.returns
 returns c =
     let A : Attempted byte_edition c.args.m c.args.w c.args.c c.args.marks.now c.args.word.now c.candidate-s.new.out =

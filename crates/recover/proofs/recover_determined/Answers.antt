@@ -1,8 +1,6 @@
-use Rattle.std.proofs.Common.{refl, sym, ◌∙◌, arith, length-take}
+use Rattle.std.proofs.Common.{refl, sym, arith, length-take}
 use Rattle.code.specs.LimitsLaws.{places-most}
-use Rattle.shape.specs.Shapes.{byte_limits}
 use Rattle.byte_edition.specs.EditionLaws.{bytes-sound}
-use Rattle.code_services.specs.Attempt.{AcceptedIn}
 use Rattle.code_services.specs.AttemptLaws.{accepted}
 use Rattle.code_loops.specs.RecoverLaws.{recover-nine, recover-done, named-most}
 use Rattle.recover.proofs.recover_determined.Goals as goal

@@ -1,37 +1,28 @@
-use Rattle.std.proofs.Common.{◌≡◌, sym, ◌∙◌}
-use Rattle.code.specs.Limits.{place_count, data_count}
-use Rattle.code.specs.LimitsLaws.{buffers-of-good, buffers-word-length, buffers-data-length}
-use Rattle.shape.specs.Laws.{shaped, unshaped, buffers-unshaped}
+use Rattle.std.proofs.Common.{sym, ap, ◌∙◌, arith}
+use Rattle.code.specs.Limits.{buffer_refusal_in}
+use Rattle.code.specs.LimitsLaws.{good-of-word, buffers-of-good, buffers-data-length}
+use Rattle.answers.specs.Answers.{refused_number}
+use Rattle.answers.specs.AnswersLaws.{passed, else-first}
 use Rattle.shape.proofs.buffer_refusal.Goals as goal
 
-pub returns-then-word-n : goal.returns-then-word-n
-returns-then-word-n c =
-    let a = c.args in
-    let s = c.in-Good.s in
-    let g = shaped a.m a.w a.c s (cc) in
-    let e : c.n.result ≡ place_count a.m a.w = cc in
-    sym (buffers-word-length a.m a.w a.c a.word a.bytes g.good (λ q. c.if-word-n.true (q ∙ sym e)))
+pub returns-in_err-word_refusal : goal.returns-in_err-word_refusal
+unfolding buffer_refusal_in
+returns-in_err-word_refusal g c = ap refused_number (passed c.from_residual.ensures) ∙ else-first _ c.in_err-word_refusal.ensures _
 
-pub returns-then-bytes-k : goal.returns-then-bytes-k
-returns-then-bytes-k c =
+pub data_count-requires : goal.data_count-requires
+data_count-requires g c =
     let a = c.args in
-    let s = c.in-Good.s in
-    let g = shaped a.m a.w a.c s (cc) in
-    let e : c.n.result ≡ place_count a.m a.w = cc in
-    let f : c.k.result ≡ data_count a.m a.w a.c = cc in
-    sym (buffers-data-length a.m a.w a.c a.word a.bytes g.good (c.if-word-n.false ∙ e) (λ q. c.if-bytes-k.true (q ∙ sym f)))
+    let k = (good-of-word {L = g.E.Edition.limits} a.m a.w a.c a.word (sym c.in_ok-word_refusal.ensures)).0 in
+    record { few_groups = omega (arith, k.few, g.E.Edition.few_groups); narrow = omega (arith, k.narrow, g.E.Edition.narrow) }
 
-pub returns-in-Refused : goal.returns-in-Refused
-returns-in-Refused c =
+pub returns-then-symbols-data_count : goal.returns-then-symbols-data_count
+returns-then-symbols-data_count g c =
     let a = c.args in
-    let r = c.in-Refused.r in
-    sym (buffers-unshaped a.m a.w a.c a.word a.bytes r (unshaped a.m a.w a.c r (cc)))
+    let k = good-of-word {L = g.E.Edition.limits} a.m a.w a.c a.word (sym c.in_ok-word_refusal.ensures) in
+    sym (buffers-data-length a.m a.w a.c a.word a.symbols k.0 k.1 (λ q. c.if-symbols-data_count.true (q ∙ sym c.data_count.ensures)))
 
-pub returns-else-bytes-k : goal.returns-else-bytes-k
-returns-else-bytes-k c =
+pub returns : goal.returns
+returns g c =
     let a = c.args in
-    let s = c.in-Good.s in
-    let g = shaped a.m a.w a.c s (cc) in
-    let e : c.n.result ≡ place_count a.m a.w = cc in
-    let f : c.k.result ≡ data_count a.m a.w a.c = cc in
-    sym (buffers-of-good a.m a.w a.c a.word a.bytes g.good (c.if-word-n.false ∙ e) (c.if-bytes-k.false ∙ f))
+    let k = good-of-word {L = g.E.Edition.limits} a.m a.w a.c a.word (sym c.in_ok-word_refusal.ensures) in
+    sym (buffers-of-good a.m a.w a.c a.word a.symbols k.0 k.1 (c.if-symbols-data_count.false ∙ c.data_count.ensures))

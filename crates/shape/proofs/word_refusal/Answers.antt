@@ -1,27 +1,29 @@
-use Rattle.std.proofs.Common.{◌≡◌, sym, ◌∙◌}
-use Rattle.code.specs.Limits.{place_count}
-use Rattle.code.specs.LimitsLaws.{word-of-good, word-length}
-use Rattle.shape.specs.Laws.{shaped, unshaped, word-unshaped}
+use Rattle.std.proofs.Common.{sym, ap, ◌∙◌, arith}
+use Rattle.code.specs.Limits.{word_refusal_in}
+use Rattle.code.specs.LimitsLaws.{good-of-refusal, word-of-good, word-length}
+use Rattle.answers.specs.Answers.{refused_number}
+use Rattle.answers.specs.AnswersLaws.{passed, else-first}
+use Rattle.shape.specs.Laws.{places-small}
 use Rattle.shape.proofs.word_refusal.Goals as goal
 
-pub returns-then-word-n : goal.returns-then-word-n
-returns-then-word-n c =
-    let a = c.args in
-    let s = c.in-Good.s in
-    let g = shaped a.m a.w a.c s (cc) in
-    let e : c.n.result ≡ place_count a.m a.w = cc in
-    sym (word-length a.m a.w a.c a.word g.good (λ q. c.if-word-n.true (q ∙ sym e)))
+pub returns-in_err-shape_refusal : goal.returns-in_err-shape_refusal
+unfolding word_refusal_in
+returns-in_err-shape_refusal g c = ap refused_number (passed c.from_residual.ensures) ∙ else-first _ c.in_err-shape_refusal.ensures _
 
-pub returns-in-Refused : goal.returns-in-Refused
-returns-in-Refused c =
+pub overflow_mul-m : goal.overflow_mul-m
+overflow_mul-m g c =
     let a = c.args in
-    let r = c.in-Refused.r in
-    sym (word-unshaped a.m a.w a.c a.word r (unshaped a.m a.w a.c r (cc)))
+    let k = good-of-refusal {L = g.E.Edition.limits} a.m a.w a.c (sym c.in_ok-shape_refusal.ensures) in
+    omega (arith, places-small k g.E.Edition.few_groups g.E.Edition.narrow)
 
-pub returns-else-word-n : goal.returns-else-word-n
-returns-else-word-n c =
+pub returns-then-word-m : goal.returns-then-word-m
+returns-then-word-m g c =
     let a = c.args in
-    let s = c.in-Good.s in
-    let g = shaped a.m a.w a.c s (cc) in
-    let e : c.n.result ≡ place_count a.m a.w = cc in
-    sym (word-of-good a.m a.w a.c a.word g.good (c.if-word-n.false ∙ e))
+    let k = good-of-refusal {L = g.E.Edition.limits} a.m a.w a.c (sym c.in_ok-shape_refusal.ensures) in
+    sym (word-length a.m a.w a.c a.word k c.if-word-m.true)
+
+pub returns : goal.returns
+returns g c =
+    let a = c.args in
+    let k = good-of-refusal {L = g.E.Edition.limits} a.m a.w a.c (sym c.in_ok-shape_refusal.ensures) in
+    sym (word-of-good a.m a.w a.c a.word k c.if-word-m.false)

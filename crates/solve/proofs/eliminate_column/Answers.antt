@@ -1,16 +1,19 @@
-use Rattle.std.proofs.Common.{ap, ◌∙◌, arith}
-use Rattle.code_engine.specs.Elimination.{cleared}
-use Rattle.solve.specs.Flat.{rows_of}
-use Rattle.solve.proofs.Laws.{column-found, column-none}
+use Rattle.std.proofs.Common.{ap, ◌∙◌, arith, set, refl}
+use Rattle.code_engine.specs.Elimination.{cleared, normalized}
+use Rattle.solve.proofs.Laws.{swap-exchanged, column-found, column-none}
 use Rattle.solve.proofs.eliminate_column.Goals as goal
 
-pub returns-then-t-i : goal.returns-then-t-i
-returns-then-t-i c =
+pub returns-in-Some : goal.returns-in-Some
+unfolding normalized
+returns-in-Some c =
     let a = c.args in
-    column-none 8 285 (rows_of a.x.now) a.j a.t c.pivot-i.result c.pivot-i.ensures (omega arith)
+    let i = c.in-Some.i in
+    let found = c.in-Some.ensures.some in
+    let swapped = c.swap.ensures.after ∙ swap-exchanged a.rows.now a.j i (omega arith) (omega (arith, found.1)) in
+    c.clear.ensures ∙ ap (λ A. cleared 8 285 A a.j a.t) (ap (set _ a.j) c.normalize.ensures)
+    ∙ column-found 8 285 a.rows.now a.j a.t i _ found.0 found.1 swapped
 
-pub returns : goal.returns
-returns c =
+pub returns-in_default : goal.returns-in_default
+returns-in_default c =
     let a = c.args in
-    c.clear.ensures ∙ ap (λ A. cleared 8 285 A a.j a.t) c.normalize.ensures
-    ∙ column-found 8 285 (rows_of a.x.now) a.j a.t c.pivot-i.result _ c.pivot-i.ensures (omega arith) c.exchange.ensures
+    column-none 8 285 a.rows.now a.j a.t _ refl (rw c.in_default.is at c.pivot.ensures.none)

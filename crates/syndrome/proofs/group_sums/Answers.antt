@@ -1,18 +1,8 @@
-use Rattle.std.proofs.Common.{refl, ap, ap₂, ◌∙◌, arith, length}
+use Rattle.std.proofs.Common.{ap, ap₂, ◌∙◌, arith, length}
 use Rattle.binary_field.specs.Product.{product}
 use Rattle.byte_edition.specs.Edition.{byte_edition}
 use Rattle.code_engine.specs.PartsLaws.{second-coefficient-group}
 use Rattle.syndrome.proofs.group_sums.Goals as goal
-
-pub returns-then-not-in_range : goal.returns-then-not-in_range
-returns-then-not-in_range c = record { value = λ narrow some few _. absurd (c.in_range.ensures.fact c.if-not-in_range.true narrow some few); value_2 = λ _. refl }
-
-pub returns-then-g-gt14 : goal.returns-then-g-gt14
-returns-then-g-gt14 c = record { value = λ _ _ _ h. absurd (omega arith); value_2 = λ _. refl }
-
-pub padded_sums-s-requires : goal.padded_sums-s-requires
-padded_sums-s-requires c =
-    c.in_range.ensures.places_bound c.if-not-in_range.false
 
 pub returns : goal.returns
 returns c =

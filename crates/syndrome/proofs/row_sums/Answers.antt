@@ -1,12 +1,6 @@
-use Rattle.std.proofs.Common.{ap₂, ◌∙◌, arith, length-take}
+use Rattle.std.proofs.Common.{ap₂, ◌∙◌, arith}
 use Rattle.syndrome.specs.PartsLaws.{first_group, second_group, front-group}
 use Rattle.syndrome.proofs.row_sums.Goals as goal
-
-pub slice_bounds-padded-end : goal.slice_bounds-padded-end
-slice_bounds-padded-end c = simp length-take (omega arith)
-
-pub slice_bounds-padded-end-2 : goal.slice_bounds-padded-end-2
-slice_bounds-padded-end-2 c = simp length-take (omega arith)
 
 pub returns : goal.returns
 returns c =

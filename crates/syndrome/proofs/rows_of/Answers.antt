@@ -31,7 +31,6 @@ loop-g-init c =
     let a = c.args in
     let e : 0 ≡ a.m - a.m = omega arith in (
       record { good = c.requires.good_in; size = c.requires.word_len },
-      omega arith,
       subst (λ n. HornerRows byte_edition a.w a.word.now a.m n (replicate 16 0) (replicate 16 0)) e
           (rows_none bytes-sound a.w a.word.now a.m (replicate 16 0) (replicate 16 0) (λ j _. zeros-row 16 j) (λ j _. zeros-row 16 j)),
     )
@@ -57,9 +56,8 @@ loop-g-preserved c =
     let a = c.args in
     let L = c.loop-g.invariant.0 in (
       L,
-      omega arith,
-      step a.w a.word.now _ _ _ _ a.m c.loop-g.g (omega arith) c.loop-g.invariant.1 L.good.narrow (λ i. (c.shared_slice_known-1.given i).fits)
-          c.loop-g.invariant.2 c.add_part-r.ensures,
+      step a.w a.word.now _ _ _ _ a.m c.loop-g.g (omega arith) (omega arith) L.good.narrow (λ i. let f = c.type_inv.word i in omega arith)
+          c.loop-g.invariant.1 c.add_part-r.ensures,
     )
 
 pub returns : goal.returns
@@ -67,4 +65,4 @@ returns c =
     let a = c.args in
     let z : c.loop-g.g ≡ 0 = omega arith in
     let d : a.m - 0 ≡ a.m = omega arith in
-    subst (λ n. HornerRows byte_edition a.w a.word.now 0 n c.loop-g.plain c.loop-g.weighted) d (rw z at c.loop-g.invariant.2)
+    subst (λ n. HornerRows byte_edition a.w a.word.now 0 n c.loop-g.plain c.loop-g.weighted) d (rw z at c.loop-g.invariant.1)

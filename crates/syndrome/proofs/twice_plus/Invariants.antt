@@ -1,11 +1,8 @@
-use Rattle.std.proofs.Common.{◌≡◌, ℕ, ◌-◌, ◌≤◌, ◌<◌, length, get_or}
+use Rattle.std.proofs.Common.{◌≡◌, ℕ, ◌<◌, length, get_or}
 use Rattle.binary_field.specs.Xor.{◌⊕◌}
 use Rattle.binary_field.specs.Product.{double}
 use Rattle.syndrome.proofs.twice_plus.Given as goal
 
 abbrev pub invariant-loop-i : goal.invariant-loop-i
 invariant-loop-i l =
-    (l.i ≤ 16) × (16 ≤ length l.part) × (length l.r ≡ 16) × ((j : ℕ) → j < l.i → get_or l.r j 0 ≡ double 8 285 (get_or l.x j 0) ⊕ get_or l.part j 0)
-
-abbrev pub decreases-loop-i : goal.decreases-loop-i
-decreases-loop-i l = 16 - l.i
+    (length l.r ≡ 16) × ((j : ℕ) → j < l.i → get_or l.r j 0 ≡ double 8 285 (get_or l.x j 0) ⊕ get_or l.part j 0)

@@ -1,10 +1,7 @@
-use Rattle.std.proofs.Common.{refl, ap, length, arith}
+use Rattle.std.proofs.Common.{ap, length, arith}
 use Rattle.text.proofs.CellSteps.{count-step}
 use Rattle.text.specs.DecimalLaws.{digits-one, digits-most, digits-some}
 use Rattle.text.proofs.digit_count.Goals as goal
-
-pub loop-rest-init : goal.loop-rest-init
-loop-rest-init c = (refl, omega arith)
 
 pub overflow_add-n : goal.overflow_add-n
 overflow_add-n c = let s = digits-some 9 c.loop-rest.rest in let m = digits-most 9 c.args.x in omega arith

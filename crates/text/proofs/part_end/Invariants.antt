@@ -1,9 +1,6 @@
-use Rattle.std.proofs.Common.{◌≡◌, ◌-◌, ◌≤◌, max, length}
+use Rattle.std.proofs.Common.{◌≡◌, ◌≤◌, max, length}
 use Rattle.text.specs.Fields.{end_of}
 use Rattle.text.proofs.part_end.Given as goal
 
 abbrev pub invariant-loop-i : goal.invariant-loop-i
-invariant-loop-i l = (l.from ≤ l.i) × (l.i ≤ max l.from (length l.text)) × (end_of l.sep l.i l.text ≡ end_of l.sep l.from l.text)
-
-abbrev pub decreases-loop-i : goal.decreases-loop-i
-decreases-loop-i l = length l.text - l.i
+invariant-loop-i l = (l.i ≤ max l.from (length l.text)) × (end_of l.sep l.i l.text ≡ end_of l.sep l.from l.text)

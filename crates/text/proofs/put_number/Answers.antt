@@ -1,6 +1,6 @@
-use Rattle.std.proofs.Common.{length, length-set, arith, ◌∷◌, ◌+◌, sym, ◌∙◌, refl, ap}
+use Rattle.std.proofs.Common.{arith, ◌∷◌, ◌+◌, sym, ◌∙◌, refl, ap}
 use Rattle.text.proofs.CellSteps.{number_put}
-use Rattle.text.specs.WrittenLaws.{put-none, length-written}
+use Rattle.text.specs.WrittenLaws.{put-none}
 use Rattle.text.specs.Decimal.{digits_of}
 use Rattle.text.proofs.put_number.Goals as goal
 
@@ -15,15 +15,6 @@ returns-then-out-start c =
     let a = c.args in
     let p = put-none a.out.now a.at (9 ∷ digits_of 9 a.x) (omega arith) in
     record { next = sym p.0; out = sym p.1 }
-
-pub write_digits-requires : goal.write_digits-requires
-write_digits-requires c = simp length-set (omega arith)
-
-pub shape_of-out : goal.shape_of-out
-shape_of-out c =
-    let a = c.args in
-    ap length c.write_digits.ensures ∙ length-written _ _ (digits_of 9 a.x) (simp length-set (omega arith)) ∙ length-set
-    a.out.now a.at 9
 
 pub returns : goal.returns
 returns c =

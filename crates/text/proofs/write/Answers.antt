@@ -1,19 +1,14 @@
-use Rattle.std.proofs.Common.{take_all, length, length-set, arith, ◌≤◌, refl, sym}
-use Rattle.text.proofs.CellSteps.{write_step}
-use Rattle.text.specs.WrittenLaws.{written-nothing}
+use Rattle.std.proofs.Common.{◌≡◌, ◌+◌, ◌-◌, ◌≤◌, arith, length}
+use borrow.Rule.Slice.PartMut.{Post-is}
+use Rattle.text.specs.Written.{written}
 use Rattle.text.proofs.write.Goals as goal
 
-pub loop-i-init : goal.loop-i-init
-loop-i-init c = (omega arith, refl, sym (written-nothing _ _))
-
-pub loop-i-preserved : goal.loop-i-preserved
-loop-i-preserved c =
-    let l = c.loop-i in
-    (omega arith, simp length-set (omega arith), write_step _ l.out _ _ l.i (omega arith) (omega arith) l.invariant.2)
-
 pub returns : goal.returns
+unfolding written
 returns c =
-    let l = c.loop-i in
-    let n = c.args.text.now in
-    let h : length n ≤ l.i = omega arith in
-    rw (take_all l.i n h) at l.invariant.2
+    let a = c.args.at in
+    let text = c.args.text.now in
+    let out = c.args.out.now in
+    let h : a + length text ≤ length out = c.requires in
+    let n : a + length text - a ≡ length text = omega arith in
+    rw (c.copy_from_slice.ensures.after, Post-is a (a + length text) out (omega arith))

@@ -1,4 +1,4 @@
-use Rattle.std.proofs.Common.{length-set, arith}
+use Rattle.std.proofs.Common.{arith}
 use Rattle.text.proofs.CellSteps.{back_start, back-same, back_more, back_last}
 use Rattle.text.proofs.write_digits.Goals as goal
 
@@ -32,12 +32,6 @@ bounds-out-at c =
     let l = c.loop-rest in
     let a = c.args in
     (back_last a.out.now a.at a.end a.x c.requires.1 l.out l.i l.rest l.invariant (omega arith)).0
-
-pub shape_of-out : goal.shape_of-out
-shape_of-out c =
-    let l = c.loop-rest in
-    let a = c.args in
-    simp length-set (back-same a.out.now a.at a.end a.x c.requires.1 l.out l.i l.rest l.invariant)
 
 pub returns : goal.returns
 returns c =

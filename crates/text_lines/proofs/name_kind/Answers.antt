@@ -20,9 +20,9 @@ returns-then-is_same-3 c =
       sym c.is_same-3.ensures ∙ c.if-is_same-3.true,
     )
 
-pub returns-else-is_same-3 : goal.returns-else-is_same-3
+pub returns : goal.returns
 unfolding name_kind
-returns-else-is_same-3 c =
+returns c =
     simp (
       sym c.is_same.ensures ∙ c.if-is_same.false,
       sym c.is_same-2.ensures ∙ c.if-is_same-2.false,

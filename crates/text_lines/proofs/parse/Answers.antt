@@ -1,28 +1,42 @@
-use Rattle.std.proofs.Common.{refl, sym, ◌∙◌, arith, length-take-le}
+use Rattle.std.proofs.Common.{sym, ap, ◌∙◌, arith}
 use Rattle.text.specs.RecordLaws.{kind-long}
-use Rattle.text_lines.proofs.LineKinds.{kind-over, kind-under, holds}
+use Rattle.text_lines.specs.Kinds.{kind_number, kind_or_none, record_number}
+use Rattle.text_lines.proofs.LineKinds.{kind-none, kind-over, kind-miscounted, kind-read, holds}
 use Rattle.text_lines.proofs.parse.Goals as goal
 
-pub returns-then-line-gt1024 : goal.returns-then-line-gt1024
-returns-then-line-gt1024 c = record { kind = sym (kind-long c.args.line.now (omega arith)); values = λ n. absurd (n refl) }
+pub returns-then-line-gt1024-clause-kind : goal.returns-then-line-gt1024-clause-kind
+returns-then-line-gt1024-clause-kind c = sym (kind-long c.args.line.now (omega arith))
 
-pub slice_bounds-name_kind-end : goal.slice_bounds-name_kind-end
-slice_bounds-name_kind-end c =
-    sym (length-take-le c.part_end-e.result c.args.line.now (omega arith))
+pub returns-in_err-kind-clause-kind : goal.returns-in_err-kind-clause-kind
+returns-in_err-kind-clause-kind c =
+    let e = c.part_end-e in
+    ap record_number c.from_residual.ensures
+    ∙ kind-none c.args.line.now (omega arith) e.result e.ensures.end (sym (ap kind_or_none c.in_err-kind.was) ∙ c.name_kind.ensures)
 
-pub returns-then-not-all_under : goal.returns-then-not-all_under
-returns-then-not-all_under c =
-    let over = sym c.all_under.ensures ∙ c.if-not-all_under.true in
-    let line = c.args.line.now in
-    record { kind = kind-over line (omega arith) c.part_end-e.result c.part_end-e.ensures.end c.name_kind-kind.result c.name_kind-kind.ensures (cc); values = λ c. absurd (c refl) }
+pub returns-then-not-all_under-clause-kind : goal.returns-then-not-all_under-clause-kind
+returns-then-not-all_under-clause-kind c =
+    let e = c.part_end-e in
+    kind-over c.args.line.now (omega arith) e.result e.ensures.end (kind_number c.in_ok-kind.kind)
+    (sym (ap kind_or_none c.in_ok-kind.was) ∙ c.name_kind.ensures)
+    (cc (sym c.all_under.ensures ∙ c.if-not-all_under.true))
 
-pub write_values-count-requires : goal.write_values-count-requires
-write_values-count-requires c = record { from_in_bounds = omega arith; line_in_bounds = omega arith; line_in_bounds_2 = omega arith }
+pub returns-then-not-is_count-clause-kind : goal.returns-then-not-is_count-clause-kind
+returns-then-not-is_count-clause-kind c =
+    let e = c.part_end-e in
+    kind-miscounted c.args.line.now (omega arith) e.result e.ensures.end (kind_number c.in_ok-kind.kind)
+    (sym (ap kind_or_none c.in_ok-kind.was) ∙ c.name_kind.ensures)
+    (cc (sym c.all_under.ensures ∙ c.if-not-all_under.false))
+    (cc (sym c.is_count.ensures ∙ c.if-not-is_count.true))
 
-pub returns : goal.returns
-returns c =
-    let line = c.args.line.now in
+pub returns-clause-kind : goal.returns-clause-kind
+returns-clause-kind c =
+    let e = c.part_end-e in
+    kind-read c.args.line.now (omega arith) e.result e.ensures.end (kind_number c.in_ok-kind.kind)
+    (sym (ap kind_or_none c.in_ok-kind.was) ∙ c.name_kind.ensures)
+    (cc (sym c.all_under.ensures ∙ c.if-not-all_under.false))
+    (cc (sym c.is_count.ensures ∙ c.if-not-is_count.false))
+
+pub returns-clause-values : goal.returns-clause-values
+returns-clause-values c =
     let v = c.write_values-count.ensures in
-    let under = sym c.all_under.ensures ∙ c.if-not-all_under.false in
-    let k = kind-under line (omega arith) c.part_end-e.result c.part_end-e.ensures.end c.name_kind-kind.result c.name_kind-kind.ensures (cc) in
-    record { kind = cc; values = λ _. holds line (omega arith) c.part_end-e.result c.part_end-e.ensures.end _ v.value v.bytes_after v.marks_after }
+    holds c.args.line.now (omega arith) c.part_end-e.result c.part_end-e.ensures.end _ v.value v.bytes_after v.marks_after

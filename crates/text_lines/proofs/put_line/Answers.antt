@@ -1,4 +1,4 @@
-use Rattle.std.proofs.Common.{length-set, rules}
+use Rattle.std.proofs.Common.{rules}
 use Rattle.text.specs.Lines.{line_of}
 use Rattle.text_lines.proofs.Steps.{Fed, line_first, line-fed}
 use Rattle.text_lines.proofs.put_line.Goals as goal
@@ -28,16 +28,6 @@ overflow_add-result c =
     line-fed a.out.now a.name.now a.numbers.now n.new.out u.new.out n.result u.result c.requires n.ensures.next
     n.ensures.out u.ensures.next u.ensures.out in
     search rules
-
-pub shape_of-out : goal.shape_of-out
-shape_of-out c =
-    let a = c.args in
-    let n = c.put_text-at in
-    let u = c.put_numbers-end in
-    let f : Fed a.out.now u.new.out (line_of a.name.now a.numbers.now) u.result =
-    line-fed a.out.now a.name.now a.numbers.now n.new.out u.new.out n.result u.result c.requires n.ensures.next
-    n.ensures.out u.ensures.next u.ensures.out in
-    simp length-set f.same
 
 pub returns : goal.returns
 returns c =

@@ -1,4 +1,4 @@
-use Rattle.std.proofs.Common.{length-set, rules}
+use Rattle.std.proofs.Common.{rules}
 use Rattle.text_lines.specs.WordLine.{contradictory_word_line}
 use Rattle.text_lines.proofs.Steps.{Fed, nine-fed}
 use Rattle.text_lines.proofs.put_nine.Goals as goal
@@ -24,17 +24,6 @@ overflow_add-result c =
     nine-fed a.out.now p.new.out q.new.out r.new.out p.result q.result r.result a.word a.group c.requires
     p.ensures.next p.ensures.out q.ensures.next q.ensures.out r.ensures.next r.ensures.out in
     search rules
-
-pub shape_of-out : goal.shape_of-out
-shape_of-out c =
-    let a = c.args in
-    let p = c.put_text-a in
-    let q = c.put_number-b in
-    let r = c.put_number-e in
-    let f : Fed a.out.now r.new.out (contradictory_word_line a.word a.group) r.result =
-    nine-fed a.out.now p.new.out q.new.out r.new.out p.result q.result r.result a.word a.group c.requires
-    p.ensures.next p.ensures.out q.ensures.next q.ensures.out r.ensures.next r.ensures.out in
-    simp length-set f.same
 
 pub returns : goal.returns
 returns c =

@@ -1,5 +1,5 @@
-use Rattle.std.proofs.Common.{◌≡◌, sym, ◌∙◌, ◌+◌, ◌-◌, ◌≤◌, arith, length}
-use borrow.Rule.Slice.PartMut.{Post-is, mid_len}
+use Rattle.std.proofs.Common.{◌≡◌, ◌+◌, ◌-◌, ◌≤◌, arith, length}
+use borrow.Rule.Slice.PartMut.{Post-is}
 use Rattle.text.specs.Written.{written}
 use Rattle.text_stream.proofs.put.Goals as goal
 
@@ -11,5 +11,4 @@ returns c =
     let out = c.args.out.now in
     let h : a + length text ≤ length out = c.requires in
     let n : a + length text - a ≡ length text = omega arith in
-    let e = c.copy.ensures.to_after (sym (mid_len a (a + length text) out h ∙ n)) in
-    rw (e, Post-is a (a + length text) out (omega arith))
+    rw (c.copy_from_slice.ensures.after, Post-is a (a + length text) out (omega arith))

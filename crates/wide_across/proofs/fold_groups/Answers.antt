@@ -1,19 +1,14 @@
-use Rattle.std.proofs.Common.{◌≡◌, refl, sym, ap, ◌∙◌, subst, List, ℕ, suc, ◌+◌, ◌-◌, ◌*◌, ◌≤◌, ◌<◌, arith, length, get_or, take, drop, replicate}
-use lib.ListN.{length-replicate, get_or-replicate}
+use Rattle.std.proofs.Common.{◌≡◌, refl, sym, ap, ◌∙◌, subst, List, ℕ, suc, ◌+◌, ◌-◌, ◌*◌, ◌<◌, arith, get_or, take, drop, replicate}
+use lib.ListN.{get_or-replicate}
 use Rattle.binary_field.specs.Xor.{◌⊕◌}
 use Rattle.binary_field.specs.Product.{double}
-use Rattle.code.specs.Lent.{LentIn}
-use Rattle.code.specs.LentLaws.{end_fits, part-stretch, part_length}
+use Rattle.code.specs.LentLaws.{part-stretch, part_length}
 use Rattle.code.specs.StretchLaws.{stretch-at}
-use Rattle.wide_shape.specs.Edition.{wide_limits, wide_edition}
+use Rattle.wide_shape.specs.Edition.{wide_edition}
 use Rattle.wide_shape.specs.EditionLaws.{wide-sound}
 use Rattle.code_engine.specs.Horner.{HornerRows}
 use Rattle.code_engine.specs.HornerLaws.{rows_none, rows_more}
 use Rattle.wide_across.proofs.fold_groups.Goals as goal
-
--- the end of the group that is next
-next-end : {m w c : ℕ} {word : List ℕ} → LentIn wide_limits m w c word → (g : ℕ) → 0 < g → g ≤ m → (g - 1) * w + w ≤ length word
-next-end L g h l = end_fits L (g - 1) (omega arith)
 
 counted : (w : ℕ) (word : List ℕ) (g : ℕ) {n k : ℕ} {x y : List ℕ} → n ≡ k → HornerRows wide_edition w word g k x y → HornerRows wide_edition w word g n x y
 counted w word g {x = x} {y = y} e = subst (λ i. HornerRows wide_edition w word g i x y) (sym e)
@@ -26,31 +21,9 @@ loop-g-init c =
     let a = c.args in
     let none : a.m - a.m ≡ 0 = omega arith in (
       record { good = c.requires.good_in; size = c.requires.word_len },
-      omega arith,
-      ap length c.requires.x_value.0 ∙ length-replicate a.w 0,
-      ap length c.requires.x_value.1 ∙ length-replicate a.w 0,
       subst (λ k. HornerRows wide_edition a.w a.word.now a.m k a.x.now a.y.now) (sym none)
           (rows_none wide-sound a.w a.word.now a.m a.x.now a.y.now (zeros a.w c.requires.x_value.0) (zeros a.w c.requires.x_value.1)),
     )
-
-pub overflow_mul-start : goal.overflow_mul-start
-overflow_mul-start c = omega (arith, next-end c.loop-g.invariant.0 c.loop-g.g c.loop-g-test.true c.loop-g.invariant.1)
-
-pub overflow_add-end : goal.overflow_add-end
-overflow_add-end c = omega (arith, next-end c.loop-g.invariant.0 c.loop-g.g c.loop-g-test.true c.loop-g.invariant.1)
-
-pub offset_bounds-word-start : goal.offset_bounds-word-start
-offset_bounds-word-start c =
-    let L = c.loop-g.invariant.0 in
-    omega (arith, next-end L c.loop-g.g c.loop-g-test.true c.loop-g.invariant.1, L.size, L.good.fits)
-
-pub slice_bounds-fold-end : goal.slice_bounds-fold-end
-slice_bounds-fold-end c = omega (arith, next-end c.loop-g.invariant.0 c.loop-g.g c.loop-g-test.true c.loop-g.invariant.1)
-
-pub fold-requires : goal.fold-requires
-fold-requires c =
-    let e = part_length c.loop-g.invariant.0 (c.loop-g.g - 1) (omega arith) refl in
-    record { x_len = c.loop-g.invariant.2 ∙ sym e; y_len = c.loop-g.invariant.3 ∙ sym e }
 
 pub loop-g-preserved : goal.loop-g-preserved
 loop-g-preserved c =
@@ -64,31 +37,10 @@ loop-g-preserved c =
     let at : (j : ℕ) → j < a.w → get_or (take (g * a.w + a.w - g * a.w) (drop (g * a.w) a.word.now)) j 0 ≡ get_or a.word.now (g * a.w + j) 0 =
     λ j b. ap (λ p. get_or p j 0) (part-stretch L g l refl) ∙ stretch-at a.w g a.word.now j b in (
       L,
-      omega arith,
-      c.fold.ensures.plus.size ∙ c.loop-g.invariant.2,
-      c.fold.ensures.twice_plus.size ∙ c.loop-g.invariant.3,
       counted a.w a.word.now g k
           (rows_more wide-sound a.w a.word.now
-          (subst (λ i. HornerRows wide_edition a.w a.word.now i (a.m - c.loop-g.g) c.loop-g.x c.loop-g.y) h c.loop-g.invariant.4)
+          (subst (λ i. HornerRows wide_edition a.w a.word.now i (a.m - c.loop-g.g) c.loop-g.x c.loop-g.y) h c.loop-g.invariant.1)
           (λ p. (c.shared_slice_known-1.given p).fits)
           (λ j b. c.fold.ensures.plus.each j (subst (λ k. j < k) (sym n) b) ∙ ap (λ v. get_or c.loop-g.x j 0 ⊕ v) (at j b))
           (λ j b. c.fold.ensures.twice_plus.each j (subst (λ k. j < k) (sym n) b) ∙ ap (λ v. double 16 69643 (get_or c.loop-g.y j 0) ⊕ v) (at j b))),
     )
-
-pub shape_of-x : goal.shape_of-x
-shape_of-x c =
-    c.loop-g.invariant.2 ∙ sym (ap length c.requires.x_value.0 ∙ length-replicate c.args.w 0)
-
-pub shape_of-y : goal.shape_of-y
-shape_of-y c =
-    c.loop-g.invariant.3 ∙ sym (ap length c.requires.x_value.1 ∙ length-replicate c.args.w 0)
-
-pub returns : goal.returns
-returns c =
-    let a = c.args in
-    let e : c.loop-g.g ≡ 0 = omega arith in
-    let k : a.m - c.loop-g.g ≡ a.m = omega arith in record {
-      horner_rows = subst (λ i. HornerRows wide_edition a.w a.word.now i a.m c.loop-g.x c.loop-g.y) e
-          (subst (λ i. HornerRows wide_edition a.w a.word.now c.loop-g.g i c.loop-g.x c.loop-g.y) k c.loop-g.invariant.4);
-      x_len = (c.loop-g.invariant.2, c.loop-g.invariant.3);
-    }

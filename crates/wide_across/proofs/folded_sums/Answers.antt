@@ -31,4 +31,4 @@ returns c =
     let few : a.c + 2 ≤ 6 = omega (arith, g.few-checks) in
     from-rows a.m a.w a.c a.word.now _ _ c.power_sums-p.result c.power_sums-q.result _ _ g.narrow R.horner_rows R.x_len.0 R.x_len.1
     (c.power_sums-p.ensures.power_sums (omega (arith, R.x_len.0, g.narrow)) few) (c.power_sums-q.ensures.power_sums (omega (arith, R.x_len.1, g.narrow)) few)
-    c.first_of-first.ensures c.second_of-second.ensures
+    c.weighted-first.ensures c.weighted-second.ensures

@@ -1,5 +1,5 @@
-use Rattle.std.proofs.Common.{◌≡◌, sym, ap, ◌∙◌, subst, List, ℕ, ◌+◌, ◌-◌, ◌*◌, ◌/◌, ◌≤◌, ◌<◌, arith, length, take, drop, length-take-le}
-use Rattle.wide_across.specs.PairsLaws.{part-size, coefficients-of, first-at, second_at, whole-size, first-sum, second-sum}
+use Rattle.std.proofs.Common.{◌≡◌, sym, ap, ◌∙◌, List, ℕ, ◌+◌, ◌-◌, ◌*◌, ◌/◌, ◌≤◌, ◌<◌, arith, length, take, drop, length-take-le}
+use Rattle.wide_across.specs.PairsLaws.{part-size, coefficients-of, first-at, second_at, first-sum, second-sum}
 use Rattle.wide_across.proofs.paired_sums.Goals as goal
 
 -- the numbers of w pairs, in steps of eight
@@ -12,30 +12,6 @@ same_size : (c w : ℕ) (all z : List ℕ) → length all ≡ 128 → length z �
 same_size c w all z ha hz h l k =
     let r = (room w k).1 in
     part-size all ((c - 1) * 32) ((w + 3) / 4 * 8) (omega (arith, r)) ∙ sym (length-take-le ((w + 3) / 4 * 8) z (omega (arith, r)))
-
-pub slice_bounds-multiply-end : goal.slice_bounds-multiply-end
-slice_bounds-multiply-end c =
-    let n : ℕ = (length c.args.x.now + 3) / 4 * 8 in
-    sym (length-take-le n c.pairs-z.result (subst (λ k. n ≤ k) (sym c.pairs-z.ensures.size)
-    (room (length c.args.x.now) c.requires.x_len_bound).1))
-
--- the pairs stay 32 numbers
-pub slice_bounds-pair_sums-end : goal.slice_bounds-pair_sums-end
-slice_bounds-pair_sums-end c =
-    let r = room (length c.args.x.now) c.requires.x_len_bound in
-    let M = c.multiply.ensures.each_times (same_size c.args.c (length c.args.x.now) c.coefficients-all.result c.pairs-z.result
-    c.coefficients-all.ensures.size c.pairs-z.ensures.size c.requires.c_nonzero.0 c.requires.c_nonzero.1 c.requires.x_len_bound) in
-    sym (whole-size c.pairs-z.ensures ((length c.args.x.now + 3) / 4 * 8) r.0 r.1 M)
-
-pub pair_sums-requires : goal.pair_sums-requires
-pair_sums-requires c = record {
-  w_bound = c.requires.x_len_bound;
-  z_len =
-      let r = room (length c.args.x.now) c.requires.x_len_bound in
-      let M = c.multiply.ensures.each_times (same_size c.args.c (length c.args.x.now) c.coefficients-all.result c.pairs-z.result
-      c.coefficients-all.ensures.size c.pairs-z.ensures.size c.requires.c_nonzero.0 c.requires.c_nonzero.1 c.requires.x_len_bound) in
-      whole-size c.pairs-z.ensures ((length c.args.x.now + 3) / 4 * 8) r.0 r.1 M;
-}
 
 pub returns : goal.returns
 returns c =

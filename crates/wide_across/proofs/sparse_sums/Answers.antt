@@ -1,4 +1,4 @@
-use Rattle.std.proofs.Common.{◌≡◌, sym, ap, ap₂, ◌∙◌, List, ℕ, ◌+◌, ◌*◌, add-one, arith, length, get_or}
+use Rattle.std.proofs.Common.{◌≡◌, sym, ap, ap₂, ◌∙◌, List, ℕ, ◌+◌, ◌*◌, add-one, get_or}
 use Rattle.binary_field.specs.Xor.{◌⊕◌}
 use Rattle.binary_field.specs.XorLaws.{⊕-bits, ⊕-zero-r}
 use Rattle.binary_field.specs.Product.{product}
@@ -20,7 +20,7 @@ none : (part : List ℕ) (j b : ℕ) → get_or part j 0 ≡ 0 → 0 ≡ product
 none part j b e = sym (ap (λ v. product 16 69643 v b) e ∙ zero-product 16 69643 b)
 
 pub loop-j-init : goal.loop-j-init
-loop-j-init c = (omega arith, sym (sum-none _), sym (sum-none _))
+loop-j-init c = (sym (sum-none _), sym (sum-none _))
 
 pub loop-j-preserved : goal.loop-j-preserved
 loop-j-preserved c =
@@ -28,24 +28,20 @@ loop-j-preserved c =
     let part : List ℕ = a.part.now in
     let row : List ℕ = a.row.now in
     let j : ℕ = c.loop-j.j in (
-      omega arith,
       elim c.if-v-ne0.branch [
-        | then-v-ne0 w ↦ (w.first-is ∙ ⊕-bits c.loop-j.first w.multiple-first.result ∙ more j (λ k. product 16 69643 (get_or part k 0) (get_or row (2 * k) 0)) c.loop-j.invariant.1
+        | then-v-ne0 w ↦ (w.first-is ∙ ⊕-bits c.loop-j.first w.multiple-first.result
+            ∙ more j (λ k. product 16 69643 (get_or part k 0) (get_or row (2 * k) 0)) c.loop-j.invariant.0
             w.multiple-first.ensures)
-        | else-v-ne0 w ↦ (w.first-is ∙ same j (λ k. product 16 69643 (get_or part k 0) (get_or row (2 * k) 0)) c.loop-j.invariant.1 (none part j (get_or row (2 * j) 0) w.if-v-ne0.false))
+        | else-v-ne0 w ↦ (w.first-is
+            ∙ same j (λ k. product 16 69643 (get_or part k 0) (get_or row (2 * k) 0))
+            c.loop-j.invariant.0 (none part j (get_or row (2 * j) 0) w.if-v-ne0.false))
       ],
       elim c.if-v-ne0.branch [
-        | then-v-ne0 w ↦ (w.second-is ∙ ⊕-bits c.loop-j.second w.multiple-second.result ∙ more j (λ k. product 16 69643 (get_or part k 0) (get_or row (2 * k + 1) 0)) c.loop-j.invariant.2
+        | then-v-ne0 w ↦ (w.second-is ∙ ⊕-bits c.loop-j.second w.multiple-second.result
+            ∙ more j (λ k. product 16 69643 (get_or part k 0) (get_or row (2 * k + 1) 0)) c.loop-j.invariant.1
             w.multiple-second.ensures)
-        | else-v-ne0 w ↦ (w.second-is ∙ same j (λ k. product 16 69643 (get_or part k 0) (get_or row (2 * k + 1) 0)) c.loop-j.invariant.2
+        | else-v-ne0 w ↦ (w.second-is
+            ∙ same j (λ k. product 16 69643 (get_or part k 0) (get_or row (2 * k + 1) 0)) c.loop-j.invariant.1
             (none part j (get_or row (2 * j + 1) 0) w.if-v-ne0.false))
       ],
     )
-
-pub returns : goal.returns
-returns c =
-    let a = c.args in
-    let e : c.loop-j.j ≡ length a.part.now = omega arith in
-    ap₂ (λ p q. record { first = p; second = q })
-    (c.loop-j.invariant.1 ∙ ap (λ n. sum_below n (λ k. product 16 69643 (get_or a.part.now k 0) (get_or a.row.now (2 * k) 0))) e)
-    (c.loop-j.invariant.2 ∙ ap (λ n. sum_below n (λ k. product 16 69643 (get_or a.part.now k 0) (get_or a.row.now (2 * k + 1) 0))) e)

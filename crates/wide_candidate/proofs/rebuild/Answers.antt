@@ -12,10 +12,7 @@ mend-requires c =
     rebuild-mend c.requires c.copy.ensures.to_after c.clear_free.ensures refl c.blank_lost.ensures
     c.fill_groups.ensures
 
-pub returns : goal.returns
-returns c =
-    record {
-      candidate_in = rebuilt wide-sound c.requires c.copy.ensures.to_after c.clear_free.ensures refl c.blank_lost.ensures c.fill_groups.ensures
-          (λ p. (c.shared_slice_known-1.given p).fits) (λ p. (c.slice_known-6-1.given p).fits) c.mend.ensures.mended_in;
-      value = c.mend.ensures.value;
-    }
+pub returns-clause-candidate_in : goal.returns-clause-candidate_in
+returns-clause-candidate_in c =
+    rebuilt wide-sound c.requires c.copy.ensures.to_after c.clear_free.ensures refl c.blank_lost.ensures c.fill_groups.ensures
+    (λ p. (c.shared_slice_known-1.given p).fits) (λ p. (c.slice_known-6-1.given p).fits) c.mend.ensures.mended_in

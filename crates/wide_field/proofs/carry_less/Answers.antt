@@ -1,54 +1,11 @@
-use Rattle.std.proofs.Common.{◌≡◌, refl, sym, ap₂, ◌∙◌, ℕ, ◌*◌, ◌<◌, ◌≤◌, mod-eq_of_lt, mul-le-mul, le_trans, arith, bit_and, lit<, lit≤}
-use lib.Bits.{and_comm, and_le_r, and_mask}
+use Rattle.std.proofs.Common.{◌≡◌, refl, sym, ap₂, ◌∙◌, ℕ, ◌*◌, ◌<◌, mod-eq_of_lt, arith, bit_and, lit<, lit≤}
+use lib.Bits.{and_comm, and_mask}
 use Rattle.binary_field.specs.Xor.{◌⊕◌}
 use Rattle.binary_field.specs.ProductLaws.{ring}
 use Rattle.wide_field.specs.CarryLess.{carry_less}
 use Rattle.wide_field.specs.CarryLessLaws.{and-add}
 use Rattle.wide_field.specs.SpacedLaws.{spaced-product}
 use Rattle.wide_field.proofs.carry_less.Goals as goal
-
--- the nine products fit
-small : (x y m n : ℕ) → m ≤ 65535 → n ≤ 65535 → bit_and x m * bit_and y n < 4294967296
-small x y m n h l =
-    let b : bit_and x m * bit_and y n ≤ 65535 * 65535 = mul-le-mul (le_trans (and_le_r x m) h) (le_trans (and_le_r y n) l) in
-    omega arith
-
--- what one class of x has with each class of y
-abbrev Fit : ℕ → ℕ → ℕ → Type 0
-Fit x y m = (bit_and x m * bit_and y 37449 < 4294967296) × (bit_and x m * bit_and y 9362 < 4294967296) × (bit_and x m * bit_and y 18724 < 4294967296)
-
-fit : (x y m : ℕ) → m ≤ 65535 → Fit x y m
-fit x y m h = (small x y m 37449 h (lit≤ tt), small x y m 9362 h (lit≤ tt), small x y m 18724 h (lit≤ tt))
-
-all : (x y : ℕ) → Fit x y 37449 × Fit x y 9362 × Fit x y 18724
-all x y = (fit x y 37449 (lit≤ tt), fit x y 9362 (lit≤ tt), fit x y 18724 (lit≤ tt))
-
-pub overflow_mul-r0 : goal.overflow_mul-r0
-overflow_mul-r0 c = let l = all c.args.a c.args.b in omega arith
-
-pub overflow_mul-r0-2 : goal.overflow_mul-r0-2
-overflow_mul-r0-2 c = let l = all c.args.a c.args.b in omega arith
-
-pub overflow_mul-r0-3 : goal.overflow_mul-r0-3
-overflow_mul-r0-3 c = let l = all c.args.a c.args.b in omega arith
-
-pub overflow_mul-r1 : goal.overflow_mul-r1
-overflow_mul-r1 c = let l = all c.args.a c.args.b in omega arith
-
-pub overflow_mul-r1-2 : goal.overflow_mul-r1-2
-overflow_mul-r1-2 c = let l = all c.args.a c.args.b in omega arith
-
-pub overflow_mul-r1-3 : goal.overflow_mul-r1-3
-overflow_mul-r1-3 c = let l = all c.args.a c.args.b in omega arith
-
-pub overflow_mul-r2 : goal.overflow_mul-r2
-overflow_mul-r2 c = let l = all c.args.a c.args.b in omega arith
-
-pub overflow_mul-r2-2 : goal.overflow_mul-r2-2
-overflow_mul-r2-2 c = let l = all c.args.a c.args.b in omega arith
-
-pub overflow_mul-r2-3 : goal.overflow_mul-r2-3
-overflow_mul-r2-3 c = let l = all c.args.a c.args.b in omega arith
 
 -- every digit stands in one of the three classes
 classes : (x : ℕ) → x < 65536 → bit_and x 37449 ⊕ (bit_and x 9362 ⊕ bit_and x 18724) ≡ x
@@ -87,4 +44,4 @@ nine x y lx ly =
 
 pub returns : goal.returns
 unfolding ◌⊕◌
-returns c = nine c.args.a c.args.b (omega arith) (omega arith)
+returns c = nine c.from-x.result c.from-y.result (omega arith) (omega arith) ∙ ap₂ carry_less c.from-x.ensures c.from-y.ensures

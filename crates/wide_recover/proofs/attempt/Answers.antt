@@ -6,19 +6,12 @@ use Rattle.code_loops.specs.RecoverLaws.{Attempted, attempted, satisfied, same-l
 use Rattle.wide_recover.proofs.attempt.Goals as goal
 
 -- what was made in found is the candidate
-pub test-tested-requires : goal.test-tested-requires
-test-tested-requires c =
-    let p = c.requires in
+pub test-tested-requires-clause-full_satisfied_in : goal.test-tested-requires-clause-full_satisfied_in
+test-tested-requires-clause-full_satisfied_in c =
     let A : Attempted wide_edition c.args.m c.args.w c.args.c c.args.marks.now c.args.word.now c.candidate-s.new.out =
     attempted c.requires.good_in c.requires.word_len (λ i. (c.slice_known-1.given i).fits) c.requires.marks_len
     (c.candidate-s.ensures.candidate_in c.requires.good_in c.requires.word_len c.requires.marks_len c.requires.found_len) in
-    record {
-      good_in = p.good_in;
-      marks_len = p.marks_len;
-      word_len = A.candidate.size;
-      full_satisfied_in = satisfied A wide-sound;
-      s_value = c.candidate-s.ensures.value p.good_in p.word_len p.marks_len p.found_len;
-    }
+    satisfied A wide-sound
 
 pub returns-then-not-tested : goal.returns-then-not-tested
 returns-then-not-tested c =
@@ -26,21 +19,6 @@ returns-then-not-tested c =
     attempted c.requires.good_in c.requires.word_len (λ i. (c.slice_known-1.given i).fits) c.requires.marks_len
     (c.candidate-s.ensures.candidate_in c.requires.good_in c.requires.word_len c.requires.marks_len c.requires.found_len) in
     attempt-fails A (λ p. (c.slice_known-3-1.given p).fits) c.test-tested.ensures (not-true _ c.if-not-tested.true)
-
--- the places of the word, and of one group
-pub slice_bounds-copy-end : goal.slice_bounds-copy-end
-slice_bounds-copy-end c =
-    let A : Attempted wide_edition c.args.m c.args.w c.args.c c.args.marks.now c.args.word.now c.candidate-s.new.out =
-    attempted c.requires.good_in c.requires.word_len (λ i. (c.slice_known-1.given i).fits) c.requires.marks_len
-    (c.candidate-s.ensures.candidate_in c.requires.good_in c.requires.word_len c.requires.marks_len c.requires.found_len) in
-    omega (arith, same-length-of A, one-group A)
-
-pub slice_bounds-copy-end-3 : goal.slice_bounds-copy-end-3
-slice_bounds-copy-end-3 c =
-    let A : Attempted wide_edition c.args.m c.args.w c.args.c c.args.marks.now c.args.word.now c.candidate-s.new.out =
-    attempted c.requires.good_in c.requires.word_len (λ i. (c.slice_known-1.given i).fits) c.requires.marks_len
-    (c.candidate-s.ensures.candidate_in c.requires.good_in c.requires.word_len c.requires.marks_len c.requires.found_len) in
-    omega (arith, one-group A)
 
 pub returns : goal.returns
 returns c =

@@ -11,18 +11,24 @@ attempt_apart-tested-requires c =
 
 pub overflow_cast-result : goal.overflow_cast-result
 overflow_cast-result c =
-    omega (arith, named-most c.attempt_apart-tested.ensures, (accepted c.args.m c.args.w c.args.c c.args.word.now c.args.marks.now 0 (sym c.requires.marks_value) refl).good.few)
+    omega (
+      arith,
+      named-most c.attempt_apart-tested.ensures,
+      (accepted c.args.m c.args.w c.args.c c.args.word.now c.args.marks.now 0 (sym c.requires.marks_value) refl).good.few,
+    )
 
 pub returns-then-not-done : goal.returns-then-not-done
 returns-then-not-done c =
     let n = c.if-not-done.true in
-    let q = recover-nine wide-sound (accepted c.args.m c.args.w c.args.c c.args.word.now c.args.marks.now 0 (sym c.requires.marks_value) refl) (λ p. (c.slice_known-1.given p).fits) c.requires.marks_bound
+    let q = recover-nine wide-sound
+    (accepted c.args.m c.args.w c.args.c c.args.word.now c.args.marks.now 0 (sym c.requires.marks_value) refl) (λ p. (c.slice_known-1.given p).fits) c.requires.marks_bound
     c.attempt_apart-tested.ensures n (c.clear_if.ensures.buffer_unchanged n) in
     record { answer = q.0; word = q.1.0; marks = q.1.1.0; never_eight = q.1.1.1 }
 
 pub returns : goal.returns
 returns c =
     let y = c.if-not-done.false in
-    let q = recover-done wide-sound (accepted c.args.m c.args.w c.args.c c.args.word.now c.args.marks.now 0 (sym c.requires.marks_value) refl) (λ p. (c.slice_known-1.given p).fits) c.requires.marks_bound
+    let q = recover-done wide-sound
+    (accepted c.args.m c.args.w c.args.c c.args.word.now c.args.marks.now 0 (sym c.requires.marks_value) refl) (λ p. (c.slice_known-1.given p).fits) c.requires.marks_bound
     c.attempt_apart-tested.ensures y (c.clear_if.ensures.buffer_after y) in
     record { answer = q.0; word = q.1.0; marks = q.1.1.0; never_eight = q.1.1.1 }

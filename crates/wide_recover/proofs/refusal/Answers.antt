@@ -1,10 +1,13 @@
-use Rattle.std.proofs.Common.{arith}
+use Rattle.std.proofs.Common.{ap, ◌∙◌}
 use Rattle.wide_shape.specs.Edition.{wide_limits}
 use Rattle.code_loops.specs.RecoverLaws.{refused-by-word, refused-by-marks}
+use Rattle.answers.specs.Answers.{refused_number}
+use Rattle.answers.specs.AnswersLaws.{passed}
 use Rattle.wide_recover.proofs.refusal.Goals as goal
 
-pub returns-then-r-ne0 : goal.returns-then-r-ne0
-returns-then-r-ne0 c = refused-by-word wide_limits _ _ _ _ _ c.word_refusal-r.ensures c.if-r-ne0.true
+pub returns-in_err-word_refusal : goal.returns-in_err-word_refusal
+returns-in_err-word_refusal c =
+    ap refused_number (passed c.from_residual.ensures) ∙ refused-by-word wide_limits _ _ _ _ _ _ c.in_err-word_refusal.ensures
 
 pub returns : goal.returns
-returns c = refused-by-marks wide_limits _ _ _ _ _ c.word_refusal-r.ensures (omega arith) c.beside_refusal.ensures
+returns c = refused-by-marks wide_limits _ _ _ _ _ c.in_ok-word_refusal.ensures c.beside_refusal.ensures

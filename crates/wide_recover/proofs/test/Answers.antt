@@ -1,20 +1,27 @@
-use Rattle.std.proofs.Common.{ap}
-use Rattle.wide_shape.specs.Edition.{wide_edition}
+use Rattle.std.proofs.Common.{rules, ap, ◌∙◌, ◌&&◌, eqb, arith}
+use Rattle.code.specs.LentLaws.{end_fits}
+use Rattle.wide_shape.specs.Edition.{wide_edition, wide_limits}
 use Rattle.wide_across.specs.declared.Sums.{Sums}
-use Rattle.code_loops.specs.UnbrokenLaws.{tested-broken, tested-first, tested-second}
+use Rattle.code.specs.Lent.{LentIn}
+use Rattle.code_loops.specs.TestedByLaws.{filled-tested, tested-by}
 use Rattle.wide_recover.proofs.test.Goals as goal
 
-pub returns-then-group-m : goal.returns-then-group-m
-returns-then-group-m c = tested-broken wide_edition _ _ _ _ c.broken_group-group.ensures c.if-group-m.true
-
-pub returns-then-s-ne0 : goal.returns-then-s-ne0
-returns-then-s-ne0 c =
-    let s = c.requires.s_value in
-    tested-first wide_edition _ _ _ _ c.broken_group-group.ensures c.if-group-m.false (ap (λ (x : Sums). x.first) s) (ap (λ (x : Sums). x.second) s)
-    c.if-s-ne0.true
+pub by-requires : goal.by-requires
+by-requires c =
+    let a = c.args in
+    let p = c.requires in
+    let M : LentIn wide_limits a.m a.w a.c a.marks.now = record { good = p.good_in; size = p.marks_len } in
+    let W : LentIn wide_limits a.m a.w a.c a.word.now = record { good = p.good_in; size = p.word_len } in
+    record { groups = λ g l. (end_fits M g l, end_fits W g l); across = search rules }
 
 pub returns : goal.returns
 returns c =
-    let s = c.requires.s_value in
-    tested-second wide_edition _ _ _ _ c.broken_group-group.ensures c.if-group-m.false (ap (λ (x : Sums). x.first) s) (ap (λ (x : Sums). x.second) s)
-    c.if-s-ne0.false
+    let a = c.args in
+    let p = c.requires in
+    let M : LentIn wide_limits a.m a.w a.c a.marks.now = record { good = p.good_in; size = p.marks_len } in
+    let W : LentIn wide_limits a.m a.w a.c a.word.now = record { good = p.good_in; size = p.word_len } in
+    let E = c.by.ensures in
+    tested-by wide_edition a.m a.w a.c a.word.now E.bound
+    (λ g l. filled-tested wide_edition M W p.full_satisfied_in g (omega arith) (E.sound g l))
+    (λ l. (let q = E.broken l in (filled-tested wide_edition M W p.full_satisfied_in c.by.result.group l q.0, q.1)))
+    (λ e. (let q = E.whole e in search rules ∙ ap (λ (x : Sums). eqb x.first 0 && eqb x.second 0) p.s_value))

@@ -1,6 +1,6 @@
 use Rattle.std.proofs.Common.{◌≡◌, refl, ◌∙◌, ℕ, zero, suc, ◌≤◌, ◌<◌, arith, length, get_or, replicate}
 use Rattle.wide_shape.specs.Edition.{wide_edition}
-use Rattle.code_engine.specs.FilledLaws.{unchanged, no-erasures, filled-by}
+use Rattle.code_engine.specs.FilledLaws.{filled-by}
 use Rattle.wide_solve.specs.Column.{column_of}
 use Rattle.wide_solve.specs.ColumnLaws.{column-at}
 use Rattle.wide_solve.specs.OneLaws.{filled-one}
@@ -14,29 +14,10 @@ zeros (suc (suc zero)) = refl
 zeros (suc (suc (suc zero))) = refl
 zeros (suc (suc (suc (suc i)))) = refl
 
-pub returns-then-t-gt-MAX_CHECKS : goal.returns-then-t-gt-MAX_CHECKS
-returns-then-t-gt-MAX_CHECKS c = let f = c.find-erasures in unchanged wide_edition _ _ f.result.count f.ensures.all c.if-t-gt-MAX_CHECKS.true
-
-pub returns-then-t-eq0 : goal.returns-then-t-eq0
-returns-then-t-eq0 c = let f = c.find-erasures in no-erasures wide_edition _ _ f.result.count f.ensures.all c.if-t-eq0.true
-
-pub fill_one-requires : goal.fill_one-requires
-fill_one-requires c =
-    let b = (c.find-erasures.ensures.few (omega arith)).inside 0 (omega arith) in
-    omega arith
-
 pub returns-then-t-eq1 : goal.returns-then-t-eq1
 returns-then-t-eq1 c =
     filled-one c.find-erasures.result.count c.if-t-eq1.true c.find-erasures.ensures.all (c.find-erasures.ensures.few (omega arith)) (omega arith) (omega arith)
     (λ j. (c.slice_known-then-t-eq1-1.given j).fits) c.fill_one.ensures
-
-pub place-requires : goal.place-requires
-place-requires c =
-    (omega arith, λ i l. let b = (c.find-erasures.ensures.few (omega arith)).inside i (omega arith) in omega arith)
-
-pub place-requires-2 : goal.place-requires-2
-place-requires-2 c =
-    (omega arith, λ i l. let b = (c.find-erasures.ensures.few (omega arith)).inside i (omega arith) in omega arith)
 
 pub returns : goal.returns
 returns c =

@@ -1,4 +1,4 @@
-use Rattle.std.proofs.Common.{sym, ap, ◌∙◌, ◌≤◌, arith, length, get_or}
+use Rattle.std.proofs.Common.{sym, ap, ◌∙◌, ◌≤◌, arith, length}
 use lib.ListN.{get_or-eq_default}
 use Rattle.wide_field.specs.LocatorRow.{locator_row}
 use Rattle.wide_field.specs.LocatorRowLaws.{row-length}
@@ -6,9 +6,6 @@ use Rattle.wide_solve.proofs.locator.Goals as goal
 
 pub bounds-row-j : goal.bounds-row-j
 bounds-row-j c = let l = ap length c.requires ∙ row-length in omega arith
-
-pub returns-then-j-lt-MAX_WIDTH : goal.returns-then-j-lt-MAX_WIDTH
-returns-then-j-lt-MAX_WIDTH c = ap (λ r. get_or r c.args.j 0) c.requires
 
 pub returns-else-j-lt-MAX_WIDTH : goal.returns-else-j-lt-MAX_WIDTH
 returns-else-j-lt-MAX_WIDTH c =

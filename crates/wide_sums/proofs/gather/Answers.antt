@@ -10,10 +10,9 @@ pub loop-e-init : goal.loop-e-init
 loop-e-init c =
     let x : List ℕ = c.args.x.now in
     let R : Raised 0 x x = raised-none x (λ p. (c.slice_known-1.given p).fits) in (
-      omega arith,
       refl,
       R,
-      passed-set (λ k. local_sum wide_edition (length x) x 0 k) (replicate 6 0) 0 _ (lit< tt) (c.sum-s.ensures ∙ raised-sum R)
+      passed-set (λ k. local_sum wide_edition (length x) x 0 k) (replicate 6 0) 0 _ (lit< tt) (c.sum.ensures ∙ raised-sum R)
           (λ k l. absurd (omega arith)),
     )
 
@@ -23,17 +22,10 @@ loop-e-preserved c =
     let e : ℕ = c.loop-e.e in
     let y : List ℕ = c.multiply.new.x in
     let q : suc (e - 1) ≡ e = omega arith in
-    let R : Raised e x y = subst (λ n. Raised n x y) q (raised-next c.loop-e.invariant.2 c.requires.row
-    (c.multiply.ensures.each_times (c.requires.row_len ∙ sym c.loop-e.invariant.2.size))) in
+    let R : Raised e x y = subst (λ n. Raised n x y) q (raised-next c.loop-e.invariant.1 c.requires.row
+    (c.multiply.ensures.each_times (c.requires.row_len ∙ sym c.loop-e.invariant.1.size))) in
     let z : e + 1 - 1 ≡ e = omega arith in (
-      omega arith,
-      simp length-set c.loop-e.invariant.1,
+      simp length-set c.loop-e.invariant.0,
       subst (λ n. Raised n x y) (sym z) R,
-      passed-set (λ k. local_sum wide_edition (length x) x 0 k) c.loop-e.sums e _ (omega arith) (c.sum-t.ensures ∙ raised-sum R) c.loop-e.invariant.3,
+      passed-set (λ k. local_sum wide_edition (length x) x 0 k) c.loop-e.sums e _ (omega arith) (c.sum-in-loop-e.ensures ∙ raised-sum R) c.loop-e.invariant.2,
     )
-
-pub shape_of-x : goal.shape_of-x
-shape_of-x c = c.loop-e.invariant.2.size
-
-pub returns : goal.returns
-returns c = λ k l. c.loop-e.invariant.3 k (omega arith)

@@ -1,82 +1,33 @@
-use Rattle.std.proofs.Common.{sym, ◌∙◌, eq-eqb, ne_eqb, lt-ltb, le-ltb}
-use Rattle.code.specs.Limits.{shape_refusal_in}
-use Rattle.shape.specs.Shapes.{made_of}
-use Rattle.shape.specs.Laws.{places-fit}
+use Rattle.std.proofs.Common.{sym, ap, ◌∙◌, arith}
+use Rattle.code.specs.Limits.{GoodIn}
+use Rattle.code.specs.LimitsLaws.{good-of-refusal}
+use Rattle.answers.specs.AnswersLaws.{passed, given-refused}
+use Rattle.answers.specs.PlainLaws.{shape-plain}
+use Rattle.shape.specs.declared.Shape.{Shape}
+use Rattle.shape.specs.Shapes.{byte_limits, made_at, made_of}
 use Rattle.shape.proofs.Shape.new.Goals as goal
 
-pub returns-then-m-eq0 : goal.returns-then-m-eq0
-unfolding made_of shape_refusal_in
-returns-then-m-eq0 c = simp (eq-eqb _ _ c.if-m-eq0.true)
+pub returns-in_err-shape_refusal : goal.returns-in_err-shape_refusal
+unfolding made_of
+returns-in_err-shape_refusal c =
+    passed c.from_residual.ensures ∙ sym (given-refused _ c.in_err-shape_refusal.ensures (shape-plain byte_limits _ _ _))
 
-pub returns-then-m-gt-MAX_GROUPS : goal.returns-then-m-gt-MAX_GROUPS
-unfolding made_of shape_refusal_in
-returns-then-m-gt-MAX_GROUPS c = simp (ne_eqb _ _ c.if-m-eq0.false, lt-ltb _ _ c.if-m-gt-MAX_GROUPS.true)
+-- past the test the shape is good
+fair : (t : goal.In_ok-shape_refusal) → let a = t.args in GoodIn byte_limits a.m a.w a.c
+fair t = let a = t.args in good-of-refusal a.m a.w a.c (sym t.in_ok-shape_refusal.ensures)
 
-pub returns-then-c-eq0 : goal.returns-then-c-eq0
-unfolding made_of shape_refusal_in
-returns-then-c-eq0 c = simp (ne_eqb _ _ c.if-m-eq0.false, le-ltb _ _ c.if-m-gt-MAX_GROUPS.false, eq-eqb _ _ c.if-c-eq0.true)
+pub overflow_cast-s : goal.overflow_cast-s
+overflow_cast-s c = let g = fair c in omega arith
 
-pub returns-then-c-gt-MAX_CHECKS : goal.returns-then-c-gt-MAX_CHECKS
-unfolding made_of shape_refusal_in
-returns-then-c-gt-MAX_CHECKS c = simp (
-  ne_eqb _ _ c.if-m-eq0.false,
-  le-ltb _ _ c.if-m-gt-MAX_GROUPS.false,
-  ne_eqb _ _ c.if-c-eq0.false,
-  lt-ltb _ _
-      c.if-c-gt-MAX_CHECKS.true,
-)
+pub overflow_cast-s-2 : goal.overflow_cast-s-2
+overflow_cast-s-2 c = let g = fair c in omega arith
 
-pub returns-then-w-c : goal.returns-then-w-c
-unfolding made_of shape_refusal_in
-returns-then-w-c c = simp (
-  ne_eqb _ _ c.if-m-eq0.false,
-  le-ltb _ _ c.if-m-gt-MAX_GROUPS.false,
-  ne_eqb _ _
-      c.if-c-eq0.false,
-  le-ltb _ _ c.if-c-gt-MAX_CHECKS.false,
-  lt-ltb _ _ c.if-w-c.true,
-)
-
-pub returns-then-w-gt-MAX_WIDTH : goal.returns-then-w-gt-MAX_WIDTH
-unfolding made_of shape_refusal_in
-returns-then-w-gt-MAX_WIDTH c = simp (
-  ne_eqb _ _ c.if-m-eq0.false,
-  le-ltb _ _ c.if-m-gt-MAX_GROUPS.false,
-  ne_eqb _ _
-      c.if-c-eq0.false,
-  le-ltb _ _ c.if-c-gt-MAX_CHECKS.false,
-  le-ltb _ _ c.if-w-c.false,
-  lt-ltb _ _ c.if-w-gt-MAX_WIDTH.true,
-)
-
-pub returns-then-k-eq0 : goal.returns-then-k-eq0
-unfolding made_of shape_refusal_in
-returns-then-k-eq0 c = simp (
-  ne_eqb _ _ c.if-m-eq0.false,
-  le-ltb _ _
-      c.if-m-gt-MAX_GROUPS.false,
-  ne_eqb _ _ c.if-c-eq0.false,
-  le-ltb _ _
-      c.if-c-gt-MAX_CHECKS.false,
-  le-ltb _ _ c.if-w-c.false,
-  le-ltb _ _ c.if-w-gt-MAX_WIDTH.false,
-  eq-eqb _ _
-      (sym c.k.ensures ∙ c.if-k-eq0.true),
-)
+pub overflow_cast-s-3 : goal.overflow_cast-s-3
+overflow_cast-s-3 c = let g = fair c in omega arith
 
 pub returns : goal.returns
-unfolding made_of shape_refusal_in
-returns c = simp (
-  ne_eqb _ _ c.if-m-eq0.false,
-  le-ltb _ _
-      c.if-m-gt-MAX_GROUPS.false,
-  ne_eqb _ _ c.if-c-eq0.false,
-  le-ltb _ _
-      c.if-c-gt-MAX_CHECKS.false,
-  le-ltb _ _ c.if-w-c.false,
-  le-ltb _ _ c.if-w-gt-MAX_WIDTH.false,
-  ne_eqb _ _
-      (λ e. c.if-k-eq0.false (c.k.ensures ∙ e)),
-  le-ltb _ _ (places-fit c.if-m-gt-MAX_GROUPS.false
-      c.if-w-gt-MAX_WIDTH.false),
-)
+unfolding made_of
+returns c =
+    let a = c.args in
+    let s : Shape = record { m = a.m; w = a.w; c = a.c } in
+    ap (λ r. made_at r s) c.in_ok-shape_refusal.ensures
