@@ -42,35 +42,14 @@ refusal_group _ = 0
 -- the refusal of a number; "A 9 now carries a group number"
 abbrev pub refusal_at : ℕ → ℕ → Refusal
 refusal_at r group =
-    cond (eqb r 1) Refusal.Groups
-    (cond (eqb r 2) Refusal.Checks
-    (cond (eqb r 3) Refusal.Width
-    (cond (eqb r 4) Refusal.NoData
-    (cond (eqb r 5) Refusal.Length
-    (cond (eqb r 6) Refusal.Mark
-    (cond (eqb r 7) Refusal.GroupNumber
-    (cond (eqb r 8) Refusal.Undetermined
-    (cond (eqb r 9) (Refusal.Contradictory group)
-    (cond (eqb r 10) Refusal.AllIssued
-    (cond (eqb r 11) Refusal.DeskFull
-    (cond (eqb r 12) Refusal.NotOpen
-    (cond (eqb r 13) Refusal.ServedOut
-    (cond (eqb r 16) Refusal.CatalogueText
-    (cond (eqb r 17) Refusal.Name
-    (cond (eqb r 18) Refusal.NoSuchName
-    (cond (eqb r 19) Refusal.Revision
-    (cond (eqb r 20) Refusal.RevisionEnd
-    (cond (eqb r 21) Refusal.CatalogueFull
-    (cond (eqb r 22) Refusal.Finished
-    (cond (eqb r 23) Refusal.Beyond
-    (cond (eqb r 24) Refusal.CameBefore
-    (cond (eqb r 25) Refusal.Place
-    (cond (eqb r 26) Refusal.WidePlaces
-    (cond (eqb r 27) Refusal.BlocksLength
-    (cond (eqb r 28) Refusal.NoProfile
-    (cond (eqb r 29) Refusal.Retired
-    (cond (eqb r 30) Refusal.DataNumber
-    Refusal.Unsound)))))))))))))))))))))))))))
+    cond (eqb r 1) Refusal.Groups (cond (eqb r 2) Refusal.Checks (cond (eqb r 3) Refusal.Width (cond (eqb r 4) Refusal.NoData
+    (cond (eqb r 5) Refusal.Length (cond (eqb r 6) Refusal.Mark (cond (eqb r 7) Refusal.GroupNumber (cond (eqb r 8) Refusal.Undetermined
+    (cond (eqb r 9) (Refusal.Contradictory group) (cond (eqb r 10) Refusal.AllIssued (cond (eqb r 11) Refusal.DeskFull
+    (cond (eqb r 12) Refusal.NotOpen (cond (eqb r 13) Refusal.ServedOut (cond (eqb r 16) Refusal.CatalogueText (cond (eqb r 17) Refusal.Name
+    (cond (eqb r 18) Refusal.NoSuchName (cond (eqb r 19) Refusal.Revision (cond (eqb r 20) Refusal.RevisionEnd (cond (eqb r 21) Refusal.CatalogueFull
+    (cond (eqb r 22) Refusal.Finished (cond (eqb r 23) Refusal.Beyond (cond (eqb r 24) Refusal.CameBefore (cond (eqb r 25) Refusal.Place
+    (cond (eqb r 26) Refusal.WidePlaces (cond (eqb r 27) Refusal.BlocksLength (cond (eqb r 28) Refusal.NoProfile (cond (eqb r 29) Refusal.Retired
+    (cond (eqb r 30) Refusal.DataNumber Refusal.Unsound)))))))))))))))))))))))))))
 
 -- the number of an answer with figures X, 0 for done
 abbrev pub refused_number : {X : Type 0} → Result X Refusal → ℕ

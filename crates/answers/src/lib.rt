@@ -125,6 +125,13 @@ impl Tested {
     }
 }
 
+// The first of two refusals by their numbers, 0 being none.
+pub fn or_else(first: u8, second: u8) -> u8
+    ensures { result ≡ first or_else second }
+{
+    if first != 0 { first } else { second }
+}
+
 // Out of sale: services that make something new of a shape refuse so many checks; old words with them stay readable.
 pub const RETIRED_CHECKS: usize = 4;
 

@@ -4,7 +4,6 @@
 
 ghost use Rattle.std.specs.Prelude.{◌≡◌, true, false, cond, ◌||◌, ◌+◌, ◌≤◌, ◌<◌, ltb, length, take, drop};
 ghost use Rattle.answers.specs.Answers.{refused_number};
-ghost use Rattle.code.specs.Refusals.{◌or_else◌};
 ghost use Rattle.text.specs.Records.{line_bytes};
 ghost use Rattle.text_lines.specs.Holds.{HoldsLine};
 ghost use Rattle.block_input.specs.declared.InputFailure.TheVariants.{Blocks};
@@ -92,13 +91,6 @@ fn number(answer: Result<(), Refusal>) -> u8
         Ok(()) => 0,
         Err(e) => e.number(),
     }
-}
-
-// The first of two refusals, 0 being none.
-fn or_else(first: u8, second: u8) -> u8
-    ensures { result ≡ first or_else second }
-{
-    if first != 0 { first } else { second }
 }
 
 // The length of the first line.
@@ -215,7 +207,7 @@ fn read_marks_part(ended: bool, rest: &[u8], m: usize, w: usize, c: usize) -> Ma
     let start = next_start(end, rest.len());
     let after = read_length_part(ended, &rest[start..]);
     let settled = is_settled(ended, end, rest.len());
-    let refusal = or_else(line.refusal, after.refusal);
+    let refusal = answers::or_else(line.refusal, after.refusal);
     let marks = line.marks;
     MarksPart {
         refusal: refusal_if(settled, refusal),
@@ -235,7 +227,7 @@ fn read_head(ended: bool, input: &[u8]) -> Head
     let start = next_start(end, input.len());
     let after = read_marks_part(ended, &input[start..], line.m, line.w, line.c);
     let settled = is_settled(ended, end, input.len());
-    let refusal = or_else(line.refusal, after.refusal);
+    let refusal = answers::or_else(line.refusal, after.refusal);
     let marks = after.marks;
     Head {
         refusal: refusal_if(settled, refusal),

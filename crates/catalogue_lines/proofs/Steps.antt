@@ -1,12 +1,14 @@
--- A name by its length and its bytes; the numbers of a line by their tests.
-use mathlib.Core.Path.{◌≡◌}
+-- A name by its length and its bytes; two names byte by byte; the numbers of a line by their tests.
+use mathlib.Core.Path.{◌≡◌, refl}
 use mathlib.Core.Bool.{false}
-use mathlib.Core.List.{List}
+use mathlib.Core.List.{List, [], ◌∷◌}
 use Prim.Native.Nat.{ℕ, suc, ◌+◌, ◌-◌, ◌≤◌, ◌<◌}
 use native.Mathlib.Numerals.{add-one}
 use native.Mathlib.Omega.{arith}
-use borrow.Author.Tests.{le-leb, lt-leb, ne_eqb}
-use lib.ListN.{length, take, drop, length-drop}
+use native.Mathlib.Decide.{dec_lt}
+use borrow.Author.Tests.{lt-ltb, le-ltb, le-leb, lt-leb, eq-eqb, ne_eqb}
+use lib.Dec.{ltb}
+use lib.ListN.{length, get_or, take, drop, length-drop, drop_of_length-le}
 use lib.Seq.{drop-cons, take_all}
 use Rattle.shape.specs.Shapes.{made_of}
 use Rattle.shape.specs.Laws.{shaped, unshaped}
@@ -16,7 +18,7 @@ use Rattle.answers.specs.declared.Refusal.{Refusal}
 use Rattle.answers.specs.Answers.{refusal_number}
 use Rattle.answers.specs.AnswersLaws.{refusal-some}
 use Rattle.code.specs.LimitsLaws.{refusal-of-good}
-use Rattle.catalogue_text.specs.Names.{name_bytes, good_name}
+use Rattle.catalogue_text.specs.Names.{name_bytes, good_name, before}
 use Rattle.text.specs.Fields.{same, later, parts_from, joined_by}
 use Rattle.text.specs.FieldLaws.{parts-end, joined-parts}
 use Rattle.catalogue_text.specs.Catalogue.{gone_name}
@@ -33,6 +35,35 @@ name-long name l = rw (le-leb 1 (length name) (omega arith), lt-leb (length name
 pub name-bytes : (name : List ℕ) → 1 ≤ length name → length name ≤ 16 → good_name name ≡ name_bytes name
 unfolding good_name
 name-bytes name n l = rw (le-leb 1 (length name) n, le-leb (length name) 16 l)
+
+-- two names byte by byte
+module _ (name other : List ℕ) (i : ℕ) where
+  pub before_more : i < length name → i < length other → get_or name i 0 ≡ get_or other i 0
+      → before (drop (i + 1) name) (drop (i + 1) other) ≡ before (drop i name) (drop i other)
+  unfolding before
+  before_more l h e = rw (drop-cons name i 0 l, drop-cons other i 0 h, add-one i, eq-eqb (get_or name i 0) (get_or other i 0) e)
+
+  pub before-differ : i < length name → i < length other → (get_or name i 0 ≡ get_or other i 0 → ⊥)
+      → before (drop i name) (drop i other) ≡ ltb (get_or name i 0) (get_or other i 0)
+  unfolding before
+  before-differ l h e = rw (drop-cons name i 0 l, drop-cons other i 0 h, ne_eqb (get_or name i 0) (get_or other i 0) e)
+
+  before-nothing : (xs : List ℕ) → before xs [] ≡ false
+  unfolding before
+  before-nothing [] = refl
+  before-nothing (x ∷ xs) = refl
+
+  -- where one of them ends, the shorter one is first
+  pub before-end : i ≤ length name → i ≤ length other → (i < length other → length name ≤ i)
+      → before (drop i name) (drop i other) ≡ ltb (length name) (length other)
+  unfolding before
+  before-end l h e = go (dec_lt i (length other))
+    where
+      go : Dec (i < length other) → before (drop i name) (drop i other) ≡ ltb (length name) (length other)
+      go (yes k) = rw (drop_of_length-le name (e k), drop-cons other i 0 k, lt-ltb (length name) (length other) (let n = e k in omega arith))
+      go (no k) =
+          let o : length other ≤ i = omega arith in
+          rw (drop_of_length-le other o, le-ltb (length name) (length other) (omega arith)) (before-nothing (drop i name))
 
 -- the tests of numbers
 module _ (size r m w c : ℕ) where

@@ -4,6 +4,7 @@ use mathlib.Core.Bool.{true, false}
 use mathlib.Core.List.{List, [], ◌∷◌}
 use Prim.Native.Nat.{ℕ, ◌+◌, ◌-◌, ◌≤◌, ◌<◌}
 use native.Mathlib.Omega.{arith}
+use native.Mathlib.Decide.{dec_le}
 use borrow.Author.Tests.{le-leb, lt-leb}
 use lib.Dec.{T, eqb}
 use lib.Pointwise.{pointwise}
@@ -79,6 +80,13 @@ module _ (text name : List ℕ) (first floor at from to : ℕ) (place : Place) (
           (ap (λ (l : Line). l.revision) as_line_lem) (ap (λ (l : Line). l.m) as_line_lem) (ap (λ (l : Line). l.w) as_line_lem) (ap (λ (l : Line). l.c) as_line_lem) in
           rw (d, q, i, e, size_is, ap (λ (l : Line). l.m) as_line_lem, ap (λ (l : Line). l.revision) as_line_lem)
           (scan-right text name first floor at from to place top s inner right)
+
+  -- a line that isn't right, whether a line feed ends it or not
+  pub step-unread : at < length text → right_line (take (to - from) (drop from text)) (take (end - at) (drop at text)) ≡ None → None ≡ scanned_from text first floor name
+  step-unread l z = elim (dec_le (length text) end) [
+    | yes h ↦ step-open l h
+    | no h ↦ step-wrong (omega arith) z
+  ]
 
 -- the line's end is past its start
 pub step_less : (n at end : ℕ) → at < n → at ≤ end → n - (end + 1) < n - at

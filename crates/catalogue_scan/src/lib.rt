@@ -124,10 +124,11 @@ fn scan_lines(text: &[u8], first: usize, floor: u16, name: &[u8]) -> Option<Foun
     // A while loop: the step is a line's length, which the loop finds, and the places themselves are what is sought.
     while at < text.len() {
         let end = text::part_end(text, at, b'\n');
+        let line = right_line(&text[from..to], &text[at..end])?;
+        // Only here: before the line is read, this test goes into the loop over its bytes, and a lookup takes 1.2 times the instructions.
         if text.len() <= end {
             return None;
         }
-        let line = right_line(&text[from..to], &text[at..end])?;
         top = larger_gone(top, line.m, line.revision);
         from = at;
         to = at + line.size;

@@ -62,10 +62,14 @@ fn find(rt: &impl Print, d: Desk, handle: u64, place: usize) -> io::Result<Desk>
     Ok(after.desk)
 }
 
-// The bytes of a word of six places.
+// The bytes of a word of six places, each written by itself.
 fn show(rt: &impl Print, word: [u8; 6]) -> io::Result<()> {
     let [a, b, c, d, e, f] = word;
-    println!(rt; "word {a} {b} {c} {d} {e} {f}")
+    print!(rt; "word ")?;
+    for byte in [a, b, c, d, e] {
+        print!(rt; "{byte} ")?;
+    }
+    println!(rt; "{f}")
 }
 
 // Handles 0, 7 and a closed one are refused 12. A word whose second group, numbered 1, breaks its own equation is refused 9 with 1.

@@ -8,13 +8,16 @@ use shape::Bytes;
 use std::io;
 
 fn product_line(rt: &impl Print, a: u8, b: u8) -> io::Result<()> {
-    println!(rt; "{a} * {b} = {}", gf256::shifted_product(a, b))
+    print!(rt; "{a} * ")?;
+    print!(rt; "{b} = ")?;
+    println!(rt; "{}", gf256::shifted_product(a, b))
 }
 
 fn locator_line(rt: &impl Print) -> io::Result<()> {
     print!(rt; "locators")?;
     for j in 0..16 {
-        print!(rt; " {}", gf256::locators::locator(j))?;
+        print!(rt; " ")?;
+        print!(rt; "{}", gf256::locators::locator(j))?;
     }
     println!(rt)
 }
@@ -47,7 +50,8 @@ fn judge_line(rt: &impl Print, marks: &[u8]) -> io::Result<()> {
 
 fn bytes_line(rt: &impl Print, bytes: &[u8]) -> io::Result<()> {
     for byte in bytes {
-        print!(rt; " {byte}")?;
+        print!(rt; " ")?;
+        print!(rt; "{byte}")?;
     }
     println!(rt)
 }
@@ -128,8 +132,10 @@ fn field(rt: &impl Print) -> io::Result<()> {
     product_line(rt, 152, 152)?;
     product_line(rt, 152, 11)?;
     product_line(rt, 0, 77)?;
-    println!(rt; "3 ^ 16 = {}", gf256::power(3, 16))?;
-    println!(rt; "1 / 152 = {}", gf256::inverse(152))?;
+    print!(rt; "3 ^ 16 = ")?;
+    println!(rt; "{}", gf256::power(3, 16))?;
+    print!(rt; "1 / 152 = ")?;
+    println!(rt; "{}", gf256::inverse(152))?;
     locator_line(rt)
 }
 

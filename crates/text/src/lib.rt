@@ -25,7 +25,16 @@ pub fn part_end(text: &[u8], from: usize, sep: u8) -> usize
 pub fn is_same(name: &[u8], wanted: &[u8]) -> bool
     ensures { result ≡ same name.now wanted.now }
 {
-    name == wanted
+    if name.len() != wanted.len() {
+        return false;
+    }
+    // By the index: by the library's test of slices, a call for a few bytes, a lookup in a catalogue takes up to 1.1 times the instructions.
+    for i in 0..name.len() {
+        if name[i] != wanted[i] {
+            return false;
+        }
+    }
+    true
 }
 
 // The number a with one digit more, or bound + 1 if x is no digit or the number isn't below bound.

@@ -110,11 +110,15 @@ pub fn symbols(x: [u16; 4], s: [u16; 6], t: usize) -> [u16; 4]
     ensures has_sums { t ≤ 4 → Apart t (λ i. get_or x i 0) → HasSums 16 69643 t (λ i. get_or x i 0) (λ i. get_or result i 0) (λ e. get_or s e 0) }
     ensures value { 4 < t → result ≡ replicate 4 0 }
 {
+    if t == 1 {
+        return [s[0], 0, 0, 0];
+    }
+    // One table for the three: each that is made in place takes 512 bytes of stack of its own.
+    let row = inverses();
     match t {
-        1 => [s[0], 0, 0, 0],
-        2 => two(x, s, &inverses()),
-        3 => three(x, s, &inverses()),
-        4 => four(x, s, &inverses()),
+        2 => two(x, s, &row),
+        3 => three(x, s, &row),
+        4 => four(x, s, &row),
         _ => [0; 4],
     }
 }

@@ -1,5 +1,5 @@
 use Rattle.std.proofs.Common.{sym, ◌∙◌, subst, length, arith}
-use Rattle.catalogue_scan.proofs.Steps.{step-open, step-wrong, step-size, step_right, step_less}
+use Rattle.catalogue_scan.proofs.Steps.{step-open, step-unread, step-size, step_right, step_less}
 use Rattle.catalogue_scan.specs.ScanLaws.{Scanning, scan-start, scan-done}
 use Rattle.catalogue_scan.proofs.scan_lines.Goals as goal
 
@@ -32,7 +32,7 @@ returns-in_err-line c =
     let a = c.args in
     let p = c.part_end-end in
     c.from_residual.ensures
-    ∙ step-wrong a.text.now a.name.now a.first a.floor l.at l.from l.to l.place l.top l.invariant p.result p.ensures.end
+    ∙ step-unread a.text.now a.name.now a.first a.floor l.at l.from l.to l.place l.top l.invariant p.result p.ensures.end
     (omega arith) (sym c.right_line.ensures ∙ c.in_err-line.was)
 
 pub overflow_add-to : goal.overflow_add-to

@@ -63,29 +63,29 @@ kept-marks_kept-requires c =
     let z = M.size in
     omega arith
 
-pub overflow_cast-d : goal.overflow_cast-d
-overflow_cast-d c =
+pub overflow_cast-desk : goal.overflow_cast-desk
+overflow_cast-desk c =
     let a = c.args in
     let P = opened a.desk (search rules) c.in-Ok.is c.open_slot.ensures.number in
     let g = (judged-marked a.m a.w a.c a.marks.now P.judged).good in
     omega arith
 
-pub overflow_cast-d-2 : goal.overflow_cast-d-2
-overflow_cast-d-2 c =
+pub overflow_cast-desk-2 : goal.overflow_cast-desk-2
+overflow_cast-desk-2 c =
     let a = c.args in
     let P = opened a.desk (search rules) c.in-Ok.is c.open_slot.ensures.number in
     let g = (judged-marked a.m a.w a.c a.marks.now P.judged).good in
     omega arith
 
-pub overflow_cast-d-3 : goal.overflow_cast-d-3
-overflow_cast-d-3 c =
+pub overflow_cast-desk-3 : goal.overflow_cast-desk-3
+overflow_cast-desk-3 c =
     let a = c.args in
     let P = opened a.desk (search rules) c.in-Ok.is c.open_slot.ensures.number in
     let g = (judged-marked a.m a.w a.c a.marks.now P.judged).good in
     omega arith
 
-pub overflow_cast-d-4 : goal.overflow_cast-d-4
-overflow_cast-d-4 c =
+pub overflow_cast-desk-4 : goal.overflow_cast-desk-4
+overflow_cast-desk-4 c =
     let a = c.args in
     let P = opened a.desk (search rules) c.in-Ok.is c.open_slot.ensures.number in
     let M = judged-marked a.m a.w a.c a.marks.now P.judged in
@@ -93,16 +93,16 @@ overflow_cast-d-4 c =
     let e = ap (λ (x : Figures). x.excess) (c.figures_of-worked.ensures.value M.good M.size) in
     omega arith
 
-pub offset_bounds-d-s : goal.offset_bounds-d-s
-offset_bounds-d-s c =
+pub offset_bounds-desk-s : goal.offset_bounds-desk-s
+offset_bounds-desk-s c =
     let a = c.args in
     let P = opened a.desk (search rules) c.in-Ok.is c.open_slot.ensures.number in
     let l = slot a.desk _ _ c.in-Ok.is c.open_slot.ensures.slot in
     let r = P.room in
     omega arith
 
-pub bounds-d-s : goal.bounds-d-s
-bounds-d-s c =
+pub bounds-desk-s : goal.bounds-desk-s
+bounds-desk-s c =
     let a = c.args in
     let P = opened a.desk (search rules) c.in-Ok.is c.open_slot.ensures.number in
     let l = slot a.desk _ _ c.in-Ok.is c.open_slot.ensures.slot in

@@ -10,16 +10,16 @@ pub returns-in_err-sound_refusal : goal.returns-in_err-sound_refusal
 unfolding handle_refusal
 returns-in_err-sound_refusal c = ap refused_number (passed c.from_residual.ensures) ∙ else-first _ c.in_err-sound_refusal.ensures _
 
-pub returns-then-is_open : goal.returns-then-is_open
+pub returns-then-open : goal.returns-then-open
 unfolding handle_refusal
-returns-then-is_open c =
+returns-then-open c =
     let a = c.args in
-    let e : is_open a.desk.now a.handle ≡ true = sym c.is_open.ensures ∙ c.if-is_open.true in
+    let e : is_open a.desk.now a.handle ≡ true = sym c.is_open-open.ensures ∙ c.if-open.true in
     else-second c.in_ok-sound_refusal.ensures (sym (ap (λ b. refuse 12 (not b)) e))
 
-pub returns-else-is_open : goal.returns-else-is_open
+pub returns-else-open : goal.returns-else-open
 unfolding handle_refusal
-returns-else-is_open c =
+returns-else-open c =
     let a = c.args in
-    let e : is_open a.desk.now a.handle ≡ false = sym c.is_open.ensures ∙ c.if-is_open.false in
+    let e : is_open a.desk.now a.handle ≡ false = sym c.is_open-open.ensures ∙ c.if-open.false in
     else-second c.in_ok-sound_refusal.ensures (sym (ap (λ b. refuse 12 (not b)) e))

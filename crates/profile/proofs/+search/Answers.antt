@@ -60,8 +60,8 @@ search-requires-2 t c =
       ),
     )
 
-pub returns : goal.returns
-returns t c =
+pub returns-in-Some-search : goal.returns-in-Some-search
+returns-in-Some-search t c =
     let a = c.args in
     let z = not-needed a.counts.now a.w a.size a.left a.out (omega arith) c.requires.w_bound.1 c.requires.none_smaller in
     let none-lost : a.out + c.from.result ≤ a.out → get_or a.counts.now (a.w - a.left) 0 ≡ 0 = λ l. let e = c.from.ensures in omega arith in
@@ -74,4 +74,20 @@ returns t c =
       ])
     ] in
     let n = passed a.counts.now a.w a.size a.left a.out (omega arith) c.requires.w_bound.1 p in
-    c.search-2.ensures ∙ ap (λ n. found_at (found_in a.counts.now a.w a.size (a.left - 1) (a.out + n))) c.from.ensures ∙ sym (ap found_at n)
+    sym c.in-Some-search.is ∙ c.search-2.ensures ∙ ap (λ n. found_at (found_in a.counts.now a.w a.size (a.left - 1) (a.out + n))) c.from.ensures ∙ sym (ap found_at n)
+
+pub returns-in-None : goal.returns-in-None
+returns-in-None t c =
+    let a = c.args in
+    let z = not-needed a.counts.now a.w a.size a.left a.out (omega arith) c.requires.w_bound.1 c.requires.none_smaller in
+    let none-lost : a.out + c.from.result ≤ a.out → get_or a.counts.now (a.w - a.left) 0 ≡ 0 = λ l. let e = c.from.ensures in omega arith in
+    let p : 0 < a.size → found_in a.counts.now a.w (a.size - 1) (a.left - 1) a.out ≡ none =
+    elim c.if-size-gt0.branch [
+      | then-size-gt0+then-out-more+in_default w ↦ (λ _. found_nothing _ (sym w.in_default.is ∙ w.search.ensures))
+      | else-size-gt0 w ↦ (elim w.else-size-gt0.branch [
+        | else-size-gt0-via-then-size-gt0+else-out-more v ↦ z (none-lost v.if-out-more.false)
+        | else-size-gt0-via-else-size-gt0 v ↦ (λ l. absurd (omega (arith, v.if-size-gt0.false)))
+      ])
+    ] in
+    let n = passed a.counts.now a.w a.size a.left a.out (omega arith) c.requires.w_bound.1 p in
+    sym c.in-None.is ∙ c.search-2.ensures ∙ ap (λ n. found_at (found_in a.counts.now a.w a.size (a.left - 1) (a.out + n))) c.from.ensures ∙ sym (ap found_at n)
